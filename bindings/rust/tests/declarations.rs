@@ -305,7 +305,10 @@ fn raw_declarations() {
 fn declarations_of_single_parts() {
     let parts = exported("crates/test_probes/src/lib.rt");
     let expected = parts.iter().map(Exported::declared_in_rust).collect();
-    assert_eq!(declared_in("oracle/probes/src/raw.rs"), sorted(expected));
+    assert_eq!(
+        declared_in("oracle/single_parts/src/raw.rs"),
+        sorted(expected)
+    );
 }
 
 /// A name such as `OutOfBounds` as OUT_OF_BOUNDS.

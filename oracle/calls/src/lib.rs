@@ -1,5 +1,4 @@
-//! What the judges are asked and what they answer: the vocabulary that the carried-over Rust, the plain table and the
-//! generator share. Nothing here decides anything.
+//! Calls, queries and answers: the types that the implementations of the table and the generator share. Nothing here decides anything.
 
 /// The dead mark: a row whose first cell is this is dead.
 pub const DEAD: u32 = u32::MAX;
@@ -53,7 +52,7 @@ impl Header {
         ]
     }
 
-    /// A word for whether there is a largest value that is neither 0 nor 1 fails test 1: here it stands for no columns.
+    /// A word for whether there is a largest value that is neither 0 nor 1 fails test 1: here it is read as no columns.
     pub fn from_words(words: &[u32; HEADER_WORDS]) -> Header {
         let [columns, keys, sort, rule, capacity, ..] = *words;
         let [.., rows, dead, entries, pending, generation, flag, largest] = *words;
@@ -72,7 +71,7 @@ impl Header {
         }
     }
 
-    /// The numbers that its opening was given. The first generation is not among them; the present one stands for it.
+    /// The numbers that its opening was given. The first generation is not among them; the present one takes its place.
     pub fn opening(&self) -> Opening {
         Opening {
             columns: self.columns,
@@ -160,7 +159,7 @@ pub enum Before {
     Renew,
     /// Makes it a copy of that store as it is now.
     Copy(usize),
-    /// Fills it with words by chance, of this seed. The first is not 0.
+    /// Fills it with random words, of this seed. The first is not 0.
     Fill(u32),
     /// Changes the word at this place to that one.
     Change(u32, u32),
@@ -191,7 +190,7 @@ pub struct Condition {
 
 /// A call that changes nothing but its output. `output` is the length of the lent output.
 #[derive(Clone, Debug, PartialEq, Eq)]
-pub enum Question {
+pub enum Query {
     Lookup(Vec<u32>),
     Cell(Vec<u32>, u32),
     FastRange(Condition),
@@ -232,12 +231,12 @@ pub enum Question {
     },
 }
 
-/// What a call or a question answers.
+/// The answer of a call or a query.
 #[derive(Clone, Debug, PartialEq, Eq)]
 pub enum Answer {
     /// Refused by this number; nothing changed.
     Refused(u32),
-    /// Accepted, with nothing to say: opening, staging, compact, clear.
+    /// Accepted, without a value: opening, staging, compact, clear.
     Done,
     /// A merge: the stop's number and place (both 0 if it did not stop), whether a row was appended, and how many rows its own
     /// compaction kept and dropped (both 0 if there was none).
@@ -248,7 +247,7 @@ pub enum Answer {
         kept: u32,
         dropped: u32,
     },
-    /// A refresh: whether it says that a row was staged, and the rows that it staged, in staging order.
+    /// A refresh: whether it returned that a row was staged, and the rows that it staged, in staging order.
     Refreshed(bool, Vec<Restamped>),
     /// A lookup that found no live row, a fast range that is none, or pairs that every row meets.
     None,
@@ -283,13 +282,14 @@ pub struct Contents {
     pub sort_entries: Vec<(u32, u32)>,
 }
 
-/// Something that plays the table.
-pub trait Judge {
+/// An implementation of the table.
+pub trait Implementation {
     fn call(&mut self, lent: &Lengths, call: &Call) -> Answer;
-    fn ask(&self, lent: &Lengths, question: &Question) -> Answer;
+    fn query(&self, lent: &Lengths, query: &Query) -> Answer;
     fn contents(&self) -> Contents;
 
-    /// What is otherwise in its header and stores, if it has any. `whole`: all of them, else only what a staging may change.
+    /// The first difference of its header and stores, if it has any, from those expected. `whole`: all of them are compared, else only
+    /// what a staging may change.
     fn unlike(&self, _expected: &Expected, _whole: bool) -> Option<String> {
         None
     }

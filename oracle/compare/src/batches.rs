@@ -1,20 +1,20 @@
 //! Batches of inserts cut anywhere: from one table with nothing pending, a batch merged in two parts leaves the same live rows in
-//! the same order as the batch merged as one, if no merge stops. Every place of the cut is tried, on the plain table, the proved
+//! the same order as the batch merged as one, if no merge stops. Every place of the cut is tried, on the reference model, the proved
 //! table and the Rust.
 
 use crate::generate::EDGES;
 use crate::history::needed;
-use calls::{Answer, Call, Contents, DEAD, Judge, Lengths, Opening};
-use chance::Rng;
-use plain::Plain;
-use proved_table::ProvedTable;
+use calls::{Answer, Call, Contents, DEAD, Implementation, Lengths, Opening};
+use library_table::LibraryTable;
+use random::Rng;
+use reference::Reference;
 use rust_table::RustTable;
 
 /// What a run has seen.
 #[derive(Default)]
 pub struct Cuts {
     pub batches: u64,
-    /// Cuts compared on the plain and the proved table, and those of them compared on the Rust too.
+    /// Cuts compared on the reference model and the proved table, and those of them compared on the Rust too.
     pub cuts: u64,
     pub by_rust: u64,
     /// Of the compared: nothing on one side; row numbers or generation differ; a stamp falls in the batch.
@@ -32,7 +32,7 @@ struct Case {
     batch: Vec<Vec<u32>>,
 }
 
-/// So many batches by chance, each cut at every place.
+/// So many random batches, each cut at every place.
 pub fn run(count: u64, seed: u64) -> Result<Cuts, String> {
     let mut seen = Cuts::default();
     for number in 0..count {
@@ -55,7 +55,7 @@ pub fn gate(count: u64, seed: u64) -> Result<String, String> {
         c.stopped,
     ];
     if all.contains(&0) {
-        return Err(format!("batches: a case was never seen: {all:?}"));
+        return Err(format!("batches: a case was never reached: {all:?}"));
     }
     Ok(format!(
         "{} batches cut at {} places ({} compared on the Rust too): live rows in order are the same; {} of them with nothing on \
@@ -66,29 +66,29 @@ pub fn gate(count: u64, seed: u64) -> Result<String, String> {
 
 fn cut_everywhere(case: &Case, seen: &mut Cuts) -> Result<(), String> {
     let lent = needed(&case.opening, 1_024);
-    let plain = made(Plain::new(), &lent, case);
-    let proved = made(ProvedTable::new(), &lent, case);
+    let reference = made(Reference::new(), &lent, case);
+    let library = made(LibraryTable::new(), &lent, case);
     // The Rust counts no generations that end.
     let by_rust = case.opening.generation < u32::MAX - 9;
     let rust = by_rust.then(|| made(RustTable::new(), &lent, case));
     seen.batches += 1;
-    let Some(whole) = merged(&plain, &lent, &[&case.batch]) else {
+    let Some(whole) = merged(&reference, &lent, &[&case.batch]) else {
         seen.stopped += case.batch.len() as u64 + 1;
         return Ok(());
     };
     let expected = cells(&whole);
-    let agree = |name: &str, heard: Option<Contents>| match &heard {
+    let agree = |name: &str, returned: Option<Contents>| match &returned {
         Some(table) if cells(table) == expected => Ok(()),
-        _ => Err(format!("{name}: {heard:?} instead of {expected:?}")),
+        _ => Err(format!("{name}: {returned:?} instead of {expected:?}")),
     };
-    agree("the proved table", merged(&proved, &lent, &[&case.batch]))?;
+    agree("the proved table", merged(&library, &lent, &[&case.batch]))?;
     if let Some(rust) = &rust {
         agree("the Rust", merged(rust, &lent, &[&case.batch]))?;
     }
     for place in 0..=case.batch.len() {
         let (first, second) = case.batch.split_at(place);
         let parts = [first, second];
-        let Some(cut) = merged(&plain, &lent, &parts) else {
+        let Some(cut) = merged(&reference, &lent, &parts) else {
             seen.stopped += 1;
             continue;
         };
@@ -96,8 +96,8 @@ fn cut_everywhere(case: &Case, seen: &mut Cuts) -> Result<(), String> {
         seen.empty_side += u64::from(first.is_empty() || second.is_empty());
         seen.moved += u64::from((cut.generation, &cut.live) != (whole.generation, &whole.live));
         seen.falling += u64::from(falls(case));
-        agree("the plain table, cut", Some(cut))?;
-        agree("the proved table, cut", merged(&proved, &lent, &parts))?;
+        agree("the reference model, cut", Some(cut))?;
+        agree("the proved table, cut", merged(&library, &lent, &parts))?;
         if let Some(rust) = &rust {
             seen.by_rust += 1;
             agree("the Rust, cut", merged(rust, &lent, &parts))?;
@@ -107,29 +107,33 @@ fn cut_everywhere(case: &Case, seen: &mut Cuts) -> Result<(), String> {
 }
 
 /// The table that a case starts from.
-fn made<J: Judge>(mut judge: J, lent: &Lengths, case: &Case) -> J {
-    judge.call(lent, &Call::Open(case.opening));
+fn made<T: Implementation>(mut table: T, lent: &Lengths, case: &Case) -> T {
+    table.call(lent, &Call::Open(case.opening));
     for call in &case.before {
-        judge.call(lent, call);
+        table.call(lent, call);
     }
-    judge
+    table
 }
 
 /// The table after these batches, each merged; none if a call is refused or a merge stops.
-fn merged<J: Judge + Clone>(start: &J, lent: &Lengths, parts: &[&[Vec<u32>]]) -> Option<Contents> {
-    let mut judge = start.clone();
+fn merged<T: Implementation + Clone>(
+    start: &T,
+    lent: &Lengths,
+    parts: &[&[Vec<u32>]],
+) -> Option<Contents> {
+    let mut table = start.clone();
     for part in parts {
         for row in *part {
-            if judge.call(lent, &Call::Insert(row.clone())) != Answer::Done {
+            if table.call(lent, &Call::Insert(row.clone())) != Answer::Done {
                 return None;
             }
         }
-        let answer = judge.call(lent, &Call::Merge);
+        let answer = table.call(lent, &Call::Merge);
         if !matches!(answer, Answer::Merged { status: 0, .. }) {
             return None;
         }
     }
-    Some(judge.contents())
+    Some(table.contents())
 }
 
 /// The live rows' cells, in order.

@@ -1,5 +1,5 @@
-//! Two judges on one history. The plain table is asked first; what it refuses changes nothing and is asked of the other only
-//! if that follows the paper in everything. All else must be the same: each answer, and after each call what can be seen of the
+//! Two implementations on one history. The reference model is called first; what it refuses changes nothing, and the other is called
+//! only if that follows the paper in everything. All else must be equal: each answer, and after each call what can be read of the
 //! whole table, and every cell of its stores, if it has any.
 
 use crate::counts::{Counts, is_held_back, live_row};
@@ -7,26 +7,28 @@ use crate::guard::guarded;
 use crate::history::{Act, Step, UNOPENED, needed};
 use crate::mentioned::Mentioned;
 use crate::origins::{Origin, Origins};
-use calls::{Answer, Call, Contents, DEAD, Judge, Lengths, Opening, Question, Refresh, Subset};
-use plain::Plain;
+use calls::{
+    Answer, Call, Contents, DEAD, Implementation, Lengths, Opening, Query, Refresh, Subset,
+};
+use reference::Reference;
 
-/// The other judge: how to make one, and what it may be asked.
-pub struct Rival<J> {
-    pub make: fn() -> J,
-    /// The hash by which it tells keys apart in a removal by row.
+/// The implementation that is compared with the reference model: how to make one, and what it covers.
+pub struct Subject<T> {
+    pub make: fn() -> T,
+    /// The hash by which it distinguishes keys in a removal by row.
     pub key_hash: fn(&[u32]) -> u32,
     /// Whether it follows the paper in everything: refusals, stops, capacity, the last generation.
     pub follows_paper: bool,
 }
 
-/// What the Rust says where a sort value falls. No other panic of its is a stop.
+/// The Rust's panic where a sort value falls. No other panic of it is a stop.
 pub const RUST_STOP: &str = "inserting row that violates sort order";
 
-/// Where two judges differ: the step's place in the history and what each says.
+/// Where two implementations differ: the step's place in the history and what each returned.
 #[derive(Debug)]
 pub struct Difference {
     pub step: usize,
-    pub plain: String,
+    pub reference: String,
     pub other: String,
 }
 
@@ -34,21 +36,21 @@ pub struct Difference {
 const FEW_ROWS: u32 = 16;
 
 /// The first difference in a history, if any. Counts what was seen.
-pub fn compare<J: Judge>(
-    rival: &Rival<J>,
+pub fn compare<T: Implementation>(
+    subject: &Subject<T>,
     history: &[Step],
     counts: &mut Counts,
 ) -> Option<Difference> {
-    let mut pair = Pair::new(rival);
+    let mut pair = Pair::new(subject);
     history
         .iter()
         .enumerate()
         .find_map(|(place, step)| pair.step(step, counts).err().map(|it| it.at(place)))
 }
 
-/// What each judge says.
+/// What each implementation returned.
 pub struct Unlike {
-    plain: String,
+    reference: String,
     other: String,
 }
 
@@ -56,19 +58,19 @@ impl Unlike {
     pub fn at(self, step: usize) -> Difference {
         Difference {
             step,
-            plain: self.plain,
+            reference: self.reference,
             other: self.other,
         }
     }
 }
 
-pub struct Pair<'a, J> {
-    rival: &'a Rival<J>,
-    plain: Plain,
-    other: J,
+pub struct Pair<'a, T> {
+    subject: &'a Subject<T>,
+    reference: Reference,
+    other: T,
     /// The opening that was accepted last.
     pub opening: Opening,
-    /// The plain table as the last call left it.
+    /// The reference model as the last call left it.
     seen: Contents,
     /// Removals by row that wait for a merge.
     rows_to_remove: Vec<(u32, Vec<u32>)>,
@@ -80,18 +82,18 @@ pub struct Pair<'a, J> {
     origins: Origins,
     /// Whether rows that a refresh has staged wait for a merge.
     refreshed: bool,
-    /// Whether the other judge's table is still the same: not after a stop, until the next opening.
+    /// Whether the other implementation's table is still the same: not after a stop, until the next opening.
     following: bool,
 }
 
-impl<'a, J: Judge> Pair<'a, J> {
-    pub fn new(rival: &'a Rival<J>) -> Pair<'a, J> {
-        let plain = Plain::new();
+impl<'a, T: Implementation> Pair<'a, T> {
+    pub fn new(subject: &'a Subject<T>) -> Pair<'a, T> {
+        let reference = Reference::new();
         Pair {
-            rival,
-            seen: plain.contents(),
-            plain,
-            other: (rival.make)(),
+            subject,
+            seen: reference.contents(),
+            reference,
+            other: (subject.make)(),
             opening: UNOPENED,
             rows_to_remove: Vec::new(),
             other_signs: 0,
@@ -102,11 +104,11 @@ impl<'a, J: Judge> Pair<'a, J> {
         }
     }
 
-    /// Takes one step with both judges and gives the plain table's answer.
+    /// Takes one step with both implementations. Returns the reference model's answer.
     pub fn step(&mut self, step: &Step, counts: &mut Counts) -> Result<Answer, Unlike> {
         match &step.act {
             Act::Call(call) => self.call(step, call, counts),
-            Act::Ask(question) => self.ask(step, question, counts),
+            Act::Query(query) => self.query(step, query, counts),
         }
     }
 
@@ -114,7 +116,7 @@ impl<'a, J: Judge> Pair<'a, J> {
         if let Call::Refresh(refresh) = call {
             return self.refresh(step, refresh, counts);
         }
-        let answer = self.plain.call(&step.lent, call);
+        let answer = self.reference.call(&step.lent, call);
         counts.step(&self.opening, step, &answer);
         if matches!(answer, Answer::Refused(_)) {
             self.refused(step, call, &answer, counts)?;
@@ -122,7 +124,7 @@ impl<'a, J: Judge> Pair<'a, J> {
         }
         let is_staging = self.note(call, counts);
         if !is_staging {
-            let after = self.plain.contents();
+            let after = self.reference.contents();
             counts.turn(&self.opening, call, &answer, (&self.seen, &after));
             self.watch(&answer, &after, counts);
             self.seen = after;
@@ -133,13 +135,13 @@ impl<'a, J: Judge> Pair<'a, J> {
                 self.stop_as_old(&step.lent, stamps[place as usize], counts)?;
             }
         }
-        if *call == Call::Clear && self.plain.header().largest.is_some() {
+        if *call == Call::Clear && self.reference.header().largest.is_some() {
             counts.feature("clear: without rows, a value is kept");
         }
         if self.following {
-            counts.asked(&self.opening, step, &answer);
-            let heard = guarded(|| self.other.call(&step.lent, call));
-            agree(&Ok(answer.clone()), &heard)?;
+            counts.compared_step(&self.opening, step, &answer);
+            let returned = guarded(|| self.other.call(&step.lent, call));
+            agree(&Ok(answer.clone()), &returned)?;
             if !is_staging || self.seen.rows <= FEW_ROWS {
                 agree(&Ok(self.seen.clone()), &guarded(|| self.other.contents()))?;
             }
@@ -148,7 +150,7 @@ impl<'a, J: Judge> Pair<'a, J> {
         Ok(answer)
     }
 
-    /// A refresh. Over an unsound index store the plain table is fed what the other has staged, if that has such stores at all.
+    /// A refresh. Over an unsound index store the reference model is fed what the other has staged, if that has such stores at all.
     fn refresh(
         &mut self,
         step: &Step,
@@ -157,23 +159,24 @@ impl<'a, J: Judge> Pair<'a, J> {
     ) -> Result<Answer, Unlike> {
         let call = Call::Refresh(refresh.clone());
         let origin = self.origins.take(&refresh.index).clone();
-        let before = Mentioned::new(&self.plain, refresh);
-        let is_fed = self.rival.follows_paper && matches!(origin, Origin::Foreign(_));
-        let mut heard = None;
+        let before = Mentioned::new(&self.reference, refresh);
+        let is_fed = self.subject.follows_paper && matches!(origin, Origin::Foreign(_));
+        let mut returned = None;
         let answer = if is_fed {
-            let fed = heard.insert(guarded(|| self.other.call(&step.lent, &call)));
+            let fed = returned.insert(guarded(|| self.other.call(&step.lent, &call)));
             self.feed(&step.lent, refresh, fed)?
         } else {
-            self.plain.call(&step.lent, &call)
+            self.reference.call(&step.lent, &call)
         };
         counts.step(&self.opening, step, &answer);
         counts.refresh(step, refresh, &answer, &before, (&origin, is_fed));
         self.note_refresh(refresh, &answer);
         let is_refused = matches!(answer, Answer::Refused(_));
-        if self.rival.follows_paper || (self.following && !is_refused) {
-            counts.asked(&self.opening, step, &answer);
-            let heard = heard.unwrap_or_else(|| guarded(|| self.other.call(&step.lent, &call)));
-            agree(&Ok(answer.clone()), &heard)?;
+        if self.subject.follows_paper || (self.following && !is_refused) {
+            counts.compared_step(&self.opening, step, &answer);
+            let returned =
+                returned.unwrap_or_else(|| guarded(|| self.other.call(&step.lent, &call)));
+            agree(&Ok(answer.clone()), &returned)?;
             if self.following && self.seen.rows <= FEW_ROWS {
                 agree(&Ok(self.seen.clone()), &guarded(|| self.other.contents()))?;
             }
@@ -182,12 +185,12 @@ impl<'a, J: Judge> Pair<'a, J> {
         Ok(answer)
     }
 
-    /// Keeps what a refresh means for the comparison.
+    /// Records what a refresh means for the comparison.
     fn note_refresh(&mut self, refresh: &Refresh, answer: &Answer) {
         let Answer::Refreshed(_, rows) = answer else {
             return;
         };
-        let h = self.plain.header();
+        let h = self.reference.header();
         let version = (h.generation, h.rows);
         self.origins
             .written(&refresh.index, &refresh.columns, version);
@@ -198,27 +201,27 @@ impl<'a, J: Judge> Pair<'a, J> {
         self.refreshed |= !rows.is_empty();
     }
 
-    /// The plain table takes over what was heard of a refresh, if it may be.
+    /// The reference model takes over what a refresh returned, if the definition allows it.
     fn feed(
         &mut self,
         lent: &Lengths,
         refresh: &Refresh,
-        heard: &Result<Answer, String>,
+        returned: &Result<Answer, String>,
     ) -> Result<Answer, Unlike> {
-        let told = match heard {
-            Ok(answer) => self.plain.feed(lent, refresh, answer),
+        let fed = match returned {
+            Ok(answer) => self.reference.feed(lent, refresh, answer),
             Err(_) => Err("an answer".to_string()),
         };
-        match (told, heard) {
+        match (fed, returned) {
             (Ok(()), Ok(answer)) => Ok(answer.clone()),
-            (told, heard) => Err(Unlike {
-                plain: told.err().unwrap_or_default(),
-                other: said(heard),
+            (fed, returned) => Err(Unlike {
+                reference: fed.err().unwrap_or_default(),
+                other: shown(returned),
             }),
         }
     }
 
-    /// What the plain table refuses, the other must refuse too, if it follows the paper.
+    /// What the reference model refuses, the other must refuse too, if it follows the paper.
     fn refused(
         &mut self,
         step: &Step,
@@ -226,28 +229,28 @@ impl<'a, J: Judge> Pair<'a, J> {
         answer: &Answer,
         counts: &mut Counts,
     ) -> Result<(), Unlike> {
-        if !self.rival.follows_paper {
+        if !self.subject.follows_paper {
             return Ok(());
         }
-        counts.asked(&self.opening, step, answer);
-        let heard = guarded(|| self.other.call(&step.lent, call));
-        agree(&Ok(answer.clone()), &heard)?;
+        counts.compared_step(&self.opening, step, answer);
+        let returned = guarded(|| self.other.call(&step.lent, call));
+        agree(&Ok(answer.clone()), &returned)?;
         self.agree_on_stores(is_staging(call))
     }
 
     /// The other's header and stores, if it has any, are those that the paper gives, every cell. After a staging large stores
     /// are looked at only about the record.
     fn agree_on_stores(&self, is_staging: bool) -> Result<(), Unlike> {
-        match self.other.unlike(&self.plain.expected(), !is_staging) {
+        match self.other.unlike(&self.reference.expected(), !is_staging) {
             None => Ok(()),
             Some(other) => Err(Unlike {
-                plain: format!("{:?}", self.plain.header()),
+                reference: format!("{:?}", self.reference.header()),
                 other,
             }),
         }
     }
 
-    /// Keeps what an accepted call means for the comparison; says whether it is a staging.
+    /// Records what an accepted call means for the comparison. Returns whether it is a staging.
     fn note(&mut self, call: &Call, counts: &mut Counts) -> bool {
         match call {
             Call::Open(opening) => {
@@ -275,8 +278,8 @@ impl<'a, J: Judge> Pair<'a, J> {
     /// Whether the live row of this key has a cell of another sign that rules 2 and 3 choose.
     fn has_other_sign(&self, new: &[u32]) -> bool {
         let (keys, sort) = (self.opening.keys as usize, self.opening.sort as usize);
-        let lookup = Question::Lookup(new[..keys].to_vec());
-        let Answer::Row(_, old) = self.plain.ask(&needed(&self.opening, 0), &lookup) else {
+        let lookup = Query::Lookup(new[..keys].to_vec());
+        let Answer::Row(_, old) = self.reference.query(&needed(&self.opening, 0), &lookup) else {
             return false;
         };
         (keys..new.len()).any(|column| column != sort && (old[column] ^ new[column]) >> 31 == 1)
@@ -305,7 +308,7 @@ impl<'a, J: Judge> Pair<'a, J> {
             counts.row_removal(&self.seen, *row, key);
         }
         counts.signs(self.opening.rule, std::mem::take(&mut self.other_signs));
-        if self.rival.follows_paper {
+        if self.subject.follows_paper {
             return;
         }
         let ending = if rows.iter().any(|(row, key)| self.shares_hash(*row, key)) {
@@ -325,14 +328,14 @@ impl<'a, J: Judge> Pair<'a, J> {
 
     /// Whether that row, live before the merge, has another key of the same hash.
     fn shares_hash(&self, row: u32, key: &[u32]) -> bool {
-        let hash = self.rival.key_hash;
+        let hash = self.subject.key_hash;
         live_row(&self.seen, row).is_some_and(|cells| {
             let own = &cells[..key.len()];
             own != key && hash(own) == hash(key)
         })
     }
 
-    /// The plain table stops with 9 at this sort value. The Rust must panic if the value is below the last entry's. Else it takes
+    /// The reference model stops with 9 at this sort value. The Rust must panic if the value is below the last entry's. Else it takes
     /// the row, a known difference: the row of a larger value was dropped by a compaction. It may panic at a later row of the
     /// batch. Either way its table is of no use after.
     fn stop_as_old(
@@ -346,13 +349,13 @@ impl<'a, J: Judge> Pair<'a, J> {
         if !is_below_last {
             counts.feature("merge: stop 9 by a value that no entry has any more");
         }
-        if !self.following || self.rival.follows_paper {
+        if !self.following || self.subject.follows_paper {
             return Ok(());
         }
         self.following = false;
-        let heard = guarded(|| self.other.call(lent, &Call::Merge));
-        self.other = (self.rival.make)();
-        counts.feature(match (&heard, is_below_last) {
+        let returned = guarded(|| self.other.call(lent, &Call::Merge));
+        self.other = (self.subject.make)();
+        counts.feature(match (&returned, is_below_last) {
             (Err(panic), true) if panic.contains(RUST_STOP) => "ended: stop 9, the Rust panics",
             (Ok(_), false) => "ended: stop 9, the Rust takes an older stamp",
             (Err(panic), false) if panic.contains(RUST_STOP) => {
@@ -360,49 +363,44 @@ impl<'a, J: Judge> Pair<'a, J> {
             }
             _ => {
                 return Err(Unlike {
-                    plain: "stops with 9".to_string(),
-                    other: said(&heard),
+                    reference: "stops with 9".to_string(),
+                    other: shown(&returned),
                 });
             }
         });
         Ok(())
     }
 
-    /// Whether the other judge is asked this too.
-    fn is_asked(&self, question: &Question, answer: &Answer) -> bool {
-        if self.rival.follows_paper {
+    /// Whether this is compared with the other implementation.
+    fn is_compared(&self, query: &Query, answer: &Answer) -> bool {
+        if self.subject.follows_paper {
             return true;
         }
-        let needs_no_table = matches!(question, Question::Intersect { .. });
+        let needs_no_table = matches!(query, Query::Intersect { .. });
         !matches!(answer, Answer::Refused(_)) && (self.following || needs_no_table)
     }
 
-    fn ask(
-        &mut self,
-        step: &Step,
-        asked: &Question,
-        counts: &mut Counts,
-    ) -> Result<Answer, Unlike> {
-        let answer = self.plain.ask(&step.lent, asked);
+    fn query(&mut self, step: &Step, query: &Query, counts: &mut Counts) -> Result<Answer, Unlike> {
+        let answer = self.reference.query(&step.lent, query);
         counts.step(&self.opening, step, &answer);
-        counts.note(asked, &answer, self.seen.generation);
-        counts.precedence(asked, &answer, &self.opening, &self.seen);
-        if !self.is_asked(asked, &answer) {
+        counts.note(query, &answer, self.seen.generation);
+        counts.precedence(query, &answer, &self.opening, &self.seen);
+        if !self.is_compared(query, &answer) {
             return Ok(answer);
         }
-        if !self.rival.follows_paper {
-            if intersects_greatest_id(asked) {
-                counts.feature("not asked: range with the greatest id");
+        if !self.subject.follows_paper {
+            if intersects_greatest_id(query) {
+                counts.feature("not compared: range with the greatest id");
                 return Ok(answer);
             }
-            if ends_past_all_places(asked) {
-                counts.feature("not asked: page that ends past the greatest number");
+            if ends_past_all_places(query) {
+                counts.feature("not compared: page that ends past the greatest number");
                 return Ok(answer);
             }
         }
-        counts.asked(&self.opening, step, &answer);
-        let heard = guarded(|| self.other.ask(&step.lent, asked));
-        agree(&Ok(answer.clone()), &heard)?;
+        counts.compared_step(&self.opening, step, &answer);
+        let returned = guarded(|| self.other.query(&step.lent, query));
+        agree(&Ok(answer.clone()), &returned)?;
         Ok(answer)
     }
 }
@@ -417,9 +415,9 @@ fn is_staging(call: &Call) -> bool {
 
 /// A known difference of the Rust: of a list behind a range the Rust takes the last id plus one, which does not fit where that id
 /// is the greatest.
-fn intersects_greatest_id(question: &Question) -> bool {
-    match question {
-        Question::Intersect {
+fn intersects_greatest_id(query: &Query) -> bool {
+    match query {
+        Query::Intersect {
             first: Subset::Range(..),
             second: Subset::List(ids),
             ..
@@ -429,29 +427,29 @@ fn intersects_greatest_id(question: &Question) -> bool {
 }
 
 /// A known difference of the Rust: it adds n to a page's start place, which does not fit where n is about the greatest number.
-fn ends_past_all_places(question: &Question) -> bool {
-    match question {
-        Question::Page { start, n, .. } => u64::from(*start).checked_add(*n).is_none(),
+fn ends_past_all_places(query: &Query) -> bool {
+    match query {
+        Query::Page { start, n, .. } => u64::from(*start).checked_add(*n).is_none(),
         _ => false,
     }
 }
 
 fn agree<T: PartialEq + std::fmt::Debug>(
-    plain: &Result<T, String>,
+    reference: &Result<T, String>,
     other: &Result<T, String>,
 ) -> Result<(), Unlike> {
-    if plain == other {
+    if reference == other {
         return Ok(());
     }
     Err(Unlike {
-        plain: said(plain),
-        other: said(other),
+        reference: shown(reference),
+        other: shown(other),
     })
 }
 
 /// An answer, or the words of a panic.
-fn said<T: std::fmt::Debug>(heard: &Result<T, String>) -> String {
-    match heard {
+fn shown<T: std::fmt::Debug>(returned: &Result<T, String>) -> String {
+    match returned {
         Ok(answer) => format!("{answer:?}"),
         Err(panic) => format!("panics: {panic}"),
     }

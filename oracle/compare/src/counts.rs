@@ -3,10 +3,10 @@
 use crate::history::{Act, Step, needed, size};
 use crate::mentioned::{self, Mentioned};
 use crate::origins::Origin;
-use calls::{Answer, Call, Contents, DEAD, Opening, Question, Refresh, Subset};
+use calls::{Answer, Call, Contents, DEAD, Opening, Query, Refresh, Subset};
 use std::collections::BTreeMap;
 
-/// A kind of call or question with the refusals that it has, in order. `AGAIN` is the second test 2, of the output or the index
+/// A kind of call or query with the refusals that it has, in order. `AGAIN` is the second test 2, of the output or the index
 /// store.
 type Kind = (&'static str, &'static [usize]);
 
@@ -133,7 +133,7 @@ const GATE: [&str; 37] = [
     "key store: grows past 128 rows, known key",
     "key store: grows past 1024 rows, new key",
     "key store: grows past 1024 rows, known key",
-    "key store: a compaction leaves less room",
+    "key store: a compaction leaves fewer slots",
     "clear: of more than 128 rows, then rows again",
     "full size: filled",
     "full size: stop 8",
@@ -182,8 +182,8 @@ const RUST_GATE: [&str; 6] = [
     "ended: stop 9, the Rust panics",
     "ended: stop 9, the Rust takes an older stamp",
     "ended: last generation",
-    "not asked: range with the greatest id",
-    "not asked: page that ends past the greatest number",
+    "not compared: range with the greatest id",
+    "not compared: page that ends past the greatest number",
 ];
 
 /// The most rows of a table, and the most ids of a list.
@@ -194,10 +194,10 @@ pub struct Counts {
     pub histories: u64,
     pub short_histories: u64,
     pub full_histories: u64,
-    /// The plain table's outcomes, by kind.
+    /// The reference model's outcomes, by kind.
     steps: Outcomes,
-    /// Those of them that the other judge was asked for and agreed on.
-    asked: Outcomes,
+    /// Those of them that were compared with the other implementation and agreed.
+    compared: Outcomes,
     features: BTreeMap<&'static str, u64>,
     /// The table at hand was cleared of more than 128 rows.
     cleared_many: bool,
@@ -222,24 +222,24 @@ fn kind(act: &Act) -> usize {
             Call::Clear => 6,
             Call::Refresh(_) => REFRESH,
         },
-        Act::Ask(question) => question_kind(question),
+        Act::Query(query) => query_kind(query),
     }
 }
 
-fn question_kind(question: &Question) -> usize {
-    match question {
-        Question::Lookup(_) => 7,
-        Question::Cell(..) => 8,
-        Question::FastRange(_) => 9,
-        Question::Version => 10,
-        Question::RowsSince(_) => 11,
-        Question::RefineOne { .. } => 12,
-        Question::RefineList { .. } => 13,
-        Question::AnyMatch { .. } => 14,
-        Question::Page { .. } => 15,
-        Question::Intersect { .. } => 16,
-        Question::RowsSinceNote(..) => 17,
-        Question::Precedence { .. } => PRECEDENCE,
+fn query_kind(query: &Query) -> usize {
+    match query {
+        Query::Lookup(_) => 7,
+        Query::Cell(..) => 8,
+        Query::FastRange(_) => 9,
+        Query::Version => 10,
+        Query::RowsSince(_) => 11,
+        Query::RefineOne { .. } => 12,
+        Query::RefineList { .. } => 13,
+        Query::AnyMatch { .. } => 14,
+        Query::Page { .. } => 15,
+        Query::Intersect { .. } => 16,
+        Query::RowsSinceNote(..) => 17,
+        Query::Precedence { .. } => PRECEDENCE,
     }
 }
 
@@ -261,28 +261,28 @@ impl Counts {
     pub fn step(&mut self, opening: &Opening, step: &Step, answer: &Answer) {
         let outcome = outcome(opening, step, answer);
         self.steps.entry(kind(&step.act)).or_default()[outcome] += 1;
-        if let Act::Ask(question) = &step.act {
-            self.answer(question, answer);
-            self.conditions(question);
-            self.pages(question, answer);
-            self.long_lists(question, answer);
+        if let Act::Query(query) = &step.act {
+            self.answer(query, answer);
+            self.conditions(query);
+            self.pages(query, answer);
+            self.long_lists(query, answer);
         }
     }
 
-    /// Counts a step that the other judge was asked for too.
-    pub fn asked(&mut self, opening: &Opening, step: &Step, answer: &Answer) {
+    /// Counts a step that is compared with the other implementation.
+    pub fn compared_step(&mut self, opening: &Opening, step: &Step, answer: &Answer) {
         let outcome = outcome(opening, step, answer);
-        self.asked.entry(kind(&step.act)).or_default()[outcome] += 1;
+        self.compared.entry(kind(&step.act)).or_default()[outcome] += 1;
     }
 
-    /// Answers that both judges gave.
+    /// Answers that both implementations gave.
     pub fn compared(&self) -> u64 {
-        self.asked.values().flatten().sum()
+        self.compared.values().flatten().sum()
     }
 
-    /// Merges that both judges answered.
+    /// Merges that both implementations answered.
     pub fn merges(&self) -> u64 {
-        self.asked.get(&MERGE).into_iter().flatten().sum()
+        self.compared.get(&MERGE).into_iter().flatten().sum()
     }
 
     /// How often something was seen.
@@ -290,42 +290,42 @@ impl Counts {
         self.features.get(name).copied().unwrap_or_default()
     }
 
-    /// Counts questions about lists as long as a list may be, or longer by one.
-    fn long_lists(&mut self, question: &Question, answer: &Answer) {
+    /// Counts queries about lists as long as a list may be, or longer by one.
+    fn long_lists(&mut self, query: &Query, answer: &Answer) {
         let length = |subset: &Subset| match subset {
             Subset::List(ids) => ids.len(),
             Subset::Range(..) => 0,
         };
-        let (names, length) = match question {
-            Question::RefineOne { subset, .. } => (
+        let (names, length) = match query {
+            Query::RefineOne { subset, .. } => (
                 [
                     "full size: refine by one, 65536 ids",
                     "full size: refine by one, 65537 ids refused",
                 ],
                 length(subset),
             ),
-            Question::RefineList { subset, .. } => (
+            Query::RefineList { subset, .. } => (
                 [
                     "full size: refine by a list, 65536 ids",
                     "full size: refine by a list, 65537 ids refused",
                 ],
                 length(subset),
             ),
-            Question::AnyMatch { subset, .. } => (
+            Query::AnyMatch { subset, .. } => (
                 [
                     "full size: any match, 65536 ids",
                     "full size: any match, 65537 ids refused",
                 ],
                 length(subset),
             ),
-            Question::Page { subset, .. } => (
+            Query::Page { subset, .. } => (
                 [
                     "full size: page, 65536 ids",
                     "full size: page, 65537 ids refused",
                 ],
                 length(subset),
             ),
-            Question::Intersect { first, second, .. } => (
+            Query::Intersect { first, second, .. } => (
                 [
                     "full size: intersect, 65536 ids",
                     "full size: intersect, 65537 ids refused",
@@ -354,10 +354,10 @@ impl Counts {
     }
 
     /// Counts lists of conditions.
-    fn conditions(&mut self, question: &Question) {
-        if let Question::RefineList { conditions, .. }
-        | Question::AnyMatch { conditions, .. }
-        | Question::Page { conditions, .. } = question
+    fn conditions(&mut self, query: &Query) {
+        if let Query::RefineList { conditions, .. }
+        | Query::AnyMatch { conditions, .. }
+        | Query::Page { conditions, .. } = query
         {
             match conditions.len() {
                 0 => self.feature("a list of no conditions"),
@@ -368,14 +368,14 @@ impl Counts {
     }
 
     /// Counts pages by their start place, n and output.
-    fn pages(&mut self, question: &Question, answer: &Answer) {
-        let Question::Page {
+    fn pages(&mut self, query: &Query, answer: &Answer) {
+        let Query::Page {
             subset,
             start,
             n,
             output,
             ..
-        } = question
+        } = query
         else {
             return;
         };
@@ -399,45 +399,43 @@ impl Counts {
         }
     }
 
-    fn answer(&mut self, question: &Question, answer: &Answer) {
-        let name = match (question, answer) {
+    fn answer(&mut self, query: &Query, answer: &Answer) {
+        let name = match (query, answer) {
             (_, Answer::Refused(_)) => return,
-            (Question::Lookup(_), Answer::None) => "lookup: none",
-            (Question::Lookup(_), _) => "lookup: row",
-            (Question::Cell(..), Answer::None) => "one cell: none",
-            (Question::Cell(..), _) => "one cell: cell",
-            (Question::FastRange(_), Answer::None) => "fast range: none",
-            (Question::FastRange(_), of) if is_empty(of) => "fast range: empty",
-            (Question::FastRange(_), _) => "fast range: rows",
-            (Question::Version, _) => return,
-            (Question::RowsSince(_), of) if is_empty(of) => "rows since: empty",
-            (Question::RowsSince(_), _) => "rows since: rows",
-            (Question::RowsSinceNote(..), of) if is_empty(of) => "rows since a note: empty",
-            (Question::RowsSinceNote(..), _) => "rows since a note: rows",
-            (Question::Precedence { .. }, _) => return,
-            (Question::RefineOne { .. }, Answer::Subset(Subset::Range(0, 0))) => {
-                "refine by one: 0..0"
-            }
-            (Question::RefineOne { .. }, of) if is_range(of) => "refine by one: range",
-            (Question::RefineOne { .. }, _) => "refine by one: list",
-            (Question::RefineList { .. }, of) if is_range(of) => "refine by a list: range",
-            (Question::RefineList { .. }, _) => "refine by a list: list",
-            (Question::AnyMatch { .. }, Answer::Match(true)) => "any match: yes",
-            (Question::AnyMatch { .. }, _) => "any match: no",
-            (Question::Page { n: 0, .. }, _) => "page: n = 0",
-            (Question::Page { .. }, Answer::Page { next: None, .. }) => "page: no next",
-            (Question::Page { .. }, _) => "page: next",
-            (Question::Intersect { .. }, of) if is_range(of) => "intersect: range",
-            (Question::Intersect { .. }, of) if is_empty(of) => "intersect: empty list",
-            (Question::Intersect { .. }, _) => "intersect: list",
+            (Query::Lookup(_), Answer::None) => "lookup: none",
+            (Query::Lookup(_), _) => "lookup: row",
+            (Query::Cell(..), Answer::None) => "one cell: none",
+            (Query::Cell(..), _) => "one cell: cell",
+            (Query::FastRange(_), Answer::None) => "fast range: none",
+            (Query::FastRange(_), of) if is_empty(of) => "fast range: empty",
+            (Query::FastRange(_), _) => "fast range: rows",
+            (Query::Version, _) => return,
+            (Query::RowsSince(_), of) if is_empty(of) => "rows since: empty",
+            (Query::RowsSince(_), _) => "rows since: rows",
+            (Query::RowsSinceNote(..), of) if is_empty(of) => "rows since a note: empty",
+            (Query::RowsSinceNote(..), _) => "rows since a note: rows",
+            (Query::Precedence { .. }, _) => return,
+            (Query::RefineOne { .. }, Answer::Subset(Subset::Range(0, 0))) => "refine by one: 0..0",
+            (Query::RefineOne { .. }, of) if is_range(of) => "refine by one: range",
+            (Query::RefineOne { .. }, _) => "refine by one: list",
+            (Query::RefineList { .. }, of) if is_range(of) => "refine by a list: range",
+            (Query::RefineList { .. }, _) => "refine by a list: list",
+            (Query::AnyMatch { .. }, Answer::Match(true)) => "any match: yes",
+            (Query::AnyMatch { .. }, _) => "any match: no",
+            (Query::Page { n: 0, .. }, _) => "page: n = 0",
+            (Query::Page { .. }, Answer::Page { next: None, .. }) => "page: no next",
+            (Query::Page { .. }, _) => "page: next",
+            (Query::Intersect { .. }, of) if is_range(of) => "intersect: range",
+            (Query::Intersect { .. }, of) if is_empty(of) => "intersect: empty list",
+            (Query::Intersect { .. }, _) => "intersect: list",
         };
         self.feature(name);
         if let (
-            Question::Page {
+            Query::Page {
                 subset, start, n, ..
             },
             Answer::Page { ids, dead, .. },
-        ) = (question, answer)
+        ) = (query, answer)
         {
             let visited = u64::min(*n, size(subset) as u64 - u64::from(*start));
             match (*dead, visited - ids.len() as u64 - u64::from(*dead)) {
@@ -449,21 +447,15 @@ impl Counts {
     }
 
     /// Counts refused notes by their reasons. A note of another generation counts for that, whatever its rows.
-    pub fn note(&mut self, question: &Question, answer: &Answer, generation: u32) {
-        if let (Question::RowsSinceNote(noted, _), Answer::Refused(18)) = (question, answer) {
+    pub fn note(&mut self, query: &Query, answer: &Answer, generation: u32) {
+        if let (Query::RowsSinceNote(noted, _), Answer::Refused(18)) = (query, answer) {
             self.feature(OFTEN[usize::from(*noted == generation)]);
         }
     }
 
     /// Counts accepted checks of precedence by the rows that are named and what they meet or fail.
-    pub fn precedence(
-        &mut self,
-        question: &Question,
-        answer: &Answer,
-        o: &Opening,
-        seen: &Contents,
-    ) {
-        let Question::Precedence { column, pairs } = question else {
+    pub fn precedence(&mut self, query: &Query, answer: &Answer, o: &Opening, seen: &Contents) {
+        let Query::Precedence { column, pairs } = query else {
             return;
         };
         let column = *column as usize;
@@ -623,7 +615,7 @@ impl Counts {
 
     /// Counts the turns at which the slots in use become more or fewer.
     fn key_store(&mut self, o: &Opening, call: &Call, before: &Contents, after: &Contents) {
-        let slots = |of: &Contents| plain::slots_in_use(o.capacity, of.rows);
+        let slots = |of: &Contents| reference::slots_in_use(o.capacity, of.rows);
         let is_known = after.dead > before.dead;
         match (call, before.rows, after.rows) {
             (Call::Merge, 128, 129) if slots(after) > slots(before) => {
@@ -639,7 +631,7 @@ impl Counts {
                 });
             }
             (Call::Merge | Call::Compact, ..) if slots(after) < slots(before) => {
-                self.feature("key store: a compaction leaves less room");
+                self.feature("key store: a compaction leaves fewer slots");
             }
             (Call::Merge, 0, 1..) if self.cleared_many => {
                 self.feature("clear: of more than 128 rows, then rows again");
@@ -731,13 +723,13 @@ impl Counts {
         self.short_histories += other.short_histories;
         self.full_histories += other.full_histories;
         add_outcomes(&mut self.steps, &other.steps);
-        add_outcomes(&mut self.asked, &other.asked);
+        add_outcomes(&mut self.compared, &other.compared);
         for (name, count) in &other.features {
             *self.features.entry(name).or_default() += count;
         }
     }
 
-    /// Names of what was never seen, of so many kinds. Refusals are left out that `is_wanted` says no to.
+    /// Names of what was never reached, of so many kinds. Refusals for which `is_wanted` is false are left out.
     pub fn missing(
         &self,
         kinds: usize,
@@ -763,8 +755,8 @@ impl Counts {
         missing
     }
 
-    /// What a gate's run has missed: kinds, refusals and turns never seen, and kinds that the other judge was never asked; also
-    /// their refusals, if it follows the paper.
+    /// What a gate's run has missed: kinds, refusals and turns never seen, and kinds that were never compared; also their
+    /// refusals, if it follows the paper.
     pub fn missed_by_gate(&self, follows_paper: bool) -> Vec<String> {
         let turns = [&GATE[..], &mentioned::GATE].concat();
         let mut missing = self.missing(KINDS.len(), &turns, |_| true);
@@ -789,11 +781,11 @@ impl Counts {
         let unseen = own.iter().filter(|name| self.times(name) == 0);
         missing.extend(unseen.map(|name| name.to_string()));
         for (kind, (name, refusals)) in KINDS.iter().enumerate() {
-            let outcomes = self.asked.get(&kind).copied().unwrap_or_default();
+            let outcomes = self.compared.get(&kind).copied().unwrap_or_default();
             let refusals = if follows_paper { *refusals } else { &[] };
             for &number in [0].iter().chain(refusals) {
                 if outcomes[number] == 0 {
-                    missing.push(format!("{name}: never asked, {}", outcome_name(number)));
+                    missing.push(format!("{name}: never compared, {}", outcome_name(number)));
                 }
             }
         }
@@ -802,7 +794,7 @@ impl Counts {
 
     pub fn print(&self) {
         println!(
-            "{} histories by chance, {} short ones, {} of full size",
+            "{} random histories, {} short ones, {} of full size",
             self.histories, self.short_histories, self.full_histories
         );
         let total = |kinds: std::ops::Range<usize>| -> u64 {
@@ -812,12 +804,12 @@ impl Counts {
                 .sum()
         };
         println!(
-            "{} calls, {} questions",
+            "{} calls, {} queries",
             total(0..7) + total(REFRESH..KINDS.len()),
             total(7..REFRESH)
         );
         println!(
-            "{} answers compared with the other judge's",
+            "{} answers compared with the other implementation's",
             self.compared()
         );
         for (kind, (name, _)) in KINDS.iter().enumerate() {
@@ -871,9 +863,9 @@ pub fn is_held_back(after: &Contents) -> bool {
 
 fn is_about_output(opening: &Opening, step: &Step) -> bool {
     let of_output = match &step.act {
-        Act::Ask(Question::Intersect { .. }) => return true,
-        Act::Ask(Question::RefineOne { .. } | Question::RefineList { .. }) => true,
-        Act::Ask(Question::Page { .. }) => true,
+        Act::Query(Query::Intersect { .. }) => return true,
+        Act::Query(Query::RefineOne { .. } | Query::RefineList { .. }) => true,
+        Act::Query(Query::Page { .. }) => true,
         Act::Call(Call::Refresh(_)) => true,
         _ => false,
     };

@@ -3,8 +3,8 @@
 //! one more history rows are refreshed, by an index that catches up and starts afresh.
 
 use crate::history::{Act, Step, needed, with_exact_output, with_output};
-use calls::{Before, Call, Condition, Index, Lengths, Opening, Question, Refresh, Subset};
-use chance::Rng;
+use calls::{Before, Call, Condition, Index, Lengths, Opening, Query, Refresh, Subset};
+use random::Rng;
 
 /// How many such histories there are.
 pub const COUNT: u64 = 5;
@@ -73,7 +73,7 @@ pub fn history(number: u64) -> Vec<Step> {
         w.insert(0..FEW);
         w.merge_and_ask();
         w.call(Call::Clear);
-        w.ask();
+        w.query();
     }
     // Filled at once, or in two batches.
     match number {
@@ -95,7 +95,7 @@ pub fn history(number: u64) -> Vec<Step> {
         w.kill(number, ROWS / 2 + 1);
         w.call(Call::Merge);
     }
-    w.ask();
+    w.query();
     // Full again, with other keys; then a row too many behind one that is kept.
     w.insert(ROWS..ROWS + ROWS / 2 + 1);
     w.merge_and_ask();
@@ -105,7 +105,7 @@ pub fn history(number: u64) -> Vec<Step> {
     w.merge_and_ask();
     w.call(Call::Compact);
     w.call(Call::Clear);
-    w.ask();
+    w.query();
     // A batch of one row too many; then more than half of the table dies, which the merge drops.
     w.insert(0..ROWS + 1);
     w.merge_and_ask();
@@ -120,13 +120,13 @@ impl Writer {
         self.steps.push(Step { lent, act });
     }
 
-    fn ask_one(&mut self, question: Question) {
-        let (lent, act) = (self.lent, Act::Ask(question));
+    fn query_one(&mut self, query: Query) {
+        let (lent, act) = (self.lent, Act::Query(query));
         self.steps.push(Step { lent, act });
     }
 
-    /// Half of the table, of which a quarter and then another is refreshed by one column; then by all columns, with too little room
-    /// for the records at first; then the table is compacted, filled, and refreshed once more, where the merge has no room.
+    /// Half of the table, of which a quarter and then another is refreshed by one column; then by all columns, with too little space
+    /// for the records at first; then the table is compacted, filled, and refreshed once more, where the merge has no space.
     fn refresh_rows(&mut self) {
         let all: Vec<u32> = (0..8).collect();
         let one = self.cells(777)[0];
@@ -184,7 +184,7 @@ impl Writer {
         }
     }
 
-    /// Stages removals, by key and by row in turn, of so many of the first rows, spread by chance. Those that are dead already
+    /// Stages removals, by key and by row in turn, of so many of the first rows, spread randomly. Those that are dead already
     /// are staged again, by key.
     fn kill(&mut self, seed: u64, count: u32) {
         let mut order: Vec<u32> = (0..ROWS).collect();
@@ -204,40 +204,40 @@ impl Writer {
 
     fn merge_and_ask(&mut self) {
         self.call(Call::Merge);
-        self.ask();
+        self.query();
     }
 
-    fn ask(&mut self) {
-        self.ask_about_keys();
-        self.ask_about_precedence();
-        self.ask_about_rows();
+    fn query(&mut self) {
+        self.query_keys();
+        self.query_precedence();
+        self.query_rows();
     }
 
-    fn ask_about_keys(&mut self) {
+    fn query_keys(&mut self) {
         let o = self.shape.opening;
         for i in [0, 1, 777, ROWS / 2, ROWS - 1, ROWS, ROWS + 5, 9 * ROWS] {
             let cells = self.cells(i);
             let key = cells[..o.keys as usize].to_vec();
-            self.ask_one(Question::Lookup(key.clone()));
-            self.ask_one(Question::Cell(key, o.columns - 1));
+            self.query_one(Query::Lookup(key.clone()));
+            self.query_one(Query::Cell(key, o.columns - 1));
             for kind in 1..=5 {
                 let b = cells[o.sort as usize];
                 let condition = Condition { kind, a: o.sort, b };
-                self.ask_one(Question::FastRange(condition));
+                self.query_one(Query::FastRange(condition));
             }
         }
-        self.ask_one(Question::Version);
+        self.query_one(Query::Version);
         for row in [0, ROWS / 2 - 1, ROWS / 2, ROWS - 1, ROWS, ROWS + 1] {
-            self.ask_one(Question::RowsSince(row));
+            self.query_one(Query::RowsSince(row));
             for rise in 0..3 {
                 let generation = o.generation.wrapping_add(rise);
-                self.ask_one(Question::RowsSinceNote(generation, row));
+                self.query_one(Query::RowsSinceNote(generation, row));
             }
         }
     }
 
     /// Pairs that name few rows each: a row's neighbour in the order of making, itself, and a value that no live row has.
-    fn ask_about_precedence(&mut self) {
+    fn query_precedence(&mut self) {
         for i in [1, 777, ROWS / 2, ROWS - 1, ROWS + 5] {
             let [own, neighbour] = [i, i ^ 1].map(|i| self.cells(i)[0]);
             for pairs in [
@@ -247,13 +247,13 @@ impl Writer {
                 [own, own].repeat(17),
                 vec![own, own, own, u32::MAX],
             ] {
-                self.ask_one(Question::Precedence { column: 0, pairs });
+                self.query_one(Query::Precedence { column: 0, pairs });
             }
         }
     }
 
     /// Refines, looks for matches and pages over ranges and lists up to the longest, and over one that is too long.
-    fn ask_about_rows(&mut self) {
+    fn query_rows(&mut self) {
         let o = self.shape.opening;
         let last = o.columns - 1;
         let conditions = [
@@ -287,17 +287,17 @@ impl Writer {
             Subset::Range(0, ROWS + 1),
         ] {
             for condition in conditions {
-                self.ask_exactly(Question::RefineOne {
+                self.query_exactly(Query::RefineOne {
                     subset: subset.clone(),
                     condition,
                     output: 0,
                 });
-                self.ask_exactly(Question::RefineList {
+                self.query_exactly(Query::RefineList {
                     subset: subset.clone(),
                     conditions: vec![condition, conditions[0]],
                     output: 0,
                 });
-                self.ask_one(Question::AnyMatch {
+                self.query_one(Query::AnyMatch {
                     subset: subset.clone(),
                     conditions: vec![condition],
                 });
@@ -305,7 +305,7 @@ impl Writer {
             let all = u64::from(ROWS);
             for (start, n) in [(0, all), (40_000, 30_000), (40_000, 1 << 40), (ROWS, 1)] {
                 for conditions in [&conditions[..2], &conditions[..1]] {
-                    self.ask_exactly(Question::Page {
+                    self.query_exactly(Query::Page {
                         subset: subset.clone(),
                         start,
                         n,
@@ -317,14 +317,14 @@ impl Writer {
         }
     }
 
-    /// Asks with an output just long enough, and with one a word shorter.
-    fn ask_exactly(&mut self, question: Question) {
-        let exact = with_exact_output(question);
+    /// Queries with an output just long enough, and with one a word shorter.
+    fn query_exactly(&mut self, query: Query) {
+        let exact = with_exact_output(query);
         let length = crate::history::needed_output(&exact);
         if length > 0 {
-            self.ask_one(with_output(exact.clone(), length - 1));
+            self.query_one(with_output(exact.clone(), length - 1));
         }
-        self.ask_one(exact);
+        self.query_one(exact);
     }
 
     fn intersect(&mut self) {
@@ -341,7 +341,7 @@ impl Writer {
         ];
         for first in &lists {
             for second in &lists {
-                self.ask_exactly(Question::Intersect {
+                self.query_exactly(Query::Intersect {
                     first: first.clone(),
                     second: second.clone(),
                     output: 0,

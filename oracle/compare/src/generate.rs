@@ -1,13 +1,13 @@
-//! Histories by chance. A plain table goes along while a history is written, so that calls and questions can be aimed
+//! Random histories. A reference model follows while a history is written, so that calls and queries can be aimed
 //! at what is there: live rows, rows that have moved, the last sort value, a full table.
 
 use crate::history::{Act, Step, UNOPENED, needed};
 use crate::origins::Origins;
-use crate::questions;
+use crate::queries;
 use crate::refreshes;
-use calls::{Answer, Call, Contents, DEAD, Judge, Lengths, Opening, Question};
-use chance::Rng;
-use plain::Plain;
+use calls::{Answer, Call, Contents, DEAD, Implementation, Lengths, Opening, Query};
+use random::Rng;
+use reference::Reference;
 
 /// What a history may hold.
 #[derive(Clone, Copy)]
@@ -42,9 +42,9 @@ struct Flavour {
     /// Chances: of a falling stamp in a thousand, of a staging being an insert in a hundred.
     falling: u32,
     inserting: u32,
-    /// The most stagings before a merge, and the most questions after a call.
+    /// The most stagings before a merge, and the most queries after a call.
     batch: u32,
-    questions: u32,
+    queries: u32,
     /// Chance in a hundred of a refresh behind a staging, and before a merge.
     refreshing: u32,
 }
@@ -52,7 +52,7 @@ struct Flavour {
 pub struct Writer {
     pub rng: Rng,
     pub manner: Manner,
-    pub scout: Plain,
+    pub scout: Reference,
     pub opening: Opening,
     /// The table as the last call left it.
     pub seen: Contents,
@@ -75,8 +75,8 @@ const CAPACITIES: [u32; 20] = [
     1, 2, 3, 4, 8, 16, 17, 18, 32, 33, 34, 40, 63, 64, 65, 100, 128, 129, 200, 400,
 ];
 
-/// Numbers of rows that the key store has room for before it takes more slots.
-pub const ROOMS: [u32; 2] = [128, 1_024];
+/// The size classes of the key store: the most rows before it takes more slots.
+pub const SIZE_CLASSES: [u32; 2] = [128, 1_024];
 
 /// Numbers at the edges of what a cell holds.
 pub const EDGES: [u32; 8] = [
@@ -125,7 +125,7 @@ fn flavour(rng: &mut Rng, manner: &Manner) -> Flavour {
         falling: rng.pick(&[0, 0, 1, 5, 50, 300]),
         inserting: rng.pick(&[20, 40, 70, 90]),
         batch: rng.pick(&[1, 2, 4, 10, 30]),
-        questions: match manner.thorough {
+        queries: match manner.thorough {
             true => rng.pick(&[2, 4, 6]),
             false => rng.pick(&[0, 1, 2, 5]),
         },
@@ -140,7 +140,7 @@ impl Writer {
     fn new(seed: u64, manner: Manner) -> Writer {
         let mut rng = Rng::new(seed);
         let flavour = flavour(&mut rng, &manner);
-        let scout = Plain::new();
+        let scout = Reference::new();
         Writer {
             rng,
             manner,
@@ -181,9 +181,9 @@ impl Writer {
         self.call_with(lent, call)
     }
 
-    pub fn ask(&mut self, question: Question) {
+    pub fn query(&mut self, query: Query) {
         let lent = self.lent();
-        let act = Act::Ask(question);
+        let act = Act::Query(query);
         self.steps.push(Step { lent, act });
     }
 
@@ -214,7 +214,7 @@ impl Writer {
         lent
     }
 
-    /// Calls and questions of a table that was never opened, each refused.
+    /// Calls and queries of a table that was never opened, each refused.
     fn before_opening(&mut self) {
         let numbers = self.good_numbers();
         self.opening = numbers;
@@ -234,7 +234,7 @@ impl Writer {
             refreshes::refresh(self);
         }
         for kind in 0..self.kinds() {
-            questions::ask(self, kind);
+            queries::write(self, kind);
         }
     }
 
@@ -305,19 +305,19 @@ impl Writer {
         self.call_with(lent, Call::Open(numbers));
     }
 
-    /// Some stagings, then a call that takes them or drops them, with questions after each.
+    /// Some stagings, then a call that takes them or drops them, with queries after each.
     fn round(&mut self) {
         self.rounds += 1;
         match self.rng.below(20) {
             0 | 1 => self.remove_to_the_limit(),
             2 => self.fill(),
-            3 if self.opening.capacity > ROOMS[0] => self.outgrow(),
+            3 if self.opening.capacity > SIZE_CLASSES[0] => self.outgrow(),
             _ => {
                 for _ in 0..self.rng.within(0, self.flavour.batch) {
                     self.stage();
                     self.refresh_perhaps();
                     if self.rng.percent(20) {
-                        self.ask_some();
+                        self.query_some();
                     }
                 }
             }
@@ -340,9 +340,9 @@ impl Writer {
         }
         self.remember();
         if self.manner.thorough {
-            questions::ask_about_every_row(self);
+            queries::query_every_row(self);
         }
-        self.ask_some();
+        self.query_some();
     }
 
     /// One refresh or two, mostly of a table that has rows.
@@ -363,18 +363,18 @@ impl Writer {
         self.call_with(lent, Call::Open(self.opening))
     }
 
-    /// How many kinds of question there are to ask.
+    /// How many kinds of query there are.
     fn kinds(&self) -> u32 {
         match self.manner.thorough {
-            true => questions::RECORDED_KINDS,
-            false => questions::KINDS,
+            true => queries::RECORDED_KINDS,
+            false => queries::KINDS,
         }
     }
 
-    fn ask_some(&mut self) {
-        for _ in 0..self.rng.within(0, self.flavour.questions) {
+    fn query_some(&mut self) {
+        for _ in 0..self.rng.within(0, self.flavour.queries) {
             let kind = self.rng.below(self.kinds());
-            questions::ask(self, kind);
+            queries::write(self, kind);
         }
     }
 
@@ -549,7 +549,7 @@ impl Writer {
         }
     }
 
-    /// Cells by chance, few small ones and edges, the dead mark also as the first.
+    /// Random cells, few small ones and edges, the dead mark also as the first.
     fn new_key(&mut self) -> Vec<u32> {
         let wide = self.rng.percent(30);
         let cell = |rng: &mut Rng| match rng.below(20) {
@@ -578,20 +578,20 @@ impl Writer {
         }
     }
 
-    /// As many rows as the key store has room for, and one more, of a new key or of a known one. Then the table is cleared, or
-    /// loses so many rows that a merge compacts it into less room, or goes on.
+    /// As many rows as a size class of the key store holds, and one more, of a new key or of a known one. Then the table is cleared, or
+    /// loses so many rows that a merge compacts it into fewer slots, or goes on.
     fn outgrow(&mut self) {
-        let above = ROOMS
+        let above = SIZE_CLASSES
             .into_iter()
-            .filter(|&room| room < self.opening.capacity);
-        let rooms: Vec<u32> = above.filter(|&room| room >= self.seen.rows).collect();
-        let Some(&last) = rooms.last() else {
+            .filter(|&size| size < self.opening.capacity);
+        let sizes: Vec<u32> = above.filter(|&size| size >= self.seen.rows).collect();
+        let Some(&last) = sizes.last() else {
             return;
         };
-        let room = if self.rng.percent(50) { last } else { rooms[0] };
+        let size = if self.rng.percent(50) { last } else { sizes[0] };
         let staged = self.flavour.pending / (self.opening.columns as usize + 2);
-        while self.seen.rows < room {
-            let (rows, count) = (self.seen.rows, room - self.seen.rows);
+        while self.seen.rows < size {
+            let (rows, count) = (self.seen.rows, size - self.seen.rows);
             self.insert_new_keys(count.min(staged as u32));
             self.call_with(needed(&self.opening, self.flavour.pending), Call::Merge);
             if self.seen.rows <= rows {
@@ -619,7 +619,7 @@ impl Writer {
         }
     }
 
-    /// Inserts about as many rows as there is room for, at most 120, or 1,500 now and then. Most keys are new ones.
+    /// Inserts about as many rows as the table has space for, at most 120, or 1,500 now and then. Most keys are new ones.
     fn fill(&mut self) {
         let room = self.opening.capacity - self.seen.rows;
         let most = if self.rng.percent(3) { 1500 } else { 120 };

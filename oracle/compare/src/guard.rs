@@ -1,4 +1,4 @@
-//! Panics of a judge are an answer, not an end: they are caught and kept quiet.
+//! A panic of an implementation is an answer: it is caught and not printed.
 
 use std::any::Any;
 use std::cell::Cell;
@@ -18,10 +18,10 @@ pub fn keep_quiet() {
     }));
 }
 
-/// What the judge answers, or the words of its panic.
-pub fn guarded<T>(ask: impl FnOnce() -> T) -> Result<T, String> {
+/// The answer, or the words of the panic.
+pub fn guarded<T>(call: impl FnOnce() -> T) -> Result<T, String> {
     QUIET.set(true);
-    let answer = panic::catch_unwind(AssertUnwindSafe(ask));
+    let answer = panic::catch_unwind(AssertUnwindSafe(call));
     QUIET.set(false);
     answer.map_err(words)
 }

@@ -1,6 +1,6 @@
-//! A history: calls and questions in order, each with the lengths of the stores that it is lent.
+//! A history: calls and queries in order, each with the lengths of the stores that it is lent.
 
-use calls::{Call, Lengths, Opening, Question, Subset};
+use calls::{Call, Lengths, Opening, Query, Subset};
 
 #[derive(Clone, Debug)]
 pub struct Step {
@@ -11,10 +11,10 @@ pub struct Step {
 #[derive(Clone, Debug)]
 pub enum Act {
     Call(Call),
-    Ask(Question),
+    Query(Query),
 }
 
-/// Stores exactly as long as the opening's numbers ask for; an index store for eight columns.
+/// Stores exactly as long as the opening's numbers require; an index store for eight columns.
 pub fn needed(o: &Opening, pending: usize) -> Lengths {
     let capacity = o.capacity as usize;
     Lengths {
@@ -24,7 +24,7 @@ pub fn needed(o: &Opening, pending: usize) -> Lengths {
         pending,
         live_words: capacity.div_ceil(64),
         base_words: capacity.div_ceil(64),
-        index: plain::index_words(o.capacity, 8),
+        index: reference::index_words(o.capacity, 8),
     }
 }
 
@@ -46,14 +46,14 @@ pub fn size(subset: &Subset) -> usize {
     }
 }
 
-/// The shortest output that a question about these numbers is not turned away for.
-pub fn needed_output(question: &Question) -> usize {
-    match question {
-        Question::RefineOne { subset, .. } | Question::RefineList { subset, .. } => size(subset),
-        Question::Page {
+/// The shortest output with which this query is not refused.
+pub fn needed_output(query: &Query) -> usize {
+    match query {
+        Query::RefineOne { subset, .. } | Query::RefineList { subset, .. } => size(subset),
+        Query::Page {
             subset, start, n, ..
         } => usize::min(*n as usize, size(subset).saturating_sub(*start as usize)),
-        Question::Intersect { first, second, .. } => match (first, second) {
+        Query::Intersect { first, second, .. } => match (first, second) {
             (Subset::List(ids), _) | (Subset::Range(..), Subset::List(ids)) => ids.len(),
             (Subset::Range(..), Subset::Range(..)) => 0,
         },
@@ -61,20 +61,20 @@ pub fn needed_output(question: &Question) -> usize {
     }
 }
 
-/// The question with an output of this length.
-pub fn with_output(mut question: Question, length: usize) -> Question {
-    match &mut question {
-        Question::RefineOne { output, .. }
-        | Question::RefineList { output, .. }
-        | Question::Page { output, .. }
-        | Question::Intersect { output, .. } => *output = length,
+/// The query with an output of this length.
+pub fn with_output(mut query: Query, length: usize) -> Query {
+    match &mut query {
+        Query::RefineOne { output, .. }
+        | Query::RefineList { output, .. }
+        | Query::Page { output, .. }
+        | Query::Intersect { output, .. } => *output = length,
         _ => {}
     }
-    question
+    query
 }
 
-/// The question with an output exactly as long as needed.
-pub fn with_exact_output(question: Question) -> Question {
-    let length = needed_output(&question);
-    with_output(question, length)
+/// The query with an output exactly as long as needed.
+pub fn with_exact_output(query: Query) -> Query {
+    let length = needed_output(&query);
+    with_output(query, length)
 }

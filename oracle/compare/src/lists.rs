@@ -1,12 +1,12 @@
-//! Two subsets to intersect: all four shapes, lists of lengths about those where the Rust walks them another way.
+//! Two subsets to intersect: all four shapes, lists of lengths about those where the Rust scans them in another way.
 
-use calls::{Question, Subset};
-use chance::Rng;
+use calls::{Query, Subset};
+use random::Rng;
 
 const LENGTHS: [usize; 16] = [0, 1, 2, 3, 4, 5, 8, 15, 16, 17, 18, 31, 32, 33, 64, 65];
 
 /// Two subsets to intersect; short lists only, unless `long`.
-pub fn intersection(rng: &mut Rng, long: bool) -> Question {
+pub fn intersection(rng: &mut Rng, long: bool) -> Query {
     let first_length = length(rng, long);
     let first = list(rng, first_length);
     let second_length = match rng.below(3) {
@@ -20,7 +20,7 @@ pub fn intersection(rng: &mut Rng, long: bool) -> Question {
         0 => (first, second),
         _ => (second, first),
     };
-    Question::Intersect {
+    Query::Intersect {
         first: list_or_range(rng, first.clone(), &second),
         second: list_or_range(rng, second, &first),
         output: 0,

@@ -1,5 +1,5 @@
-//! The comparison of the two judges, the plain table, written from the paper, and the carried-over Rust; of the proved table
-//! with the plain one; and of the proved library's functions with the Rust's.
+//! The comparison: of the reference model, written from the paper, with the carried-over Rust; of the proved table with the
+//! reference model; and of the proved library's functions with the Rust's.
 
 mod batches;
 mod compare;
@@ -12,7 +12,7 @@ mod known;
 mod lists;
 mod mentioned;
 mod origins;
-mod questions;
+mod queries;
 mod record;
 mod refreshes;
 mod replays;
@@ -24,37 +24,37 @@ mod shrink;
 mod tests;
 mod text;
 
-use compare::Rival;
-use proved_table::ProvedTable;
+use compare::Subject;
+use library_table::LibraryTable;
 use rust_table::RustTable;
 use std::process::{Child, Command, ExitCode, Stdio};
 
 const USAGE: &str = "\
-usage: oracle                   the gate's run: all short histories, many by chance from a fixed seed, the proved library
-       oracle run COUNT [SEED]  any number of histories by chance
-       oracle proved COUNT SEED the same for the proved table beside the plain one
-       oracle full              histories of the largest tables, for the Rust and the proved table
-       oracle lists N SEED      lists of calls and of questions, each by one call of the proved library
-       oracle sequences         every short history of document 02, under all four rules
-       oracle batches N SEED    so many batches of inserts, each cut at every place
-       oracle hostile           the gate's calls on stores that nobody made, a part of its run
-       oracle hostile N SEED    at least N calls of all C functions on stores that nobody made
-       oracle record [SEED]     prints the recorded list
-       oracle replay FILE       checks a recorded list against both judges and the proved table
-       oracle bench [N [PART]]  measures the proved library beside the Rust (build it with --release): medians of N runs, of the
-                                rows whose names have this part
-       oracle bench --check     fails if a row is above the ratio recorded in ratios.txt by more than a third
-       oracle seal              the same for the monthly seal; fails above its limit (build it with --release)";
+usage: oracle                    the gate's run: all short histories, random ones from a fixed seed, the proved library
+       oracle run COUNT [SEED]   so many random histories, the Rust beside the reference model
+       oracle library COUNT SEED the same, the proved table beside the reference model
+       oracle full               histories of the largest tables, for the Rust and the proved table
+       oracle lists N SEED       lists of calls and of queries, each by one call of the proved library
+       oracle sequences          every short history of document 02, under all four rules
+       oracle batches N SEED     so many batches of inserts, each cut at every place
+       oracle fuzz               the gate's fuzzing, a part of its run
+       oracle fuzz N SEED        at least N fuzzed calls of all C functions
+       oracle record [SEED]      prints the recorded list
+       oracle replay FILE        checks a recorded list against all three tables
+       oracle bench [N [PART]]   measures the proved library beside the Rust (build it with --release): medians of N runs, of
+                                 the rows whose names contain PART
+       oracle bench --check      fails if a row is above the ratio recorded in ratios.txt by more than a third
+       oracle seal               the same for the monthly seal; fails above its limit (build it with --release)";
 
-const RUST: Rival<RustTable> = Rival {
+const RUST: Subject<RustTable> = Subject {
     make: RustTable::new,
     key_hash: rust_table::key_hash,
     follows_paper: false,
 };
 
-const PROVED: Rival<ProvedTable> = Rival {
-    make: ProvedTable::new,
-    key_hash: probes::compact_hash,
+const LIBRARY: Subject<LibraryTable> = Subject {
+    make: LibraryTable::new,
+    key_hash: single_parts::compact_hash,
     follows_paper: true,
 };
 
@@ -62,9 +62,9 @@ const PROVED: Rival<ProvedTable> = Rival {
 const BATCHES: u64 = 3_000;
 const BATCH_SEED: u64 = 12;
 
-/// The gate's calls on hostile stores, and their seed.
-const HOSTILE_CALLS: u64 = 2_500_000;
-const HOSTILE_SEED: u64 = 1;
+/// The gate's fuzzed calls, and their seed.
+const FUZZ_CALLS: u64 = 2_500_000;
+const FUZZ_SEED: u64 = 1;
 
 fn main() -> ExitCode {
     guard::keep_quiet();
@@ -84,16 +84,16 @@ fn command(arguments: &[&str]) -> Result<(), String> {
         [] => gate(),
         ["run", count] => run::run(&RUST, number(count)?, 0),
         ["run", count, seed] => run::run(&RUST, number(count)?, number(seed)?),
-        ["proved", count, seed] => run::run(&PROVED, number(count)?, number(seed)?),
+        ["library", count, seed] => run::run(&LIBRARY, number(count)?, number(seed)?),
         ["lists", count, seed] => print(replays::run(number(count)?, number(seed)?)?),
         ["full"] => {
             run::full(&RUST)?;
-            run::full(&PROVED)
+            run::full(&LIBRARY)
         }
         ["sequences"] => print(every_sequence()?),
         ["batches", count, seed] => print(vec![batches::gate(number(count)?, number(seed)?)?]),
-        ["hostile"] => print(hostile::gate(HOSTILE_CALLS, HOSTILE_SEED)?),
-        ["hostile", calls, seed] => print(hostile::run(number(calls)?, number(seed)?)?),
+        ["fuzz"] => print(fuzz::gate(FUZZ_CALLS, FUZZ_SEED)?),
+        ["fuzz", calls, seed] => print(fuzz::run(number(calls)?, number(seed)?)?),
         ["record"] => record(record::SEED),
         ["record", seed] => record(number(seed)?),
         ["replay", file] => replay(file),
@@ -107,12 +107,12 @@ fn command(arguments: &[&str]) -> Result<(), String> {
 }
 
 fn gate() -> Result<(), String> {
-    let hostile = begin_hostile()?;
+    let fuzzing = begin_fuzzing()?;
     run::gate(&RUST)?;
-    println!("the proved library and the plain table:");
-    print(run::gate_proved(&PROVED)?)?;
+    println!("the proved library and the reference model:");
+    print(run::gate_library(&LIBRARY)?)?;
     println!(
-        "lists of calls and of questions, each by one call of the proved library, and the plain table:"
+        "lists of calls and of queries, each by one call of the proved library, and the reference model:"
     );
     print(replays::gate()?)?;
     println!("every short history, from the proved generator, under all four rules:");
@@ -120,22 +120,22 @@ fn gate() -> Result<(), String> {
     println!("batches of inserts cut anywhere:");
     println!("  {}", batches::gate(BATCHES, BATCH_SEED)?);
     println!("the proved library and the Rust:");
-    print(proved::compare()?)?;
-    println!("the proved library on hostile stores:");
-    end_hostile(hostile)
+    print(functions::compare()?)?;
+    println!("fuzzing of the proved library:");
+    end_fuzzing(fuzzing)
 }
 
-/// A line for each rival. Only the Rust ends at a stop.
+/// A line for each implementation. Only the Rust ends at a stop.
 fn every_sequence() -> Result<Vec<String>, String> {
-    let proved = run::every_sequence(&PROVED)?;
+    let library = run::every_sequence(&LIBRARY)?;
     let rust = run::every_sequence(&RUST)?;
     Ok(vec![
         format!(
             "{} histories beside the proved table: {} answers, {} of them of merges; {} merges stop with 9",
-            proved.short_histories,
-            proved.compared(),
-            proved.merges(),
-            proved.times("merge: stop 9"),
+            library.short_histories,
+            library.compared(),
+            library.merges(),
+            library.times("merge: stop 9"),
         ),
         format!(
             "{} histories beside the Rust: {} answers, {} of them of merges; {} end at the first stop",
@@ -147,26 +147,21 @@ fn every_sequence() -> Result<Vec<String>, String> {
     ])
 }
 
-/// Hostile stores are a process of their own beside the rest: a fault there is theirs alone, and neither waits for the other.
-fn begin_hostile() -> Result<Child, String> {
+/// Fuzzing is a process of its own beside the rest: a fault there ends only that process, and neither waits for the other.
+fn begin_fuzzing() -> Result<Child, String> {
     std::env::current_exe()
-        .and_then(|own| {
-            Command::new(own)
-                .arg("hostile")
-                .stdout(Stdio::piped())
-                .spawn()
-        })
-        .map_err(|why| format!("hostile stores: {why}"))
+        .and_then(|own| Command::new(own).arg("fuzz").stdout(Stdio::piped()).spawn())
+        .map_err(|why| format!("fuzzing: {why}"))
 }
 
-fn end_hostile(hostile: Child) -> Result<(), String> {
-    let ended = hostile
+fn end_fuzzing(fuzzing: Child) -> Result<(), String> {
+    let ended = fuzzing
         .wait_with_output()
-        .map_err(|why| format!("hostile stores: {why}"))?;
+        .map_err(|why| format!("fuzzing: {why}"))?;
     print!("{}", String::from_utf8_lossy(&ended.stdout));
     match ended.status.success() {
         true => Ok(()),
-        false => Err(format!("hostile stores: {}", ended.status)),
+        false => Err(format!("fuzzing: {}", ended.status)),
     }
 }
 
@@ -196,13 +191,13 @@ fn record(seed: u64) -> Result<(), String> {
 fn replay(file: &str) -> Result<(), String> {
     let text = std::fs::read_to_string(file).map_err(|why| format!("{file}: {why}"))?;
     let rust = record::replay(&RUST, &text)?;
-    let proved = record::replay(&PROVED, &text)?;
+    let library = record::replay(&LIBRARY, &text)?;
     println!(
-        "{} recorded answers are the plain table's, {} of them the Rust's, {} the proved table's",
-        rust.answers, rust.asked, proved.asked
+        "{} recorded answers are the reference model's, {} of them the Rust's, {} the proved table's",
+        rust.answers, rust.compared, library.compared
     );
-    if proved.asked != proved.answers as u64 {
-        return Err("not every recorded answer was asked of the proved table".to_string());
+    if library.compared != library.answers as u64 {
+        return Err("not every recorded answer was compared with the proved table".to_string());
     }
     Ok(())
 }

@@ -3,9 +3,9 @@
 use crate::history::Step;
 use crate::origins::{Foreign, Origin};
 use calls::{Answer, Before, DEAD, Header, Refresh, Restamped};
-use plain::{Plain, index_words};
+use reference::{Reference, index_words};
 
-/// What a gate's run must have seen.
+/// What a gate's run must have reached.
 pub const GATE: [&str; 37] = [
     "refresh: no columns",
     "refresh: no values",
@@ -46,10 +46,10 @@ pub const GATE: [&str; 37] = [
     "full size: refresh by eight columns",
 ];
 
-/// What the run with the proved table must have seen besides: refreshes over unsound index stores, by why they are, and what came
+/// What the run with the proved table must have reached besides: refreshes over unsound index stores, by why they are, and what came
 /// of them.
 pub const UNSOUND: [&str; 3] = [
-    "refresh: unsound, filled by chance",
+    "refresh: unsound, filled with random words",
     "refresh: unsound, a word changed",
     "refresh: unsound, of another table",
 ];
@@ -71,13 +71,13 @@ pub struct Mentioned {
 }
 
 impl Mentioned {
-    pub fn new(plain: &Plain, refresh: &Refresh) -> Mentioned {
-        let expected = plain.expected();
+    pub fn new(reference: &Reference, refresh: &Refresh) -> Mentioned {
+        let expected = reference.expected();
         let cells = expected.header.rows as usize * expected.header.columns as usize;
         Mentioned {
             header: expected.header,
             rows: expected.rows[..cells].to_vec(),
-            all: plain.mentioning(refresh),
+            all: reference.mentioning(refresh),
         }
     }
 
@@ -116,7 +116,7 @@ impl Mentioned {
         let mut seen = match answer {
             Answer::Refused(number) => self.refused(step, refresh, *number),
             Answer::Refreshed(_, rows) => [
-                self.asked(step, refresh),
+                self.arguments(step, refresh),
                 self.found(step, refresh, rows),
                 self.index(refresh, origin, is_fed),
             ]
@@ -150,8 +150,8 @@ impl Mentioned {
         ])
     }
 
-    /// By what an accepted refresh asks for.
-    fn asked(&self, step: &Step, refresh: &Refresh) -> Vec<&'static str> {
+    /// By the arguments of an accepted refresh.
+    fn arguments(&self, step: &Step, refresh: &Refresh) -> Vec<&'static str> {
         let Refresh {
             columns,
             values,

@@ -46,7 +46,7 @@ impl Origins {
             Before::Renew | Before::Change(0, 0) => Origin::New,
             Before::Copy(other) => self.stores[other].clone(),
             Before::Fill(_) => Origin::Foreign(Foreign::Filled),
-            // Any words may stand behind the first of a new one.
+            // Any words may follow the first of a new one.
             Before::Change(1.., _) if *own == Origin::New => Origin::New,
             Before::Change(..) => Origin::Foreign(Foreign::Changed),
         };

@@ -1,12 +1,12 @@
-//! The recorded list: lines of calls and questions, each followed by the line of its answer, for a program that replays
-//! them without Rust. Both judges answer while it is made and whenever it is replayed.
+//! The recorded list: lines of calls and queries, each followed by the line of its answer, for a program that replays
+//! them without Rust. Both implementations answer while it is made and whenever it is replayed.
 
-use crate::compare::{Pair, Rival};
+use crate::compare::{Pair, Subject};
 use crate::counts::{AGAIN, Counts, PRECEDENCE};
 use crate::generate::{Manner, history};
 use crate::history::{Act, Step, needed};
 use crate::text::{answer_line, parse, step_line};
-use calls::{Call, Judge, Lengths, Opening};
+use calls::{Call, Implementation, Lengths, Opening};
 
 pub const SEED: u64 = 391;
 
@@ -17,7 +17,7 @@ const PENDING: usize = 256;
 /// Longer histories are left out.
 const SHORT_HISTORY: usize = 70;
 
-/// Stores and outputs are as long as needed, so that a line says all there is to say.
+/// Stores and outputs are as long as needed, so that a line is complete.
 const MANNER: Manner = Manner {
     greatest_capacity: 64,
     pending: Some(PENDING),
@@ -26,7 +26,7 @@ const MANNER: Manner = Manner {
     refreshes: false,
 };
 
-/// Asked before any opening, so each is refused with 1, save the last.
+/// Made before any opening, so each is refused with 1, save the last.
 const UNOPENED: [&str; 18] = [
     "I,1",
     "R,1",
@@ -170,23 +170,23 @@ const EXAMPLES: [&[&str]; 10] = [
 ];
 
 /// A list as it grows, or as it is checked.
-struct List<'a, J> {
-    pair: Pair<'a, J>,
+struct List<'a, T> {
+    pair: Pair<'a, T>,
     counts: Counts,
     lines: Vec<String>,
 }
 
-impl<'a, J: Judge> List<'a, J> {
-    fn new(rival: &'a Rival<J>) -> List<'a, J> {
+impl<'a, T: Implementation> List<'a, T> {
+    fn new(subject: &'a Subject<T>) -> List<'a, T> {
         List {
-            pair: Pair::new(rival),
+            pair: Pair::new(subject),
             counts: Counts::default(),
             lines: Vec::new(),
         }
     }
 
     /// Exactly what the table at hand needs, or the one to be opened. An opening past a table's limits, which is refused for
-    /// its numbers, gets what the limits ask for.
+    /// its numbers, gets what the limits require.
     fn lent(&self, act: &Act) -> Lengths {
         let numbers: &Opening = match act {
             Act::Call(Call::Open(numbers)) => numbers,
@@ -200,7 +200,7 @@ impl<'a, J: Judge> List<'a, J> {
         needed(&within_limits, PENDING)
     }
 
-    /// The answer's line, from both judges.
+    /// The answer's line, from both implementations.
     fn answer(&mut self, act: &Act) -> Result<String, String> {
         let step = Step {
             lent: self.lent(act),
@@ -213,14 +213,14 @@ impl<'a, J: Judge> List<'a, J> {
         }
     }
 
-    /// Adds a step with its answer; a question is left out if a line would be too long.
+    /// Adds a step with its answer; a query is left out if a line would be too long.
     fn add(&mut self, act: &Act) -> Result<(), String> {
-        let asked = step_line(act);
+        let line = step_line(act);
         let answer = self.answer(act)?;
-        if asked.len().max(answer.len()) <= LONGEST_LINE {
-            self.lines.extend([asked, answer]);
+        if line.len().max(answer.len()) <= LONGEST_LINE {
+            self.lines.extend([line, answer]);
         } else if matches!(act, Act::Call(_)) {
-            return Err(format!("too long a line: {asked}"));
+            return Err(format!("too long a line: {line}"));
         }
         Ok(())
     }
@@ -327,7 +327,7 @@ fn kept_and_dropped() -> Vec<String> {
     lines
 }
 
-/// Records until the pending store has no room for one more of any kind.
+/// Records until the pending store has no space for one more of any kind.
 fn full_pending() -> Vec<String> {
     let mut lines = vec!["O,6,4,5,1,64,0".to_string()];
     lines.extend(["I,1,1,1,1,1,1", "M"].map(String::from));
@@ -338,8 +338,8 @@ fn full_pending() -> Vec<String> {
 }
 
 /// The lines of a list from this seed.
-pub fn record<J: Judge>(rival: &Rival<J>, seed: u64) -> Result<Vec<String>, String> {
-    let mut list = List::new(rival);
+pub fn record<T: Implementation>(subject: &Subject<T>, seed: u64) -> Result<Vec<String>, String> {
+    let mut list = List::new(subject);
     list.add_lines(&UNOPENED)?;
     for example in EXAMPLES {
         list.add_lines(example)?;
@@ -364,35 +364,35 @@ pub fn record<J: Judge>(rival: &Rival<J>, seed: u64) -> Result<Vec<String>, Stri
     }
 }
 
-/// How many answers a list has, and for how many of them the other judge was asked too.
+/// How many answers a list has, and how many of them were compared with the other implementation.
 pub struct Replayed {
     pub answers: usize,
-    pub asked: u64,
+    pub compared: u64,
 }
 
-/// Checks a list against both judges.
-pub fn replay<J: Judge>(rival: &Rival<J>, text: &str) -> Result<Replayed, String> {
+/// Checks a list against both implementations.
+pub fn replay<T: Implementation>(subject: &Subject<T>, text: &str) -> Result<Replayed, String> {
     let lines: Vec<&str> = text.lines().collect();
-    let mut list = List::new(rival);
+    let mut list = List::new(subject);
     for (place, pair) in lines.chunks(2).enumerate() {
         let number = 2 * place + 1;
-        let [asked, recorded] = pair else {
+        let [line, recorded] = pair else {
             return Err(format!("line {number} has no answer"));
         };
-        let act = parse(asked).ok_or(format!("line {number} is of no form: {asked}"))?;
+        let act = parse(line).ok_or(format!("line {number} is of no form: {line}"))?;
         let answer = list
             .answer(&act)
             .map_err(|why| format!("line {number}: {why}"))?;
         if answer != *recorded {
             return Err(format!(
-                "line {number}: {asked} gives {answer}, not {recorded}"
+                "line {number}: {line} gives {answer}, not {recorded}"
             ));
         }
     }
     match missing(&list.counts).as_slice() {
         [] => Ok(Replayed {
             answers: lines.len() / 2,
-            asked: list.counts.compared(),
+            compared: list.counts.compared(),
         }),
         missing => Err(format!("the list does not show: {missing:?}")),
     }

@@ -1,9 +1,9 @@
-//! Refreshes by chance of the table as it stands.
+//! Random refreshes of the present table.
 
 use crate::generate::{EDGES, Writer};
 use crate::origins::Origin;
 use calls::{Answer, Before, Call, DEAD, INDEX_STORES, Index, Lengths, Refresh};
-use plain::index_words;
+use reference::index_words;
 
 /// So many values the library takes at once where it looks for rows that the index has not seen.
 const AT_ONCE: usize = 1_024;

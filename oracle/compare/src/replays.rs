@@ -1,28 +1,29 @@
-//! The two lists of the order's term 3, each made by one call of the proved library, beside the plain table: an opening with the
-//! calls of a history, all lent the same stores, refreshes one index store, new at first; and, on the table so made, runs of questions. The ids left are compared with
-//! what the plain table leaves question by question, and, once something refined, with the order's own sentence.
+//! The two lists of the order's term 3, each made by one call of the proved library, beside the reference model: an opening with
+//! the calls of a history, all lent the same stores, refreshes one index store, new at first; and, on that table, runs of queries.
+//! The ids left are compared with what the reference model leaves query by query, and, once something refined, with the order's own
+//! sentence.
 
 use crate::generate::{ANY, history};
 use crate::history::Act;
 use calls::{
-    Answer, Call, Condition, Contents, Judge, Lengths, Opening, Question, Refresh, Subset,
+    Answer, Call, Condition, Contents, Implementation, Lengths, Opening, Query, Refresh, Subset,
 };
-use chance::Rng;
 use mouldgrey::lent::LeftIn;
 use mouldgrey::{Header, lent};
-use plain::{Plain, index_words};
+use random::Rng;
+use reference::{Reference, index_words};
 
 const GATE_COUNT: u64 = 20_000;
 const GATE_SEED: u64 = 20_260_903;
 
-/// Runs of questions on each table.
+/// Runs of queries on each table.
 const RUNS: u32 = 4;
 
-/// Kinds of questions, and the conditions that one list may hold.
+/// Kinds of queries, and the conditions that one list may hold.
 const KINDS: usize = 5;
 const MOST_CONDITIONS: u32 = 16;
 
-/// What stands in a store that was never written.
+/// The word in a store that was never written.
 const UNWRITTEN: u32 = 0x5bad_cafe;
 
 /// An opening, the stores' lengths, and the calls behind it.
@@ -32,7 +33,7 @@ struct List {
     calls: Vec<Call>,
 }
 
-/// How often each case was seen; one that never was fails a gate's run. Questions by their kind.
+/// How often each case was seen; one that never was fails a gate's run. Queries by their kind.
 #[derive(Default)]
 struct Seen {
     lists: u64,
@@ -43,8 +44,8 @@ struct Seen {
     /// Refused, answered no, answered yes.
     refreshes: [u64; 3],
     runs: u64,
-    questions: [u64; KINDS],
-    questions_refused: [u64; KINDS],
+    queries: [u64; KINDS],
+    queries_refused: [u64; KINDS],
     longest_list: usize,
     without_range: u64,
     refined: u64,
@@ -55,7 +56,7 @@ pub fn gate() -> Result<Vec<String>, String> {
     let seen = compare(GATE_COUNT, GATE_SEED)?;
     match seen.missed().as_slice() {
         [] => Ok(seen.lines()),
-        missing => Err(format!("lists: never seen: {missing:?}")),
+        missing => Err(format!("lists: never reached: {missing:?}")),
     }
 }
 
@@ -75,7 +76,7 @@ fn compare(count: u64, seed: u64) -> Result<Seen, String> {
     Ok(seen)
 }
 
-/// The lists of calls of a history by chance: one for each opening.
+/// The lists of calls of a random history: one for each opening.
 fn lists(seed: u64) -> Vec<List> {
     let mut lists: Vec<List> = Vec::new();
     for step in history(seed, ANY) {
@@ -85,7 +86,7 @@ fn lists(seed: u64) -> Vec<List> {
                 lent: step.lent,
                 calls: Vec::new(),
             }),
-            Act::Ask(_) => {}
+            Act::Query(_) => {}
             Act::Call(call) => {
                 if let Some(list) = lists.last_mut() {
                     list.calls.push(call);
@@ -146,7 +147,7 @@ fn condition_words(conditions: &[Condition]) -> Vec<u32> {
     conditions.iter().flat_map(|c| [c.kind, c.a, c.b]).collect()
 }
 
-/// One list of calls, and runs of questions on what it leaves.
+/// One list of calls, and runs of queries on what it leaves.
 fn replay(list: &List, rng: &mut Rng, seen: &mut Seen) -> Result<(), String> {
     let mut words = call_words(&list.calls);
     // What is cut off, or of no kind, is no call.
@@ -156,8 +157,8 @@ fn replay(list: &List, rng: &mut Rng, seen: &mut Seen) -> Result<(), String> {
         2 => words.extend([6, 2, 1, 0]),
         _ => {}
     }
-    let mut plain = Plain::new();
-    let opened = plain.call(&list.lent, &Call::Open(list.opening));
+    let mut reference = Reference::new();
+    let opened = reference.call(&list.lent, &Call::Open(list.opening));
     let mut lent = list.lent;
     if opened == Answer::Done {
         lent.index = index_length(rng, list.opening.capacity);
@@ -167,7 +168,7 @@ fn replay(list: &List, rng: &mut Rng, seen: &mut Seen) -> Result<(), String> {
     if opened == Answer::Done {
         for call in &list.calls {
             seen.calls += 1;
-            match plain.call(&lent, call) {
+            match reference.call(&lent, call) {
                 Answer::Refused(_) if matches!(call, Call::Refresh(_)) => seen.refreshes[0] += 1,
                 Answer::Refused(_) => seen.calls_refused += 1,
                 Answer::Merged { status, .. } if status != 0 => seen.merges_stopped += 1,
@@ -232,29 +233,29 @@ fn replay(list: &List, rng: &mut Rng, seen: &mut Seen) -> Result<(), String> {
             Err("a refused opening changed something".to_string())
         };
     }
-    same_cells(&plain, &header, [&rows, &sorts, &pending])?;
+    same_cells(&reference, &header, [&rows, &sorts, &pending])?;
     check_index(list.opening.capacity, is_refreshed, &new, &index)?;
-    let contents = plain.contents();
+    let contents = reference.contents();
     if live_rows(&header, &rows) != contents.live {
         return Err("live rows".to_string());
     }
     for _ in 0..RUNS {
         let table = Made {
-            plain: &plain,
+            reference: &reference,
             contents: &contents,
             lent: &lent,
             header: &header,
             rows: &rows,
             sorts: &sorts,
         };
-        table.ask(rng, seen)?;
+        table.run(rng, seen)?;
     }
     Ok(())
 }
 
 /// Header, rows, sort entries and pending, cell by cell; past what was ever written as they came.
-fn same_cells(plain: &Plain, header: &Header, stores: [&[u32]; 3]) -> Result<(), String> {
-    let expected = plain.expected();
+fn same_cells(reference: &Reference, header: &Header, stores: [&[u32]; 3]) -> Result<(), String> {
+    let expected = reference.expected();
     if header.words() != expected.header.words() {
         return Err(format!("header: {header:?}, but {:?}", expected.header));
     }
@@ -313,7 +314,7 @@ fn live_rows(h: &Header, rows: &[u32]) -> Vec<(u32, Vec<u32>)> {
 
 /// A table that a list of calls left, as both have it.
 struct Made<'a> {
-    plain: &'a Plain,
+    reference: &'a Reference,
     contents: &'a Contents,
     lent: &'a Lengths,
     header: &'a Header,
@@ -321,9 +322,9 @@ struct Made<'a> {
     sorts: &'a [u32],
 }
 
-/// A question of a run.
+/// A query of a run.
 #[derive(Debug)]
-enum Asked {
+enum ListQuery {
     Refine(Condition),
     RefineList(Vec<Condition>),
     Intersect(Subset),
@@ -339,15 +340,15 @@ struct Gathered {
 }
 
 impl Made<'_> {
-    /// A run of questions by chance.
-    fn ask(&self, rng: &mut Rng, seen: &mut Seen) -> Result<(), String> {
+    /// A random run of queries.
+    fn run(&self, rng: &mut Rng, seen: &mut Seen) -> Result<(), String> {
         seen.runs += 1;
         let start = self.subset(rng);
-        let questions: Vec<Asked> = (0..rng.below(8)).map(|_| self.question(rng)).collect();
+        let queries: Vec<ListQuery> = (0..rng.below(8)).map(|_| self.query(rng)).collect();
         let longest = [&start]
             .into_iter()
-            .chain(questions.iter().filter_map(|asked| match asked {
-                Asked::Intersect(subset) => Some(subset),
+            .chain(queries.iter().filter_map(|query| match query {
+                ListQuery::Intersect(subset) => Some(subset),
                 _ => None,
             }))
             .map(crate::history::size)
@@ -359,18 +360,18 @@ impl Made<'_> {
             lengths[short] = rng.place(lengths[short] + 1);
         }
 
-        let room = lengths[0].min(lengths[1]);
-        let expected = self.judge(&start, &questions, room, seen);
+        let length = lengths[0].min(lengths[1]);
+        let expected = self.expected(&start, &queries, length, seen);
         let mut words = Vec::new();
-        for asked in &questions {
-            match asked {
-                Asked::Refine(c) => frame(&mut words, 0, &[c.kind, c.a, c.b]),
-                Asked::RefineList(list) => frame(&mut words, 1, &condition_words(list)),
-                Asked::Intersect(Subset::List(ids)) => frame(&mut words, 2, ids),
-                Asked::Intersect(Subset::Range(a, b)) => frame(&mut words, 3, &[*a, *b]),
-                Asked::Range(c) => frame(&mut words, 4, &[c.kind, c.a, c.b]),
+        for query in &queries {
+            match query {
+                ListQuery::Refine(c) => frame(&mut words, 0, &[c.kind, c.a, c.b]),
+                ListQuery::RefineList(list) => frame(&mut words, 1, &condition_words(list)),
+                ListQuery::Intersect(Subset::List(ids)) => frame(&mut words, 2, ids),
+                ListQuery::Intersect(Subset::Range(a, b)) => frame(&mut words, 3, &[*a, *b]),
+                ListQuery::Range(c) => frame(&mut words, 4, &[c.kind, c.a, c.b]),
             }
-            // Of another number of words, or of no kind, it is no question.
+            // Of another number of words, or of no kind, it is no query.
             match rng.below(25) {
                 0 => frame(&mut words, 0, &[1, 0]),
                 1 => frame(&mut words, 1, &[1, 0]),
@@ -408,36 +409,36 @@ impl Made<'_> {
         }] += 1;
         if (&found, left.refined) != (&expected.left, expected.refined) {
             return Err(format!(
-                "{questions:?} on {start:?} with lists of {lengths:?}: {left:?}, {found:?}, but {:?}, refined {}",
+                "{queries:?} on {start:?} with lists of {lengths:?}: {left:?}, {found:?}, but {:?}, refined {}",
                 expected.left, expected.refined
             ));
         }
-        if left.taken as usize != questions.len() {
-            return Err(format!("{questions:?}: {} taken", left.taken));
+        if left.taken as usize != queries.len() {
+            return Err(format!("{queries:?}: {} taken", left.taken));
         }
         if [&first, &second]
             .iter()
-            .any(|list| list[room..].iter().any(|&id| id != UNWRITTEN))
+            .any(|list| list[length..].iter().any(|&id| id != UNWRITTEN))
         {
             return Err(format!(
-                "{questions:?} with lists of {lengths:?}: written past {room}"
+                "{queries:?} with lists of {lengths:?}: written past {length}"
             ));
         }
         if left.refined {
             seen.refined += 1;
             let wanted = self.wanted(&start, &expected);
             if ids(&found) != wanted {
-                return Err(format!("{questions:?} on {start:?}: not the wanted ids"));
+                return Err(format!("{queries:?} on {start:?}: not the wanted ids"));
             }
         }
         Ok(())
     }
 
-    /// The plain table, question by question, each with an output as long as the shorter list.
-    fn judge(
+    /// What the reference model leaves, query by query, each with an output as long as the shorter list.
+    fn expected(
         &self,
         start: &Subset,
-        questions: &[Asked],
+        queries: &[ListQuery],
         output: usize,
         seen: &mut Seen,
     ) -> Gathered {
@@ -447,61 +448,64 @@ impl Made<'_> {
             subsets: Vec::new(),
             conditions: Vec::new(),
         };
-        for asked in questions {
-            let intersect = |with: &Subset| Question::Intersect {
+        for listed in queries {
+            let intersect = |with: &Subset| Query::Intersect {
                 first: g.left.clone(),
                 second: with.clone(),
                 output,
             };
-            let (kind, question) = match asked {
-                Asked::Refine(condition) => (
+            let (kind, query) = match listed {
+                ListQuery::Refine(condition) => (
                     0,
-                    Some(Question::RefineOne {
+                    Some(Query::RefineOne {
                         subset: g.left.clone(),
                         condition: *condition,
                         output,
                     }),
                 ),
-                Asked::RefineList(conditions) => (
+                ListQuery::RefineList(conditions) => (
                     1,
-                    Some(Question::RefineList {
+                    Some(Query::RefineList {
                         subset: g.left.clone(),
                         conditions: conditions.clone(),
                         output,
                     }),
                 ),
-                Asked::Intersect(subset @ Subset::List(_)) => (2, Some(intersect(subset))),
-                Asked::Intersect(subset) => (3, Some(intersect(subset))),
-                Asked::Range(condition) => {
-                    match self.plain.ask(self.lent, &Question::FastRange(*condition)) {
+                ListQuery::Intersect(subset @ Subset::List(_)) => (2, Some(intersect(subset))),
+                ListQuery::Intersect(subset) => (3, Some(intersect(subset))),
+                ListQuery::Range(condition) => {
+                    match self
+                        .reference
+                        .query(self.lent, &Query::FastRange(*condition))
+                    {
                         Answer::Subset(range) => (4, Some(intersect(&range))),
                         _ => (4, None),
                     }
                 }
             };
-            seen.questions[kind] += 1;
-            let Some(question) = question else {
+            seen.queries[kind] += 1;
+            let Some(query) = query else {
                 seen.without_range += 1;
                 continue;
             };
-            match self.plain.ask(self.lent, &question) {
+            match self.reference.query(self.lent, &query) {
                 Answer::Subset(left) => {
                     g.left = left;
-                    match asked {
-                        Asked::Refine(condition) => {
+                    match listed {
+                        ListQuery::Refine(condition) => {
                             g.refined = true;
                             g.conditions.push(*condition);
                         }
-                        Asked::RefineList(conditions) => {
+                        ListQuery::RefineList(conditions) => {
                             g.refined = true;
                             g.conditions.extend(conditions);
                             seen.longest_list = seen.longest_list.max(conditions.len());
                         }
-                        Asked::Intersect(subset) => g.subsets.push(subset.clone()),
-                        Asked::Range(condition) => g.conditions.push(*condition),
+                        ListQuery::Intersect(subset) => g.subsets.push(subset.clone()),
+                        ListQuery::Range(condition) => g.conditions.push(*condition),
                     }
                 }
-                _ => seen.questions_refused[kind] += 1,
+                _ => seen.queries_refused[kind] += 1,
             }
         }
         g
@@ -537,9 +541,9 @@ impl Made<'_> {
             .collect()
     }
 
-    fn question(&self, rng: &mut Rng) -> Asked {
+    fn query(&self, rng: &mut Rng) -> ListQuery {
         match rng.below(5) {
-            0 => Asked::Intersect(self.subset(rng)),
+            0 => ListQuery::Intersect(self.subset(rng)),
             1 => {
                 let kind = rng.within(0, 5);
                 let a = if rng.percent(85) {
@@ -548,14 +552,14 @@ impl Made<'_> {
                     rng.below(self.header.columns + 1)
                 };
                 let b = self.value(rng, a);
-                Asked::Range(Condition { kind, a, b })
+                ListQuery::Range(Condition { kind, a, b })
             }
             2 => {
                 let most = if rng.percent(5) { MOST_CONDITIONS } else { 3 };
                 let conditions = (0..rng.below(most + 1)).map(|_| self.condition(rng));
-                Asked::RefineList(conditions.collect())
+                ListQuery::RefineList(conditions.collect())
             }
-            _ => Asked::Refine(self.condition(rng)),
+            _ => ListQuery::Refine(self.condition(rng)),
         }
     }
 
@@ -594,8 +598,8 @@ impl Made<'_> {
                 _ => Subset::Range(rng.below(end + 1), end),
             };
         }
-        let chance = rng.pick(&[10, 50, 90, 100]);
-        let mut ids: Vec<u32> = (0..rows).filter(|_| rng.percent(chance)).collect();
+        let share = rng.pick(&[10, 50, 90, 100]);
+        let mut ids: Vec<u32> = (0..rows).filter(|_| rng.percent(share)).collect();
         match rng.below(16) {
             0 => ids.push(rows),
             1 if ids.len() > 1 => ids.swap(0, 1),
@@ -623,11 +627,11 @@ impl Seen {
             ("a refresh of some row", self.refreshes[2]),
             ("a range that is none", self.without_range),
             ("a run that refined", self.refined),
-            ("refining refused", self.questions_refused[0]),
-            ("refining by a list refused", self.questions_refused[1]),
-            ("a list refused", self.questions_refused[2]),
-            ("a range refused", self.questions_refused[3]),
-            ("a fast range refused", self.questions_refused[4]),
+            ("refining refused", self.queries_refused[0]),
+            ("refining by a list refused", self.queries_refused[1]),
+            ("a list refused", self.queries_refused[2]),
+            ("a range refused", self.queries_refused[3]),
+            ("a fast range refused", self.queries_refused[4]),
             (
                 "a longest list of conditions",
                 u64::from(self.longest_list == MOST_CONDITIONS as usize),
@@ -661,11 +665,11 @@ impl Seen {
                 self.refreshes[2]
             ),
             format!(
-                "lists of questions: {} in one call each, {} of them refining, of {} questions, {} refused",
+                "lists of queries: {} in one call each, {} of them refining, of {} queries, {} refused",
                 self.runs,
                 self.refined,
-                self.questions.iter().sum::<u64>(),
-                self.questions_refused.iter().sum::<u64>()
+                self.queries.iter().sum::<u64>(),
+                self.queries_refused.iter().sum::<u64>()
             ),
         ]
     }

@@ -4,7 +4,7 @@ use crate::history::{Act, Step, needed};
 use calls::Call;
 use mouldgrey::ShortHistories;
 
-/// Room for six inserts of three cells.
+/// Space for six inserts of three cells.
 const PENDING: usize = 6 * 5;
 
 /// All sequences of the proved generator under each rule, as histories.
@@ -14,7 +14,7 @@ pub fn histories() -> impl Iterator<Item = Vec<Step>> {
 
 /// The table opened, and the steps of a sequence.
 fn history(rule: u32, sequence: &[u32]) -> Vec<Step> {
-    let opening = plain::short_opening(rule);
+    let opening = reference::short_opening(rule);
     let lent = needed(&opening, PENDING);
     let act = |call| Step {
         lent,
@@ -25,7 +25,7 @@ fn history(rule: u32, sequence: &[u32]) -> Vec<Step> {
     history
 }
 
-/// What the proved library says that a step is.
+/// What a step is, by the proved library.
 fn call(step: u32) -> Call {
     match mouldgrey::Step::numbered(step).expect("a step of the generator") {
         mouldgrey::Step::Insert(cells) => Call::Insert(cells.to_vec()),

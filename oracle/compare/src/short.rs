@@ -1,8 +1,8 @@
-//! All short histories: every sequence of a few steps of a small alphabet, and every small question.
+//! All short histories: every sequence of a few steps of a small alphabet, and every small query.
 
 use crate::history::{Act, Step, UNOPENED, needed};
 use crate::text::parse;
-use calls::{Call, Condition, Lengths, Question, Subset};
+use calls::{Call, Condition, Lengths, Query, Subset};
 
 /// Every sequence of `length` letters, between a beginning and an end. Shorter ones are compared on the way.
 pub struct Family {
@@ -103,7 +103,7 @@ fn refreshed_keys() -> Family {
     Family::new(&["O,2,1,0,1,4,4294967294"], &letters, 5, &end)
 }
 
-/// Three columns, one key, room for three rows. 4294967295 is the least of the three levels, minus one.
+/// Three columns, one key, space for three rows. 4294967295 is the least of the three levels, minus one.
 fn small_table(rule: u32) -> Family {
     let open = format!("O,3,1,2,{rule},3,0");
     let letters = [
@@ -130,7 +130,7 @@ fn small_table(rule: u32) -> Family {
     Family::new(&[&open], &letters, 6, &end)
 }
 
-/// The sort column is the key: rows are told apart by their stamps, and a dead row has lost its own.
+/// The sort column is the key: rows are distinguished by their stamps, and a dead row has lost its own.
 fn sort_column_0(generation: u32) -> Family {
     let open = format!("O,2,1,0,1,3,{generation}");
     let letters = [
@@ -169,8 +169,8 @@ fn near_compaction(rule: u32) -> Family {
     Family::new(&beginning, &letters, 4, &["M", "V", "L,15", "F,5,2,2"])
 }
 
-/// Every small question, as histories of many questions each.
-pub fn small_questions() -> Vec<Vec<Step>> {
+/// Every small query, as histories of many queries each.
+pub fn small_queries() -> Vec<Vec<Step>> {
     let mut histories: Vec<Vec<Step>> = (0..16).map(about_four_rows).collect();
     histories.extend(small_subsets(5).iter().map(intersections));
     histories.extend((0..=20).map(intersections_by_length));
@@ -201,36 +201,36 @@ fn about_four_rows(dead: u32) -> Vec<Step> {
     lines.push("M".to_string());
     let lent = lengths(&lines[0]);
     let mut history: Vec<Step> = lines.iter().map(|line| step(lent, line)).collect();
-    let asked = small_subsets(4).into_iter().flat_map(about_subset);
-    history.extend(asked.map(|question| Step {
+    let queries = small_subsets(4).into_iter().flat_map(about_subset);
+    history.extend(queries.map(|query| Step {
         lent,
-        act: Act::Ask(question),
+        act: Act::Query(query),
     }));
     history
 }
 
-fn about_subset(subset: Subset) -> Vec<Question> {
-    let mut questions = Vec::new();
+fn about_subset(subset: Subset) -> Vec<Query> {
+    let mut queries = Vec::new();
     for condition in small_conditions() {
-        questions.push(Question::RefineOne {
+        queries.push(Query::RefineOne {
             subset: subset.clone(),
             condition,
             output: 4,
         });
         for conditions in [vec![condition], vec![condition, SECOND], vec![]] {
-            questions.push(Question::RefineList {
+            queries.push(Query::RefineList {
                 subset: subset.clone(),
                 conditions: conditions.clone(),
                 output: 4,
             });
-            questions.push(Question::AnyMatch {
+            queries.push(Query::AnyMatch {
                 subset: subset.clone(),
                 conditions,
             });
         }
     }
     for start in 0..=4 {
-        questions.extend((0..=5).map(|n| Question::Page {
+        queries.extend((0..=5).map(|n| Query::Page {
             subset: subset.clone(),
             start,
             n,
@@ -238,7 +238,7 @@ fn about_subset(subset: Subset) -> Vec<Question> {
             output: 4,
         }));
     }
-    questions
+    queries
 }
 
 /// The third cell is at least 6.
@@ -260,14 +260,14 @@ fn small_conditions() -> Vec<Condition> {
 }
 
 fn intersection(first: Subset, second: Subset) -> Step {
-    let question = Question::Intersect {
+    let query = Query::Intersect {
         first,
         second,
         output: 100,
     };
     Step {
         lent: needed(&UNOPENED, 0),
-        act: Act::Ask(question),
+        act: Act::Query(query),
     }
 }
 

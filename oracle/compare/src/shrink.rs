@@ -1,9 +1,9 @@
-//! From a history in which the judges differ, the smallest that greed finds: fewer steps, columns, ids and conditions,
+//! Reduces a history in which the tables differ to the smallest that a greedy search finds: fewer steps, columns, ids and conditions,
 //! then smaller numbers.
 
 use crate::history::{Act, Step, UNOPENED, needed, with_exact_output};
 use crate::text::{parse, step_line};
-use calls::{Before, Call, Condition, Lengths, Opening, Question, Refresh, Subset};
+use calls::{Before, Call, Condition, Lengths, Opening, Query, Refresh, Subset};
 
 /// Stores that are long enough for any table of this history.
 fn ample(history: &[Step]) -> Lengths {
@@ -29,7 +29,7 @@ struct Shrinker<F> {
     tries: u32,
 }
 
-/// `history` must make `fails` say yes; so does the answer.
+/// `fails` must return true for `history`; it does for the answer.
 pub fn shrink<F: Fn(&[Step]) -> bool>(history: &[Step], fails: F) -> Vec<Step> {
     let mut shrinker = Shrinker {
         fails,
@@ -53,7 +53,7 @@ pub fn shrink<F: Fn(&[Step]) -> bool>(history: &[Step], fails: F) -> Vec<Step> {
 fn with_stores(step: &Step, lent: Lengths) -> Step {
     let act = match &step.act {
         Act::Call(call) => Act::Call(call.clone()),
-        Act::Ask(question) => Act::Ask(with_exact_output(question.clone())),
+        Act::Query(query) => Act::Query(with_exact_output(query.clone())),
     };
     Step { lent, act }
 }
@@ -147,7 +147,7 @@ fn without_column(act: &Act, column: u32, keys: &mut Option<u32>) -> Act {
         }
         Act::Call(Call::Insert(cells)) => drop_cell(cells),
         Act::Call(Call::RemoveKey(key) | Call::RemoveRow(_, key))
-        | Act::Ask(Question::Lookup(key) | Question::Cell(key, _))
+        | Act::Query(Query::Lookup(key) | Query::Cell(key, _))
             if keys.is_some_and(|keys| column < keys) =>
         {
             drop_cell(key)
@@ -166,7 +166,7 @@ fn without_column(act: &Act, column: u32, keys: &mut Option<u32>) -> Act {
 fn simpler_acts(act: &Act) -> Vec<Act> {
     let mut simpler = Vec::new();
     match act {
-        Act::Ask(question) => simpler.extend(fewer_parts(question).into_iter().map(Act::Ask)),
+        Act::Query(query) => simpler.extend(fewer_parts(query).into_iter().map(Act::Query)),
         Act::Call(Call::Refresh(refresh)) => simpler.extend(simpler_refreshes(refresh)),
         Act::Call(_) => {}
     }
@@ -210,23 +210,23 @@ fn simpler_refreshes(refresh: &Refresh) -> Vec<Act> {
     simpler
 }
 
-/// The question with an id, a pair or a condition less.
-fn fewer_parts(question: &Question) -> Vec<Question> {
+/// The query with an id, a pair or a condition less.
+fn fewer_parts(query: &Query) -> Vec<Query> {
     let mut fewer = Vec::new();
-    let mut change = |edit: &dyn Fn(&mut Question)| {
-        let mut changed = question.clone();
+    let mut change = |edit: &dyn Fn(&mut Query)| {
+        let mut changed = query.clone();
         edit(&mut changed);
-        if changed != *question {
+        if changed != *query {
             fewer.push(with_exact_output(changed));
         }
     };
     for place in 0..64 {
-        change(&|question| drop_id(first_subset(question), place));
-        change(&|question| drop_id(second_subset(question), place));
+        change(&|query| drop_id(first_subset(query), place));
+        change(&|query| drop_id(second_subset(query), place));
     }
     for place in 0..16 {
-        change(&|question| {
-            if let Question::Precedence { pairs, .. } = question
+        change(&|query| {
+            if let Query::Precedence { pairs, .. } = query
                 && 2 * place + 1 < pairs.len()
             {
                 pairs.drain(2 * place..2 * place + 2);
@@ -234,8 +234,8 @@ fn fewer_parts(question: &Question) -> Vec<Question> {
         });
     }
     for place in 0..4 {
-        change(&|question| {
-            if let Some(conditions) = conditions(question)
+        change(&|query| {
+            if let Some(conditions) = conditions(query)
                 && place < conditions.len()
             {
                 conditions.remove(place);
@@ -253,29 +253,29 @@ fn drop_id(subset: Option<&mut Subset>, place: usize) {
     }
 }
 
-fn first_subset(question: &mut Question) -> Option<&mut Subset> {
-    match question {
-        Question::RefineOne { subset, .. }
-        | Question::RefineList { subset, .. }
-        | Question::AnyMatch { subset, .. }
-        | Question::Page { subset, .. }
-        | Question::Intersect { first: subset, .. } => Some(subset),
+fn first_subset(query: &mut Query) -> Option<&mut Subset> {
+    match query {
+        Query::RefineOne { subset, .. }
+        | Query::RefineList { subset, .. }
+        | Query::AnyMatch { subset, .. }
+        | Query::Page { subset, .. }
+        | Query::Intersect { first: subset, .. } => Some(subset),
         _ => None,
     }
 }
 
-fn second_subset(question: &mut Question) -> Option<&mut Subset> {
-    match question {
-        Question::Intersect { second, .. } => Some(second),
+fn second_subset(query: &mut Query) -> Option<&mut Subset> {
+    match query {
+        Query::Intersect { second, .. } => Some(second),
         _ => None,
     }
 }
 
-fn conditions(question: &mut Question) -> Option<&mut Vec<Condition>> {
-    match question {
-        Question::RefineList { conditions, .. }
-        | Question::AnyMatch { conditions, .. }
-        | Question::Page { conditions, .. } => Some(conditions),
+fn conditions(query: &mut Query) -> Option<&mut Vec<Condition>> {
+    match query {
+        Query::RefineList { conditions, .. }
+        | Query::AnyMatch { conditions, .. }
+        | Query::Page { conditions, .. } => Some(conditions),
         _ => None,
     }
 }

@@ -1,6 +1,6 @@
 //! The comparison itself: a planted fault is found and made small, lines are read as they were written.
 
-use crate::compare::{RUST_STOP, Rival, compare};
+use crate::compare::{RUST_STOP, Subject, compare};
 use crate::counts::Counts;
 use crate::generate::{ANY, history};
 use crate::history::{Act, Step};
@@ -8,12 +8,12 @@ use crate::origins::{Origin, Origins};
 use crate::run::{full, run};
 use crate::shrink::{lines, shrink};
 use crate::text::{parse, step_line};
-use calls::{Answer, Call, Contents, Judge, Lengths, Question, Subset};
-use plain::Plain;
+use calls::{Answer, Call, Contents, Implementation, Lengths, Query, Subset};
+use reference::Reference;
 
-/// A plain table with a fault.
+/// The reference model with a fault.
 struct Faulty {
-    table: Plain,
+    table: Reference,
     fault: Fault,
 }
 
@@ -29,18 +29,18 @@ enum Fault {
     OtherPanic,
     /// Compacts when dead rows are as many as the limit, not above it.
     Limit,
-    /// A page that reaches the end of its subset says so one id too late.
+    /// A page that reaches the end of its subset returns that one id too late.
     LateNone,
     /// A refresh leaves out the last row that it finds.
     Refresh,
 }
 
-impl Judge for Faulty {
+impl Implementation for Faulty {
     fn call(&mut self, lent: &Lengths, call: &Call) -> Answer {
         match call {
             Call::RemoveKey(_) if self.fault == Fault::KeyRemoval => Answer::Done,
             _ => match self.table.call(lent, call) {
-                // The Rust panics where the plain table stops.
+                // The Rust panics where the reference model stops.
                 Answer::Merged { status: 9, .. } if self.fault == Fault::OtherPanic => panic!("9"),
                 Answer::Merged { status: 9, .. } if self.fault != Fault::Never9 => {
                     panic!("{RUST_STOP} (1 vs. 2)")
@@ -57,12 +57,12 @@ impl Judge for Faulty {
         }
     }
 
-    fn ask(&self, lent: &Lengths, question: &Question) -> Answer {
-        match self.table.ask(lent, question) {
+    fn query(&self, lent: &Lengths, query: &Query) -> Answer {
+        match self.table.query(lent, query) {
             Answer::Subset(Subset::Range(start, end))
                 if start == end
                     && self.fault == Fault::RangesApart
-                    && matches!(question, Question::Intersect { .. }) =>
+                    && matches!(query, Query::Intersect { .. }) =>
             {
                 Answer::Subset(Subset::Range(0, 0))
             }
@@ -97,12 +97,12 @@ impl Faulty {
     }
 }
 
-fn rival(make: fn() -> Faulty) -> Rival<Faulty> {
+fn subject(make: fn() -> Faulty) -> Subject<Faulty> {
     let key_hash = |key: &[u32]| {
         let step = |hash: u32, cell: &u32| hash.wrapping_mul(0x0100_0193) ^ cell;
         key.iter().fold(7, step)
     };
-    Rival {
+    Subject {
         make,
         key_hash,
         follows_paper: false,
@@ -111,8 +111,8 @@ fn rival(make: fn() -> Faulty) -> Rival<Faulty> {
 
 /// The smallest history, as lines, in which the fault shows.
 fn smallest(make: fn() -> Faulty) -> Vec<String> {
-    let rival = rival(make);
-    let differs = |steps: &[Step]| compare(&rival, steps, &mut Counts::default());
+    let subject = subject(make);
+    let differs = |steps: &[Step]| compare(&subject, steps, &mut Counts::default());
     let found = (0..2000).map(|seed| history(seed, ANY)).find_map(|steps| {
         let difference = differs(&steps)?;
         Some(steps[..=difference.step].to_vec())
@@ -122,7 +122,7 @@ fn smallest(make: fn() -> Faulty) -> Vec<String> {
 }
 
 fn faulty(fault: Fault) -> Faulty {
-    let table = Plain::new();
+    let table = Reference::new();
     Faulty { table, fault }
 }
 
@@ -215,42 +215,42 @@ fn origins_of_index_stores() {
 
 #[test]
 fn a_run_tells_the_smallest_history() {
-    let told = run(&rival(|| faulty(Fault::LateNone)), 2000, 0).expect_err("a difference");
-    let lines: Vec<&str> = told.lines().collect();
+    let report = run(&subject(|| faulty(Fault::LateNone)), 2000, 0).expect_err("a difference");
+    let lines: Vec<&str> = report.lines().collect();
     assert!(
-        lines[0].starts_with("the judges differ (history of seed "),
-        "{told}"
+        lines[0].starts_with("the tables differ (history of seed "),
+        "{report}"
     );
-    assert!(lines[1].starts_with("  O,1,1,0,0,1,0"), "{told}");
+    assert!(lines[1].starts_with("  O,1,1,0,0,1,0"), "{report}");
     assert!(
-        lines[lines.len() - 2].starts_with("  plain: Page"),
-        "{told}"
+        lines[lines.len() - 2].starts_with("  reference: Page"),
+        "{report}"
     );
     assert!(
         lines[lines.len() - 1].starts_with("  other: Page"),
-        "{told}"
+        "{report}"
     );
 }
 
-/// A gate that has asked nothing says so of each operation, and of each refusal if the other judge follows the paper.
+/// A gate that has compared nothing reports each operation, and each refusal if the other implementation follows the paper.
 #[test]
-fn a_gate_that_never_asked() {
+fn a_gate_that_never_compared() {
     let counts = Counts::default();
     let missed = counts.missed_by_gate(true);
     for line in [
-        "open: never asked, accepted",
-        "merge: never asked, refused 2",
-        "refine by one: never asked, refused 2 again",
-        "refine by a list: never asked, refused 6",
-        "any match: never asked, refused 5",
-        "page: never asked, refused 2 again",
+        "open: never compared, accepted",
+        "merge: never compared, refused 2",
+        "refine by one: never compared, refused 2 again",
+        "refine by a list: never compared, refused 6",
+        "any match: never compared, refused 5",
+        "page: never compared, refused 2 again",
         "page: n above 2^32",
-        "intersect: never asked, refused 4",
+        "intersect: never compared, refused 4",
         "full size: stop 8",
         "precedence: refused 14 only 0 times",
         "refresh: refused 12 only 0 times",
         "refresh: refused 2 again only 0 times",
-        "refresh: never asked, refused 7",
+        "refresh: never compared, refused 7",
         "refresh: yes: only 0 times",
         "refresh: unsound, rows are left out",
     ] {
@@ -258,27 +258,31 @@ fn a_gate_that_never_asked() {
     }
     assert!(!missed.iter().any(|it| it.starts_with("ended:")));
     let missed = counts.missed_by_gate(false);
-    assert!(missed.iter().any(|it| it == "page: never asked, accepted"));
+    assert!(
+        missed
+            .iter()
+            .any(|it| it == "page: never compared, accepted")
+    );
     assert!(
         !missed
             .iter()
-            .any(|it| it == "merge: never asked, refused 2")
+            .any(|it| it == "merge: never compared, refused 2")
     );
     assert!(missed.iter().any(|it| it == "ended: stop 8"));
 }
 
-/// A difference in a long history is told by its step.
+/// A difference in a long history is reported by its step.
 #[test]
 fn a_fault_at_full_size() {
-    let told = full(&rival(|| faulty(Fault::Limit))).expect_err("a difference");
-    let lines: Vec<&str> = told.lines().collect();
+    let report = full(&subject(|| faulty(Fault::Limit))).expect_err("a difference");
+    let lines: Vec<&str> = report.lines().collect();
     assert!(
-        lines[0].starts_with("the judges differ (history "),
-        "{told}"
+        lines[0].starts_with("the tables differ (history "),
+        "{report}"
     );
-    assert!(lines[0].contains(" of full size, step "), "{told}");
-    assert_eq!(lines[1], "  M", "{told}");
-    assert_eq!(lines.len(), 4, "{told}");
+    assert!(lines[0].contains(" of full size, step "), "{report}");
+    assert_eq!(lines[1], "  M", "{report}");
+    assert_eq!(lines.len(), 4, "{report}");
 }
 
 #[test]

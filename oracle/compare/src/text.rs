@@ -2,14 +2,14 @@
 
 use crate::history::{Act, with_exact_output};
 use calls::{
-    Answer, Before, Call, Condition, INDEX_STORES, Index, Opening, Question, Refresh, Subset,
+    Answer, Before, Call, Condition, INDEX_STORES, Index, Opening, Query, Refresh, Subset,
 };
 
-/// The line of a call or a question. Lengths of stores and outputs are not in it.
+/// The line of a call or a query. Lengths of stores and outputs are not in it.
 pub fn step_line(act: &Act) -> String {
     match act {
         Act::Call(call) => call_line(call),
-        Act::Ask(question) => question_line(question),
+        Act::Query(query) => query_line(query),
     }
 }
 
@@ -54,34 +54,32 @@ fn refresh_numbers(refresh: &Refresh) -> Vec<u32> {
     numbers
 }
 
-fn question_line(question: &Question) -> String {
-    match question {
-        Question::Lookup(key) => line("L", key),
-        Question::Cell(key, column) => line("E", &[&[*column], key.as_slice()].concat()),
-        Question::FastRange(c) => line("F", &[c.kind, c.a, c.b]),
-        Question::Version => line("V", &[]),
-        Question::RowsSince(row) => line("S", &[*row]),
-        Question::RowsSinceNote(generation, rows) => line("W", &[*generation, *rows]),
-        Question::Precedence { column, pairs } => {
-            line("B", &[&[*column], pairs.as_slice()].concat())
-        }
-        Question::RefineOne {
+fn query_line(query: &Query) -> String {
+    match query {
+        Query::Lookup(key) => line("L", key),
+        Query::Cell(key, column) => line("E", &[&[*column], key.as_slice()].concat()),
+        Query::FastRange(c) => line("F", &[c.kind, c.a, c.b]),
+        Query::Version => line("V", &[]),
+        Query::RowsSince(row) => line("S", &[*row]),
+        Query::RowsSinceNote(generation, rows) => line("W", &[*generation, *rows]),
+        Query::Precedence { column, pairs } => line("B", &[&[*column], pairs.as_slice()].concat()),
+        Query::RefineOne {
             subset, condition, ..
         } => {
             let c = [condition.kind, condition.a, condition.b];
             line("N", &[subset_numbers(subset), c.to_vec()].concat())
         }
-        Question::RefineList {
+        Query::RefineList {
             subset, conditions, ..
         } => line(
             "A",
             &[subset_numbers(subset), list_numbers(conditions)].concat(),
         ),
-        Question::AnyMatch { subset, conditions } => line(
+        Query::AnyMatch { subset, conditions } => line(
             "Y",
             &[subset_numbers(subset), list_numbers(conditions)].concat(),
         ),
-        Question::Page {
+        Query::Page {
             subset,
             start,
             n,
@@ -91,7 +89,7 @@ fn question_line(question: &Question) -> String {
             let place = line("P", &[subset_numbers(subset), vec![*start]].concat());
             line(&format!("{place},{n}"), &list_numbers(conditions))
         }
-        Question::Intersect { first, second, .. } => line(
+        Query::Intersect { first, second, .. } => line(
             "T",
             &[subset_numbers(first), subset_numbers(second)].concat(),
         ),
@@ -188,7 +186,7 @@ impl Numbers<'_> {
     }
 }
 
-/// The call or question of a line, its output as long as needed; nothing if the line is of no form.
+/// The call or query of a line, its output as long as needed; nothing if the line is of no form.
 pub fn parse(line: &str) -> Option<Act> {
     let mut fields = line.split(',');
     let letter = fields.next()?;
@@ -197,7 +195,7 @@ pub fn parse(line: &str) -> Option<Act> {
     let mut numbers = Numbers(&numbers);
     let act = match call(letter, &mut numbers) {
         Some(call) => Act::Call(call),
-        None => Act::Ask(with_exact_output(question(letter, &mut numbers)?)),
+        None => Act::Query(with_exact_output(query(letter, &mut numbers)?)),
     };
     numbers.0.is_empty().then_some(act)
 }
@@ -248,44 +246,44 @@ fn index_store(number: u32) -> Option<usize> {
     (number < INDEX_STORES).then_some(number)
 }
 
-fn question(letter: &str, numbers: &mut Numbers) -> Option<Question> {
+fn query(letter: &str, numbers: &mut Numbers) -> Option<Query> {
     let output = 0;
     match letter {
-        "L" => Some(Question::Lookup(numbers.rest()?)),
+        "L" => Some(Query::Lookup(numbers.rest()?)),
         "E" => {
             let column = numbers.one()?;
-            Some(Question::Cell(numbers.rest()?, column))
+            Some(Query::Cell(numbers.rest()?, column))
         }
-        "F" => Some(Question::FastRange(numbers.condition()?)),
-        "V" => Some(Question::Version),
-        "S" => Some(Question::RowsSince(numbers.one()?)),
-        "W" => Some(Question::RowsSinceNote(numbers.one()?, numbers.one()?)),
-        "B" => Some(Question::Precedence {
+        "F" => Some(Query::FastRange(numbers.condition()?)),
+        "V" => Some(Query::Version),
+        "S" => Some(Query::RowsSince(numbers.one()?)),
+        "W" => Some(Query::RowsSinceNote(numbers.one()?, numbers.one()?)),
+        "B" => Some(Query::Precedence {
             column: numbers.one()?,
             pairs: numbers.rest()?,
         }),
-        "N" => Some(Question::RefineOne {
+        "N" => Some(Query::RefineOne {
             subset: numbers.subset()?,
             condition: numbers.condition()?,
             output,
         }),
-        "A" => Some(Question::RefineList {
+        "A" => Some(Query::RefineList {
             subset: numbers.subset()?,
             conditions: numbers.conditions()?,
             output,
         }),
-        "Y" => Some(Question::AnyMatch {
+        "Y" => Some(Query::AnyMatch {
             subset: numbers.subset()?,
             conditions: numbers.conditions()?,
         }),
-        "P" => Some(Question::Page {
+        "P" => Some(Query::Page {
             subset: numbers.subset()?,
             start: numbers.one()?,
             n: numbers.long()?,
             conditions: numbers.conditions()?,
             output,
         }),
-        "T" => Some(Question::Intersect {
+        "T" => Some(Query::Intersect {
             first: numbers.subset()?,
             second: numbers.subset()?,
             output,

@@ -78,9 +78,12 @@ fn beside(report: &mut Report, way: &Way, width: usize, rows: usize) {
         .map(|i| i.wrapping_mul(2_654_435_761))
         .collect();
     let (mut one, mut other) = (vec![0; count], vec![0; count]);
-    for (plain, order) in [("by columns", way.by_columns), ("by rows", way.by_rows)] {
+    for (reference, order) in [("by columns", way.by_columns), ("by rows", way.by_rows)] {
         report.compare(
-            &format!("{}, {rows} rows of {width}: {plain}, each row", way.name),
+            &format!(
+                "{}, {rows} rows of {width}: {reference}, each row",
+                way.name
+            ),
             rows,
             || (way.ours)(width as u32, &cells, &mut one),
             || order(width, black_box(&cells), black_box(&mut other)),

@@ -1,10 +1,10 @@
 //! The key index beside the Rust's way: std's HashMap, which is hashbrown, from the Rust's own compact hash to a row, placed
 //! by the hash's probe, the key compared in the row store. 4 columns, 2 of them keys, capacity 65,536, half full and full.
-//! Ours stands behind C functions that test a table's numbers and take its widths at run time; so do the Rust's functions
+//! Ours is called through C functions that test a table's numbers and take its widths at run time; so do the Rust's functions
 //! here. A time is for one key.
 
 use crate::report::Report;
-use probes::Keyed;
+use single_parts::Keyed;
 use std::collections::HashMap;
 use std::collections::hash_map::Entry;
 use std::hash::{BuildHasherDefault, Hasher};
@@ -75,7 +75,7 @@ impl Both {
     fn put_store(&mut self, count: u32) {
         self.store.fill(0);
         for row in 0..count {
-            probes::put(CAPACITY, &mut self.store, &key(row), row);
+            single_parts::put(CAPACITY, &mut self.store, &key(row), row);
         }
     }
 
@@ -88,9 +88,10 @@ impl Both {
 
     /// Takes a row's slot out and puts the row back.
     fn swap(&mut self, row: u32) {
-        if let Some((_, slot)) = probes::find(self.table, &self.rows, &self.store, &key(row)) {
-            probes::take_out(self.table, &self.rows, &mut self.store, slot);
-            probes::put(CAPACITY, &mut self.store, &key(row), row);
+        if let Some((_, slot)) = single_parts::find(self.table, &self.rows, &self.store, &key(row))
+        {
+            single_parts::take_out(self.table, &self.rows, &mut self.store, slot);
+            single_parts::put(CAPACITY, &mut self.store, &key(row), row);
         }
     }
 
@@ -109,7 +110,7 @@ fn order(count: u32) -> Vec<Key> {
 }
 
 fn finds(both: &Both, keys: &[Key]) -> u32 {
-    let found = |key: &Key| probes::find(both.table, &both.rows, &both.store, key);
+    let found = |key: &Key| single_parts::find(both.table, &both.rows, &both.store, key);
     keys.iter()
         .map(|key| found(key).map_or(0, |(row, _)| row))
         .fold(0, u32::wrapping_add)

@@ -1,13 +1,13 @@
 //! `intersect`: like lengths, 1:100, 1:10,000, disjoint, a range with a list; ids at even steps, which branch prediction learns,
-//! and by chance. Ours refuses a list that does not rise strictly, so each pair with a list is also measured beside the Rust with
-//! that test before it ("with the test"). The Rust copies its first subset, since it works in place. Both answer how many ids
+//! and random. Ours refuses a list that does not rise strictly, so each pair with a list is also measured beside the Rust with
+//! that test before it ("with the check"). The Rust copies its first subset, since it works in place. Both answer how many ids
 //! there are.
 
 use crate::report::Report;
 use calls::Subset;
-use chance::Rng;
+use library_table::borrowed;
 use mouldgrey::{Refusal, Written, lent};
-use proved_table::borrowed;
+use random::Rng;
 use rust_table::RustSubset;
 
 const SEED: u64 = 4;
@@ -16,7 +16,7 @@ fn every(step: u32, count: u32, from: u32) -> Subset {
     Subset::List((0..count).map(|i| from + i * step).collect())
 }
 
-/// So many of the ids below a number, by chance.
+/// So many random ids below a number.
 fn some(count: u32, below: u32, rng: &mut Rng) -> Subset {
     let mut left = count;
     let chosen = |id: &u32| {
@@ -89,12 +89,15 @@ fn pair(report: &mut Report, name: &str, first: &Subset, second: &Subset) {
     if let (Subset::Range(..), Subset::Range(..)) = (first, second) {
         return;
     }
-    report.compare(&format!("{name}, with the test"), 1, &mut ours, || {
-        match is_well_formed(first) && is_well_formed(second) {
+    report.compare(
+        &format!("{name}, with the check"),
+        1,
+        &mut ours,
+        || match is_well_formed(first) && is_well_formed(second) {
             true => one.intersect(&other),
             false => 0,
-        }
-    });
+        },
+    );
 }
 
 fn even(report: &mut Report) {
@@ -120,7 +123,7 @@ fn by_chance(report: &mut Report) {
     let (long, few, hundredth) = (some(60_000, 120_000), some(6, 120_000), some(600, 120_000));
     let half = some(30_000, 60_000);
     let mut row = |name: &str, first: &Subset, second: &Subset| {
-        pair(report, &format!("by chance, {name}"), first, second)
+        pair(report, &format!("random ids, {name}"), first, second)
     };
     row("16 and 16", &some(16, 48), &some(16, 32));
     row("60,000 and 40,000", &long, &some(40_000, 120_000));

@@ -48,7 +48,7 @@ impl Indexed {
     fn ours(&mut self, values: &[u32]) -> bool {
         let s = self.both.ours.stores();
         let mut header = s.header;
-        let heard = lent::refresh_rows_for_values(
+        let returned = lent::refresh_rows_for_values(
             &mut header,
             &s.rows,
             &mut self.pending,
@@ -57,7 +57,7 @@ impl Indexed {
             values,
             STAMP,
         );
-        heard.expect("a fit refresh")
+        returned.expect("a fit refresh")
     }
 
     fn theirs(&mut self, values: &[u32]) -> bool {

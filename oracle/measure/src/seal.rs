@@ -1,9 +1,9 @@
-//! The monthly seal: a full table of 65,536 rows and eight columns, 32,769 of them dead by chance, is compacted, by the proved
+//! The monthly seal: a full table of 65,536 rows and eight columns, 32,769 of them dead at random, is compacted, by the proved
 //! library and by plain Rust that does the same work on vectors: the rows close up, sort entries are rebuilt, the key store's
 //! rows are renumbered by the same rank words. The two leave the same cells, which is tested first.
 
-use chance::Rng;
 use mouldgrey::{DEAD, Header, Merge, Opening, Rule, lent};
+use random::Rng;
 use std::time::Instant;
 
 const CAPACITY: usize = 65_536;
@@ -183,7 +183,7 @@ fn median(mut times: Vec<f64>) -> f64 {
     times[times.len() / 2]
 }
 
-/// Compacts the table a hundred times with each, in turn, and tells both medians; an error above the limit.
+/// Compacts the table a hundred times with each, in turn, and prints both medians; an error above the limit.
 pub fn seal() -> Result<(), String> {
     let before = full();
     let (mut ours, mut theirs) = (before.clone(), before.clone());

@@ -4,10 +4,10 @@
 use crate::offsets::size;
 use crate::report::Report;
 use calls::{Call, Condition, Subset};
-use chance::Rng;
+use library_table::{borrowed, constraint};
 use mouldgrey::raw::Constraint;
 use mouldgrey::{Opening, Rule, SubsetRef, Table, lent};
-use proved_table::{borrowed, constraint};
+use random::Rng;
 use rust_table::{RustSubset, RustTable};
 
 const CAPACITY: u32 = 65_536;
@@ -145,7 +145,7 @@ fn merges(report: &mut Report) {
     merge("17 removals of 32 rows, compacting, whole", 1, dying);
 }
 
-/// A full table of 8 columns, 32,768 rows of it dead by chance, which is not yet more than half; and tables of few rows.
+/// A full table of 8 columns, 32,768 random rows of it dead, which is not yet more than half; and tables of few rows.
 fn compactions(report: &mut Report) {
     let full = Both::opened(8, CAPACITY)
         .staged(inserts(CAPACITY, 8, 1))
@@ -158,7 +158,7 @@ fn compactions(report: &mut Report) {
     let dying = order[..32_768].iter().map(|&i| removal(i));
     full.staged(dying).merged().once(
         report,
-        "compact: 65,536 rows, 32,768 dead by chance, each row",
+        "compact: 65,536 rows, 32,768 random rows dead, each row",
         CAPACITY,
         &[Call::Compact],
     );
@@ -217,7 +217,7 @@ fn lookups(report: &mut Report, both: &Both) {
     );
 }
 
-/// 60,000 rows, in column 2 a 1 or, by chance, a 2; the level of all is 1 in column 4.
+/// 60,000 rows, in column 2 a 1 or, at random, a 2; the level of all is 1 in column 4.
 fn rows_by_chance() -> Both {
     let mut rng = Rng::new(SEED);
     let calls = (0..60_000).map(|i| {
@@ -246,7 +246,7 @@ fn refines(report: &mut Report, both: &Both) {
         for (kept, condition) in [
             ("all", is(4, 1)),
             ("every other", is(1, 2)),
-            ("half by chance", is(2, 1)),
+            ("random half", is(2, 1)),
             ("none", is(4, 9)),
         ] {
             let c = constraint(&condition);
@@ -268,7 +268,7 @@ fn refines(report: &mut Report, both: &Both) {
     }
 }
 
-fn walks(report: &mut Report, both: &Both) {
+fn scans(report: &mut Report, both: &Both) {
     let s = both.ours.stores();
     let mut output = vec![0; 60_000];
     let range = SubsetRef::Range(0, 60_000);
@@ -276,7 +276,7 @@ fn walks(report: &mut Report, both: &Both) {
     let conditions = [is(2, 1), is(4, 1)];
     let ours: Vec<Constraint> = conditions.iter().map(constraint).collect();
     report.compare(
-        "refine by two conditions, of 60,000: half by chance kept",
+        "refine by two conditions, of 60,000: random half kept",
         1,
         || {
             size(lent::refine_ref(
@@ -294,18 +294,18 @@ fn walks(report: &mut Report, both: &Both) {
     report.compare(
         "any match of 60,000: none",
         1,
-        || lent::contains_match(&s.header, &s.rows, range, &none).expect("a fit question"),
+        || lent::contains_match(&s.header, &s.rows, range, &none).expect("a fit query"),
         || both.theirs.contains_match(&same, &nowhere),
     );
     let mut ids = Vec::with_capacity(1_000);
     let places = || (0..60).map(|page| 1_000 * page);
     report.compare(
-        "pages of 1,000 through 60,000: half by chance written, each page",
+        "pages of 1,000 through 60,000: random half written, each page",
         60,
         || {
             places()
                 .map(|at| lent::read_page(&s.header, &s.rows, range, at, 1_000, &ours, &mut output))
-                .map(|page| page.expect("a fit question").written)
+                .map(|page| page.expect("a fit query").written)
                 .sum::<usize>()
         },
         || {
@@ -329,5 +329,5 @@ pub fn operations(report: &mut Report) {
     lookups(report, &both);
     let both = rows_by_chance();
     refines(report, &both);
-    walks(report, &both);
+    scans(report, &both);
 }

@@ -1,4 +1,4 @@
-//! Stands for `core-relations/src/action`: names that the table hands on or keeps room for. The merge rules here read no
+//! Replaces `core-relations/src/action`: names that the table passes on or has space for. The merge rules here read no
 //! other table, so there is no state to execute in.
 
 use crate::{Variable, common::Value, pool::Clear};

@@ -1,4 +1,4 @@
-//! Calls and questions put to the real `SortedWritesTable`. It is asked only what was accepted, so it refuses nothing,
+//! Calls and queries on the real `SortedWritesTable`. It gets only what the reference model accepted, so it refuses nothing,
 //! and where the Rust panics, so does this.
 
 use crate::{
@@ -11,7 +11,7 @@ use crate::{
     table_spec::{ColumnId, Constraint, MutationBuffer, Table},
 };
 use calls::{
-    Answer, Call, Condition, Contents, Judge, Lengths, Opening, Question, Refresh, Restamped,
+    Answer, Call, Condition, Contents, Implementation, Lengths, Opening, Query, Refresh, Restamped,
     Subset,
 };
 use std::cell::RefCell;
@@ -259,7 +259,7 @@ impl RustTable {
     }
 }
 
-impl Judge for RustTable {
+impl Implementation for RustTable {
     fn call(&mut self, _lent: &Lengths, call: &Call) -> Answer {
         if let Call::Refresh(refresh) = call {
             return self.open_mut().refresh(refresh);
@@ -280,41 +280,41 @@ impl Judge for RustTable {
         }
     }
 
-    fn ask(&self, _lent: &Lengths, question: &Question) -> Answer {
-        match question {
-            Question::Lookup(key) => match self.open().table.get_row(values(key)) {
+    fn query(&self, _lent: &Lengths, query: &Query) -> Answer {
+        match query {
+            Query::Lookup(key) => match self.open().table.get_row(values(key)) {
                 Some(row) => Answer::Row(row.id.rep(), cells(&row.vals)),
                 None => Answer::None,
             },
-            Question::Cell(key, column) => {
+            Query::Cell(key, column) => {
                 let column = ColumnId::new(*column);
                 match self.open().table.get_row_column(values(key), column) {
                     Some(value) => Answer::Cell(value.rep()),
                     None => Answer::None,
                 }
             }
-            Question::FastRange(condition) => {
+            Query::FastRange(condition) => {
                 match self.open().table.fast_subset(&constraint(condition)) {
                     Some(subset) => Answer::Subset(answered(&subset)),
                     None => Answer::None,
                 }
             }
-            Question::Version => Answer::Version {
+            Query::Version => Answer::Version {
                 generation: self.open().generation(),
                 rows: self.open().rows(),
             },
-            Question::RowsSince(row) => {
+            Query::RowsSince(row) => {
                 let since = Offset::new(u64::from(*row));
                 Answer::Subset(answered(&self.open().table.updates_since(since)))
             }
             // As its index does it: the rows since the minor version, if the major one is the same.
-            Question::RowsSinceNote(generation, count) => {
+            Query::RowsSinceNote(generation, count) => {
                 assert_eq!(self.open().generation(), *generation, "another generation");
                 let since = Offset::new(u64::from(*count));
                 Answer::Subset(answered(&self.open().table.updates_since(since)))
             }
-            Question::Precedence { column, pairs } => self.precedence(*column as usize, pairs),
-            Question::RefineOne {
+            Query::Precedence { column, pairs } => self.precedence(*column as usize, pairs),
+            Query::RefineOne {
                 subset, condition, ..
             } => {
                 let table = &self.open().table;
@@ -322,7 +322,7 @@ impl Judge for RustTable {
                     &table.refine_one(carried(subset), &constraint(condition)),
                 ))
             }
-            Question::RefineList {
+            Query::RefineList {
                 subset, conditions, ..
             } => {
                 let table = &self.open().table;
@@ -332,12 +332,12 @@ impl Judge for RustTable {
                     true,
                 )))
             }
-            Question::AnyMatch { subset, conditions } => Answer::Match(
+            Query::AnyMatch { subset, conditions } => Answer::Match(
                 self.open()
                     .table
                     .contains_match(carried(subset).as_ref(), &constraints(conditions)),
             ),
-            Question::Page {
+            Query::Page {
                 subset,
                 start,
                 n,
@@ -361,7 +361,7 @@ impl Judge for RustTable {
                     next,
                 }
             }
-            Question::Intersect { first, second, .. } => {
+            Query::Intersect { first, second, .. } => {
                 let mut both = carried(first);
                 let pool = with_pool_set(|pools| pools.get_pool());
                 both.intersect(carried(second).as_ref(), &pool);
@@ -513,7 +513,7 @@ fn constraints(conditions: &[Condition]) -> Vec<Constraint> {
     conditions.iter().map(constraint).collect()
 }
 
-/// Calls and questions to be measured without the way from and to `calls`: answers of one number.
+/// Calls and queries to be measured without the way from and to `calls`: answers of one number.
 impl RustTable {
     /// A refresh as the Rust does it, in its own order; what it stages is dropped.
     pub fn refresh_and_unstage(&mut self, columns: &[u32], changed: &[u32], stamp: u32) -> bool {

@@ -1,5 +1,5 @@
-//! The carried-over Rust as a judge. The files under `carried` are those of egraphs-good/egglog at commit d89bc58adc,
-//! compiled as they are; the modules declared first, and the crates under `stand_ins`, stand for what those files lean
+//! The carried-over Rust as an implementation of the table. The files under `carried` are those of egraphs-good/egglog at commit d89bc58adc,
+//! compiled as they are; the modules declared first, and the crates under `stand_ins`, replace what those files lean
 //! on. Every rule of the table is the carried text's own.
 
 #[macro_use]

@@ -1,4 +1,4 @@
-//! Stands for the crate egglog-numeric-id: numbers with a type of their own, and lists indexed by them.
+//! Replaces the crate egglog-numeric-id: numbers with a type of their own, and lists indexed by them.
 
 use std::fmt::Debug;
 use std::hash::Hash;

@@ -1,4 +1,4 @@
-//! Stands for `core-relations/src/parallel`, with one thread: loops.
+//! Replaces `core-relations/src/parallel`, with one thread: loops.
 
 use crate::numeric_id::{IdVec, NumericId};
 

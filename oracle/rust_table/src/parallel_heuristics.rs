@@ -1,4 +1,4 @@
-//! Stands for `core-relations/src/parallel_heuristics`: one thread, so nothing is ever worth sharing out.
+//! Replaces `core-relations/src/parallel_heuristics`: one thread, so nothing is ever worth sharing out.
 
 pub fn parallelize_table_op(_rows: usize) -> bool {
     false
