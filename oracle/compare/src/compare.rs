@@ -2,6 +2,7 @@
 //! only if that follows the paper in everything. All else must be equal: each answer, and after each call what can be read of the
 //! whole table, and every cell of its stores, if it has any.
 
+use crate::cases::Case;
 use crate::counts::{Counts, is_held_back, live_row};
 use crate::guard::guarded;
 use crate::history::{Act, Step, UNOPENED, needed};
@@ -136,7 +137,7 @@ impl<'a, T: Implementation> Pair<'a, T> {
             }
         }
         if *call == Call::Clear && self.reference.header().largest.is_some() {
-            counts.feature("clear: without rows, a value is kept");
+            counts.case(Case::ClearKeepsValue);
         }
         if self.following {
             counts.compared_step(&self.opening, step, &answer);
@@ -264,7 +265,7 @@ impl<'a, T: Implementation> Pair<'a, T> {
             Call::Insert(cells) => {
                 self.stamps.push(cells[self.opening.sort as usize]);
                 if cells[0] == DEAD {
-                    counts.feature("insert: dead first cell");
+                    counts.case(Case::InsertDead);
                 } else {
                     self.other_signs += u64::from(self.has_other_sign(cells));
                 }
@@ -299,8 +300,8 @@ impl<'a, T: Implementation> Pair<'a, T> {
             return;
         };
         match (std::mem::take(&mut self.refreshed), status) {
-            (true, 8) => counts.feature("refresh: the merge stops with 8"),
-            (true, 9) => counts.feature("refresh: the merge stops with 9"),
+            (true, 8) => counts.case(Case::RefreshMergeStop8),
+            (true, 9) => counts.case(Case::RefreshMergeStop9),
             _ => {}
         }
         let rows = std::mem::take(&mut self.rows_to_remove);
@@ -312,16 +313,16 @@ impl<'a, T: Implementation> Pair<'a, T> {
             return;
         }
         let ending = if rows.iter().any(|(row, key)| self.shares_hash(*row, key)) {
-            "ended: a removal by row whose key shares the hash"
+            Case::EndedSharedHash
         } else if *status == 8 {
-            "ended: stop 8"
+            Case::EndedStop8
         } else if *status == 0 && is_held_back(after) {
-            "ended: last generation"
+            Case::EndedLastGeneration
         } else {
             return;
         };
         if self.following {
-            counts.feature(ending);
+            counts.case(ending);
         }
         self.following = false;
     }
@@ -347,7 +348,7 @@ impl<'a, T: Implementation> Pair<'a, T> {
         let last = self.seen.sort_entries.last();
         let is_below_last = last.is_some_and(|last| stamp < last.0);
         if !is_below_last {
-            counts.feature("merge: stop 9 by a value that no entry has any more");
+            counts.case(Case::MergeStop9WithoutEntry);
         }
         if !self.following || self.subject.follows_paper {
             return Ok(());
@@ -355,12 +356,10 @@ impl<'a, T: Implementation> Pair<'a, T> {
         self.following = false;
         let returned = guarded(|| self.other.call(lent, &Call::Merge));
         self.other = (self.subject.make)();
-        counts.feature(match (&returned, is_below_last) {
-            (Err(panic), true) if panic.contains(RUST_STOP) => "ended: stop 9, the Rust panics",
-            (Ok(_), false) => "ended: stop 9, the Rust takes an older stamp",
-            (Err(panic), false) if panic.contains(RUST_STOP) => {
-                "ended: stop 9, the Rust takes an older stamp and panics at a later row"
-            }
+        counts.case(match (&returned, is_below_last) {
+            (Err(panic), true) if panic.contains(RUST_STOP) => Case::EndedStop9Panic,
+            (Ok(_), false) => Case::EndedStop9OlderStamp,
+            (Err(panic), false) if panic.contains(RUST_STOP) => Case::EndedStop9LaterPanic,
             _ => {
                 return Err(Unlike {
                     reference: "stops with 9".to_string(),
@@ -390,11 +389,11 @@ impl<'a, T: Implementation> Pair<'a, T> {
         }
         if !self.subject.follows_paper {
             if intersects_greatest_id(query) {
-                counts.feature("not compared: range with the greatest id");
+                counts.case(Case::NotComparedGreatestId);
                 return Ok(answer);
             }
             if ends_past_all_places(query) {
-                counts.feature("not compared: page that ends past the greatest number");
+                counts.case(Case::NotComparedLongestPage);
                 return Ok(answer);
             }
         }

@@ -2,12 +2,14 @@
 //! reference model; and of the proved library's functions with the Rust's.
 
 mod batches;
+mod cases;
 mod compare;
 mod counts;
 mod full;
 mod generate;
 mod guard;
 mod history;
+mod kinds;
 mod known;
 mod lists;
 mod mentioned;
@@ -24,6 +26,7 @@ mod shrink;
 mod tests;
 mod text;
 
+use cases::Case;
 use compare::Subject;
 use library_table::LibraryTable;
 use rust_table::RustTable;
@@ -135,14 +138,14 @@ fn every_sequence() -> Result<Vec<String>, String> {
             library.short_histories,
             library.compared(),
             library.merges(),
-            library.times("merge: stop 9"),
+            library.times(Case::MergeStop9),
         ),
         format!(
             "{} histories beside the Rust: {} answers, {} of them of merges; {} end at the first stop",
             rust.short_histories,
             rust.compared(),
             rust.merges(),
-            rust.times("ended: stop 9, the Rust panics"),
+            rust.times(Case::EndedStop9Panic),
         ),
     ])
 }

@@ -1,63 +1,10 @@
-//! What a refresh meets, to be counted.
+//! The cases that a refresh reaches.
 
+use crate::cases::Case;
 use crate::history::Step;
 use crate::origins::{Foreign, Origin};
 use calls::{Answer, Before, DEAD, Header, Refresh, Restamped};
 use reference::{Reference, index_words};
-
-/// What a gate's run must have reached.
-pub const GATE: [&str; 37] = [
-    "refresh: no columns",
-    "refresh: no values",
-    "refresh: 9 with an empty list",
-    "refresh: stamp just below the kept value",
-    "refresh: stamp at the kept value",
-    "refresh: stamp above the kept value",
-    "refresh: stamp 4294967295",
-    "refresh: without a kept value",
-    "refresh: a repeated column",
-    "refresh: eight columns",
-    "refresh: index store a word short",
-    "refresh: index store as long as needed",
-    "refresh: index store longer than needed",
-    "refresh: pending a word short",
-    "refresh: pending exactly full",
-    "refresh: behind other records",
-    "refresh: the last generation",
-    "refresh: sort column 0",
-    "refresh: sort column a key column",
-    "refresh: inserts that a merge skips",
-    "refresh: 4294967295 found as a value",
-    "refresh: 4294967295 looked for in column 0",
-    "refresh: a row found twice",
-    "refresh: a row that has the stamp already",
-    "refresh: a dead row holds a value",
-    "refresh: no row holds a value",
-    "refresh: many rows",
-    "refresh: a row found by the last of more than 1024 values",
-    "refresh: a new index store",
-    "refresh: an index of this version",
-    "refresh: an index that catches up",
-    "refresh: an index of other columns",
-    "refresh: an index of an earlier generation",
-    "refresh: a copy of an index store",
-    "refresh: the merge stops with 8",
-    "refresh: the merge stops with 9",
-    "full size: refresh by eight columns",
-];
-
-/// What the run with the proved table must have reached besides: refreshes over unsound index stores, by why they are, and what came
-/// of them.
-pub const UNSOUND: [&str; 3] = [
-    "refresh: unsound, filled with random words",
-    "refresh: unsound, a word changed",
-    "refresh: unsound, of another table",
-];
-pub const UNSOUND_GATE: [&str; 3] = [
-    "refresh: unsound, rows are left out",
-    "refresh: unsound, all rows are staged",
-    "refresh: unsound, refused",
-];
 
 /// So many rows are many, and so many the most.
 const MANY: usize = 20;
@@ -106,14 +53,14 @@ impl Mentioned {
         })
     }
 
-    pub fn features(
+    pub fn cases(
         &self,
         step: &Step,
         refresh: &Refresh,
         answer: &Answer,
         (origin, is_fed): (&Origin, bool),
-    ) -> Vec<&'static str> {
-        let mut seen = match answer {
+    ) -> Vec<Case> {
+        let mut cases = match answer {
             Answer::Refused(number) => self.refused(step, refresh, *number),
             Answer::Refreshed(_, rows) => [
                 self.arguments(step, refresh),
@@ -124,34 +71,34 @@ impl Mentioned {
             _ => Vec::new(),
         };
         if is_fed {
-            seen.extend(self.fed(answer, origin));
+            cases.extend(self.fed(answer, origin));
         }
-        seen
+        cases
     }
 
-    fn refused(&self, step: &Step, refresh: &Refresh, number: u32) -> Vec<&'static str> {
+    fn refused(&self, step: &Step, refresh: &Refresh, number: u32) -> Vec<Case> {
         let needed = index_words(self.header.capacity, refresh.columns.len());
         let largest = self.header.largest.unwrap_or(0);
         let is_empty = refresh.columns.is_empty() || refresh.values.is_empty();
-        seen(&[
+        reached(&[
             (
                 number == 2 && step.lent.index + 1 == needed,
-                "refresh: index store a word short",
+                Case::RefreshIndexShort,
             ),
-            (number == 9 && is_empty, "refresh: 9 with an empty list"),
+            (number == 9 && is_empty, Case::Refresh9EmptyList),
             (
                 number == 9 && refresh.stamp + 1 == largest,
-                "refresh: stamp just below the kept value",
+                Case::RefreshStampBelow,
             ),
             (
                 number == 7 && step.lent.pending + 1 == self.words(self.all.len()),
-                "refresh: pending a word short",
+                Case::RefreshPendingShort,
             ),
         ])
     }
 
     /// By the arguments of an accepted refresh.
-    fn arguments(&self, step: &Step, refresh: &Refresh) -> Vec<&'static str> {
+    fn arguments(&self, step: &Step, refresh: &Refresh) -> Vec<Case> {
         let Refresh {
             columns,
             values,
@@ -162,44 +109,38 @@ impl Mentioned {
         let is_repeat = |(place, column)| columns[..place].contains(column);
         let largest = self.header.largest;
         let is_above = largest.is_some_and(|largest| *stamp > largest);
-        seen(&[
-            (columns.is_empty(), "refresh: no columns"),
-            (values.is_empty(), "refresh: no values"),
+        reached(&[
+            (columns.is_empty(), Case::RefreshNoColumns),
+            (values.is_empty(), Case::RefreshNoValues),
             (
                 columns.iter().enumerate().any(is_repeat),
-                "refresh: a repeated column",
+                Case::RefreshRepeatedColumn,
             ),
-            (columns.len() == 8, "refresh: eight columns"),
+            (columns.len() == 8, Case::RefreshEightColumns),
             (
                 columns.len() == 8 && self.header.rows == FULL,
-                "full size: refresh by eight columns",
+                Case::FullRefreshEightColumns,
             ),
             (
                 values.contains(&DEAD) && columns.contains(&0),
-                "refresh: 4294967295 looked for in column 0",
+                Case::RefreshGreatestInFirst,
             ),
-            (largest == Some(*stamp), "refresh: stamp at the kept value"),
-            (is_above, "refresh: stamp above the kept value"),
-            (*stamp == u32::MAX, "refresh: stamp 4294967295"),
-            (largest.is_none(), "refresh: without a kept value"),
-            (
-                step.lent.index == needed,
-                "refresh: index store as long as needed",
-            ),
-            (
-                step.lent.index > needed,
-                "refresh: index store longer than needed",
-            ),
+            (largest == Some(*stamp), Case::RefreshStampAt),
+            (is_above, Case::RefreshStampAbove),
+            (*stamp == u32::MAX, Case::RefreshStampGreatest),
+            (largest.is_none(), Case::RefreshNoKeptValue),
+            (step.lent.index == needed, Case::RefreshIndexExact),
+            (step.lent.index > needed, Case::RefreshIndexLonger),
             (
                 self.header.generation == u32::MAX,
-                "refresh: the last generation",
+                Case::RefreshLastGeneration,
             ),
-            (self.header.pending > 0, "refresh: behind other records"),
+            (self.header.pending > 0, Case::RefreshBehindRecords),
         ])
     }
 
     /// By the rows that it finds.
-    fn found(&self, step: &Step, refresh: &Refresh, rows: &[Restamped]) -> Vec<&'static str> {
+    fn found(&self, step: &Step, refresh: &Refresh, rows: &[Restamped]) -> Vec<Case> {
         let h = &self.header;
         let yes = !rows.is_empty();
         let holds_last = |of: &Restamped| {
@@ -212,56 +153,47 @@ impl Mentioned {
             refresh.values.contains(&DEAD)
                 && columns.any(|&column| self.cell(of.row, column) == DEAD)
         };
-        seen(&[
-            (yes, "refresh: yes"),
-            (!yes, "refresh: no"),
+        reached(&[
+            (yes, Case::RefreshYes),
+            (!yes, Case::RefreshNo),
             (
                 yes && step.lent.pending == self.words(rows.len()),
-                "refresh: pending exactly full",
+                Case::RefreshPendingFull,
             ),
-            (yes && h.sort == 0, "refresh: sort column 0"),
-            (yes && h.sort < h.keys, "refresh: sort column a key column"),
+            (yes && h.sort == 0, Case::RefreshSortFirst),
+            (yes && h.sort < h.keys, Case::RefreshSortKey),
             (
                 yes && h.sort == 0 && refresh.stamp == DEAD,
-                "refresh: inserts that a merge skips",
+                Case::RefreshSkippedInserts,
             ),
-            (
-                rows.iter().any(holds_greatest),
-                "refresh: 4294967295 found as a value",
-            ),
+            (rows.iter().any(holds_greatest), Case::RefreshGreatestFound),
             (
                 rows.iter().any(|of| self.times(of.row, refresh) > 1),
-                "refresh: a row found twice",
+                Case::RefreshRowTwice,
             ),
-            (
-                rows.iter().any(is_at_stamp),
-                "refresh: a row that has the stamp already",
-            ),
-            (
-                self.is_held_by_dead_row(refresh),
-                "refresh: a dead row holds a value",
-            ),
+            (rows.iter().any(is_at_stamp), Case::RefreshRowAtStamp),
+            (self.is_held_by_dead_row(refresh), Case::RefreshDeadRow),
             (
                 !refresh.values.is_empty() && !refresh.columns.is_empty() && !yes,
-                "refresh: no row holds a value",
+                Case::RefreshNoRow,
             ),
-            (rows.len() >= MANY, "refresh: many rows"),
+            (rows.len() >= MANY, Case::RefreshManyRows),
             (
                 refresh.values.len() > 1_024 && rows.iter().any(holds_last),
-                "refresh: a row found by the last of more than 1024 values",
+                Case::RefreshLastOfManyValues,
             ),
         ])
     }
 
     /// By the sound index store that it is lent.
-    fn index(&self, refresh: &Refresh, origin: &Origin, is_fed: bool) -> Vec<&'static str> {
+    fn index(&self, refresh: &Refresh, origin: &Origin, is_fed: bool) -> Vec<Case> {
         let h = &self.header;
         let mut seen = Vec::new();
         if is_fed {
             return seen;
         }
         match origin {
-            Origin::New => seen.push("refresh: a new index store"),
+            Origin::New => seen.push(Case::RefreshNewIndex),
             Origin::Own {
                 columns,
                 generation,
@@ -269,14 +201,14 @@ impl Mentioned {
             } => {
                 seen.push(
                     match (*columns == refresh.columns, *generation == h.generation) {
-                        (false, _) => "refresh: an index of other columns",
-                        (_, false) => "refresh: an index of an earlier generation",
-                        _ if *rows == h.rows => "refresh: an index of this version",
-                        _ => "refresh: an index that catches up",
+                        (false, _) => Case::RefreshIndexOtherColumns,
+                        (_, false) => Case::RefreshIndexEarlier,
+                        _ if *rows == h.rows => Case::RefreshIndexOfVersion,
+                        _ => Case::RefreshIndexBehind,
                     },
                 );
                 if matches!(refresh.index.before, Before::Copy(_)) {
-                    seen.push("refresh: a copy of an index store");
+                    seen.push(Case::RefreshIndexCopy);
                 }
             }
             Origin::Foreign(_) => {}
@@ -285,29 +217,29 @@ impl Mentioned {
     }
 
     /// By the unsound index store, and what it leaves out.
-    fn fed(&self, answer: &Answer, origin: &Origin) -> Vec<&'static str> {
+    fn fed(&self, answer: &Answer, origin: &Origin) -> Vec<Case> {
         let Origin::Foreign(foreign) = origin else {
             return Vec::new();
         };
         let Answer::Refreshed(yes, rows) = answer else {
-            return vec!["refresh: unsound, refused"];
+            return vec![Case::UnsoundRefused];
         };
         let mut seen = vec![match foreign {
-            Foreign::Filled => UNSOUND[0],
-            Foreign::Changed => UNSOUND[1],
-            Foreign::OfAnotherTable => UNSOUND[2],
+            Foreign::Filled => Case::UnsoundFilled,
+            Foreign::Changed => Case::UnsoundChanged,
+            Foreign::OfAnotherTable => Case::UnsoundOtherTable,
         }];
         if rows.len() < self.all.len() {
-            seen.push("refresh: unsound, rows are left out");
+            seen.push(Case::UnsoundRowsLeftOut);
         } else if *yes {
-            seen.push("refresh: unsound, all rows are staged");
+            seen.push(Case::UnsoundAllStaged);
         }
         seen
     }
 }
 
-/// The names of those that are so.
-fn seen(cases: &[(bool, &'static str)]) -> Vec<&'static str> {
+/// The cases whose condition is true.
+fn reached(cases: &[(bool, Case)]) -> Vec<Case> {
     let so = cases.iter().filter(|(is_so, _)| *is_so);
-    so.map(|(_, name)| *name).collect()
+    so.map(|(_, case)| *case).collect()
 }

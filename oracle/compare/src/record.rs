@@ -2,7 +2,7 @@
 //! them without Rust. Both implementations answer while it is made and whenever it is replayed.
 
 use crate::compare::{Pair, Subject};
-use crate::counts::{AGAIN, Counts, PRECEDENCE};
+use crate::counts::Counts;
 use crate::generate::{Manner, history};
 use crate::history::{Act, Step, needed};
 use crate::text::{answer_line, parse, step_line};
@@ -234,11 +234,6 @@ impl<'a, T: Implementation> List<'a, T> {
     }
 }
 
-/// What the list must show: all but the refusals for short stores, and checks of precedence.
-fn missing(counts: &Counts) -> Vec<String> {
-    counts.missing(PRECEDENCE, &[], |number| number != 2 && number != AGAIN)
-}
-
 /// A table of three rows, and each refusal that has nothing to do with the lengths of stores.
 const REFUSALS: [&str; 45] = [
     "O,3,1,2,1,8,0",
@@ -358,7 +353,7 @@ pub fn record<T: Implementation>(subject: &Subject<T>, seed: u64) -> Result<Vec<
         }
         number = number.wrapping_add(1);
     }
-    match missing(&list.counts).as_slice() {
+    match list.counts.missed_by_record().as_slice() {
         [] => Ok(list.lines),
         missing => Err(format!("the list does not show: {missing:?}")),
     }
@@ -389,7 +384,7 @@ pub fn replay<T: Implementation>(subject: &Subject<T>, text: &str) -> Result<Rep
             ));
         }
     }
-    match missing(&list.counts).as_slice() {
+    match list.counts.missed_by_record().as_slice() {
         [] => Ok(Replayed {
             answers: lines.len() / 2,
             compared: list.counts.compared(),

@@ -1,12 +1,12 @@
 //! Runs over many histories, on as many threads as there are cores, two at most.
 
+use crate::cases::Case;
 use crate::compare::{Difference, Subject, compare};
 use crate::counts::Counts;
 use crate::full;
 use crate::generate::{ANY, history};
 use crate::history::Step;
 use crate::known;
-use crate::mentioned;
 use crate::sequences;
 use crate::short::{families, small_queries};
 use crate::shrink::{lines, shrink};
@@ -54,10 +54,12 @@ pub fn gate<T: Implementation>(rust: &Subject<T>) -> Result<(), String> {
 /// Histories against the proved table: every answer, refusals and stops too, and every cell of its stores.
 pub fn gate_library<T: Implementation>(library: &Subject<T>) -> Result<Vec<String>, String> {
     let counts = histories(library, LIBRARY_COUNT)?;
-    let unsound: u64 = mentioned::UNSOUND
-        .iter()
-        .map(|name| counts.times(name))
-        .sum();
+    let unsound = [
+        Case::UnsoundFilled,
+        Case::UnsoundChanged,
+        Case::UnsoundOtherTable,
+    ];
+    let unsound: u64 = unsound.map(|case| counts.times(case)).iter().sum();
     Ok(vec![
         format!(
             "tables: {} random histories, {} short ones, {} of full size, {} answers",
@@ -68,9 +70,9 @@ pub fn gate_library<T: Implementation>(library: &Subject<T>) -> Result<Vec<Strin
         ),
         format!(
             "refreshes: yes {}, no {}; {unsound} of them over unsound index stores, of which {} leave rows out",
-            counts.times("refresh: yes"),
-            counts.times("refresh: no"),
-            counts.times("refresh: unsound, rows are left out"),
+            counts.times(Case::RefreshYes),
+            counts.times(Case::RefreshNo),
+            counts.times(Case::UnsoundRowsLeftOut),
         ),
     ])
 }
@@ -79,10 +81,10 @@ pub fn gate_library<T: Implementation>(library: &Subject<T>) -> Result<Vec<Strin
 pub fn every_sequence<T: Implementation>(subject: &Subject<T>) -> Result<Counts, String> {
     let mut counts = Counts::default();
     in_parts(subject, &mut counts, &sequence_part)?;
-    let wrong = ["merge: compacts by itself", "merge: stop 8"];
-    match wrong.iter().find(|name| counts.times(name) > 0) {
+    let wrong = [Case::MergeCompacts, Case::MergeStop8];
+    match wrong.into_iter().find(|&case| counts.times(case) > 0) {
         None => Ok(counts),
-        Some(name) => Err(format!("a short history that should not: {name}")),
+        Some(case) => Err(format!("a short history that should not: {}", case.name())),
     }
 }
 

@@ -238,19 +238,19 @@ fn a_gate_that_never_compared() {
     let counts = Counts::default();
     let missed = counts.missed_by_gate(true);
     for line in [
-        "open: never compared, accepted",
-        "merge: never compared, refused 2",
-        "refine by one: never compared, refused 2 again",
-        "refine by a list: never compared, refused 6",
-        "any match: never compared, refused 5",
-        "page: never compared, refused 2 again",
+        "never compared: open: accepted",
+        "never compared: merge: refused 2",
+        "never compared: refine by one: refused 2 again",
+        "never compared: refine by a list: refused 6",
+        "never compared: any match: refused 5",
+        "never compared: page: refused 2 again",
         "page: n above 2^32",
-        "intersect: never compared, refused 4",
+        "never compared: intersect: refused 4",
         "full size: stop 8",
-        "precedence: refused 14 only 0 times",
-        "refresh: refused 12 only 0 times",
-        "refresh: refused 2 again only 0 times",
-        "refresh: never compared, refused 7",
+        "precedence: refused 14: only 0 times",
+        "refresh: refused 12: only 0 times",
+        "refresh: refused 2 again: only 0 times",
+        "never compared: refresh: refused 7",
         "refresh: yes: only 0 times",
         "refresh: unsound, rows are left out",
     ] {
@@ -261,12 +261,12 @@ fn a_gate_that_never_compared() {
     assert!(
         missed
             .iter()
-            .any(|it| it == "page: never compared, accepted")
+            .any(|it| it == "never compared: page: accepted")
     );
     assert!(
         !missed
             .iter()
-            .any(|it| it == "merge: never compared, refused 2")
+            .any(|it| it == "never compared: merge: refused 2")
     );
     assert!(missed.iter().any(|it| it == "ended: stop 8"));
 }
