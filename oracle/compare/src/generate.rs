@@ -281,7 +281,7 @@ impl Writer {
             capacity: capacity.min(self.manner.greatest_capacity),
             generation: match self.rng.below(10) {
                 0..=5 => 0,
-                6 | 7 => self.rng.next() as u32,
+                6 | 7 => self.rng.next_u64() as u32,
                 _ => u32::MAX - self.rng.below(4),
             },
         }
@@ -554,7 +554,7 @@ impl Writer {
         let wide = self.rng.percent(30);
         let cell = |rng: &mut Rng| match rng.below(20) {
             0 => rng.pick(&EDGES),
-            _ if wide => rng.next() as u32,
+            _ if wide => rng.next_u64() as u32,
             _ => rng.below(12),
         };
         (0..self.opening.keys)
@@ -631,7 +631,7 @@ impl Writer {
         for _ in 0..count {
             let mut cells = self.new_key();
             if self.rng.percent(95) {
-                cells[0] = self.rng.next() as u32;
+                cells[0] = self.rng.next_u64() as u32;
             }
             while cells.len() < self.opening.columns as usize {
                 let cell = self.other_cell();

@@ -25,7 +25,7 @@ fn shared_hash<T: Implementation>(subject: &Subject<T>) -> Result<String, String
     let mut rng = Rng::new(0);
     let mut seen = HashMap::new();
     let pair = (0..1_000_000).find_map(|_| {
-        let key = rng.next() as u32;
+        let key = rng.next_u64() as u32;
         let earlier = seen.insert((subject.key_hash)(&[key]), key);
         earlier
             .filter(|&earlier| earlier != key)

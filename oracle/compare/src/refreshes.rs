@@ -55,7 +55,7 @@ fn values(w: &mut Writer, columns: &[u32]) -> Vec<u32> {
     let mut values: Vec<u32> = (0..count).map(|_| value(w, columns)).collect();
     if w.manner.loose && w.rng.below(40) == 0 {
         let many = w.rng.pick(&[1, 2]) * AT_ONCE + w.rng.place(3) - count.min(2);
-        let others: Vec<u32> = (0..many).map(|_| w.rng.next() as u32).collect();
+        let others: Vec<u32> = (0..many).map(|_| w.rng.next_u64() as u32).collect();
         let place = w.rng.place(count + 1);
         values.splice(place..place, others);
     }
@@ -96,7 +96,7 @@ fn before(w: &mut Writer, store: usize, needed: usize) -> Before {
     match w.rng.below(40) {
         0 | 1 => Before::Renew,
         2..=5 => Before::Copy(w.rng.place(INDEX_STORES)),
-        6 | 7 => Before::Fill(w.rng.next() as u32),
+        6 | 7 => Before::Fill(w.rng.next_u64() as u32),
         8..=10 => change(w, needed),
         11..=25 if matches!(w.origins.of(store), Origin::Foreign(_)) => Before::Renew,
         _ => Before::Nothing,

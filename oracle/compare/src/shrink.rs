@@ -150,7 +150,7 @@ fn without_column(act: &Act, column: u32, keys: &mut Option<u32>) -> Act {
         | Act::Query(Query::Lookup(key) | Query::Cell(key, _))
             if keys.is_some_and(|keys| column < keys) =>
         {
-            drop_cell(key)
+            drop_cell(key);
         }
         Act::Call(Call::Refresh(refresh)) => {
             for named in &mut refresh.columns {

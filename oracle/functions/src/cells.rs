@@ -15,7 +15,7 @@ fn edges() -> Vec<u64> {
 fn numbers(count: usize) -> Vec<u64> {
     let mut rng = Rng::new(1);
     let mut all = edges();
-    all.extend(std::iter::repeat_with(|| rng.next()).take(count));
+    all.extend(std::iter::repeat_with(|| rng.next_u64()).take(count));
     all
 }
 
@@ -73,7 +73,7 @@ fn probes(keys: &[Vec<u32>]) -> f64 {
     let mut taken = vec![false; slots];
     let mut looked = 0usize;
     for key in keys {
-        let mut at = (u64::from(compact_hash(key)) * slots as u64 >> 32) as usize;
+        let mut at = ((u64::from(compact_hash(key)) * slots as u64) >> 32) as usize;
         looked += 1;
         while taken[at] {
             at = (at + 1) % slots;

@@ -11,10 +11,13 @@ const LEAST: u64 = 1_000;
 /// Words before and behind an output.
 const GUARD: usize = 4;
 
+/// A function of the library: width, cells, output.
+type Rearrange = fn(u32, &[u32], &mut [u32]) -> Result<(), Refusal>;
+
 /// One direction: its name, the library's, the reference model's.
 struct Way {
     name: &'static str,
-    ours: fn(u32, &[u32], &mut [u32]) -> Result<(), Refusal>,
+    ours: Rearrange,
     reference: fn(u32, &[u32]) -> Vec<u32>,
 }
 
@@ -54,7 +57,7 @@ fn cells(rng: &mut Rng, length: usize) -> Vec<u32> {
             0 => rng.number(),
             1 => last.wrapping_add(rng.below(3)),
             2 => rng.pick(&[0, 1, u32::MAX]),
-            _ => rng.next() as u32,
+            _ => rng.next_u64() as u32,
         };
         last
     };
@@ -70,7 +73,9 @@ fn call(
     rng: &mut Rng,
     counts: &mut Counts,
 ) -> Result<Option<Vec<u32>>, String> {
-    let before: Vec<u32> = (0..length + 2 * GUARD).map(|_| rng.next() as u32).collect();
+    let before: Vec<u32> = (0..length + 2 * GUARD)
+        .map(|_| rng.next_u64() as u32)
+        .collect();
     let mut words = before.clone();
     let answer = (way.ours)(width, cells, &mut words[GUARD..GUARD + length]);
     let mut expected = before;

@@ -205,7 +205,7 @@ impl Comparison {
         let target = listing.and_then(|it| listings::moved(form, &it));
         let bytes = target.map_or(text.len(), |it| it.len());
         for length in lengths(rng, bytes) {
-            let Some(there) = self.moved(form, text, length, rng.next() as u8)? else {
+            let Some(there) = self.moved(form, text, length, rng.next_u64() as u8)? else {
                 continue;
             };
             let back = self.moved(other(form), &there, text.len(), 0)?;

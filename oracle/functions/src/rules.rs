@@ -87,9 +87,9 @@ pub fn merge_rules() -> Result<String, String> {
             ));
         }
         if expected.is_some() {
-            made += 1
+            made += 1;
         } else {
-            kept += 1
+            kept += 1;
         }
         let other_sign = |c: usize| c != sort as usize && (old[c] ^ new[c]) >> 31 == 1;
         signs += u64::from(rule >= 2 && (keys..width).any(other_sign));
@@ -108,7 +108,7 @@ pub fn ranks() -> Result<String, String> {
     let mut ranked = 0u64;
     for _ in 0..3_000 {
         let base = rng.below(65_000);
-        let word = rng.next() & rng.next() | (1 << rng.below(64));
+        let word = rng.next_u64() & rng.next_u64() | (1 << rng.below(64));
         let mut before = base;
         for bit in 0..64 {
             if single_parts::rank(word, base, bit) != before {

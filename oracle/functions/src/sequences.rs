@@ -58,7 +58,7 @@ impl Comparison {
 
     /// An output of this length, and what must be there after an accepted call.
     fn output(&mut self, length: usize, written: &[u32]) -> (Vec<u32>, Vec<u32>) {
-        let before: Vec<u32> = (0..length).map(|_| self.rng.next() as u32).collect();
+        let before: Vec<u32> = (0..length).map(|_| self.rng.next_u64() as u32).collect();
         let mut after = before.clone();
         if let Some(front) = after.get_mut(..written.len()) {
             front.copy_from_slice(written);
@@ -126,7 +126,7 @@ impl Comparison {
             self.position(&sequence, 0)?;
             self.next(&sequence, 0, output)?;
             let past = self.sequences.len() as u32 + number as u32;
-            for position in [past, u32::MAX - number as u32, self.rng.next() as u32] {
+            for position in [past, u32::MAX - number as u32, self.rng.next_u64() as u32] {
                 self.sequence(position, output)?;
             }
         }

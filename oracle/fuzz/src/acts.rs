@@ -194,8 +194,8 @@ fn page(rng: &mut Rng, stores: &Stores) -> Query {
         0 => 0,
         1 => remains as u64,
         2 => remains as u64 + 1,
-        3 => u64::MAX - rng.next() % 3,
-        4 => (1 << 32) + rng.next() % 3,
+        3 => u64::MAX - rng.next_u64() % 3,
+        4 => (1 << 32) + rng.next_u64() % 3,
         _ => rng.below(remains as u32 + 1).into(),
     };
     let needed = remains.min(n as usize);

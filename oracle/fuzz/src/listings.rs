@@ -52,7 +52,7 @@ pub fn text(rng: &mut Rng, form: Form) -> Vec<u8> {
             let at = rng.place(text.len());
             match rng.below(4) {
                 0 => text[at] = rng.pick(bytes),
-                1 => text[at] = rng.next() as u8,
+                1 => text[at] = rng.next_u64() as u8,
                 2 => text.insert(at, rng.pick(bytes)),
                 _ => text.truncate(at + 1),
             }
@@ -114,7 +114,7 @@ fn written(session: &mut Session, rng: &mut Rng, form: Form) -> Result<(), Strin
     let tested = reference::test_listing(&h, &stores.lengths());
     let listed = tested.map(|()| listings::text(form, &listings::of_table(form, &h, &stores.rows)));
     let bytes = listed.as_ref().map_or(20, Vec::len);
-    let output = vec![rng.next() as u8; length(rng, bytes)];
+    let output = vec![rng.next_u64() as u8; length(rng, bytes)];
     let words = vec![rng.number(); 2];
     let must = listed.and_then(|it| listings::fits(it, output.len()));
     let numbered = match form {
@@ -185,7 +185,7 @@ fn moved(session: &mut Session, rng: &mut Rng, form: Form, text: &[u8]) -> Resul
     };
     let target = listings::read(form, text).and_then(|it| listings::moved(form, &it));
     let bytes = target.as_ref().map_or(text.len(), Vec::len);
-    let output = vec![rng.next() as u8; length(rng, bytes)];
+    let output = vec![rng.next_u64() as u8; length(rng, bytes)];
     // Words of 64 bits, each as two.
     let words = vec![rng.number(); 2];
     let must = target.and_then(|it| listings::fits(it, output.len()));

@@ -43,14 +43,13 @@ pub fn stores(rng: &mut Rng) -> Stores {
     stores
 }
 
-/// The image's numbers, one of them anything now and then.
+/// The header's numbers, one of them arbitrary now and then.
 fn numbers(rng: &mut Rng, stores: &Stores) -> Header {
-    let mut words = stores.header.clone();
+    let mut words = stores.header;
     if rng.percent(30) {
         let place = rng.place(words.len());
         words[place] = fuzz_number(rng, &stores.header);
     }
-    let words = words.try_into().expect("a header's words");
     Header::from_words(&words)
 }
 
@@ -64,7 +63,7 @@ fn part(rng: &mut Rng, store: &[u32], most: usize) -> Vec<u32> {
 /// A place in a store, or any number.
 fn place(rng: &mut Rng, store: &[u32]) -> usize {
     match rng.below(8) {
-        0 => rng.next() as usize,
+        0 => rng.next_u64() as usize,
         1 => usize::MAX - rng.place(3),
         2..=5 => 0,
         _ => rng.place(store.len() + 2),
@@ -91,8 +90,8 @@ fn single(session: &mut Session, rng: &mut Rng, stores: &Stores, h: &Header) -> 
 
 fn hashes(session: &mut Session, rng: &mut Rng, stores: &Stores, h: &Header) -> Result<(), String> {
     let number = fuzz_number(rng, &stores.header);
-    let full = (u64::from(number) << rng.below(33)) ^ (rng.next() >> rng.within(0, 63));
-    let compact = |full: u64| ((full >> 57) << 25 | full % (1 << 25)) as u32;
+    let full = (u64::from(number) << rng.below(33)) ^ (rng.next_u64() >> rng.within(0, 63));
+    let compact = |full: u64| (((full >> 57) << 25) | (full % (1 << 25))) as u32;
     let name = match rng.below(5) {
         0 => {
             watch::call("mouldgrey_is_stale");
@@ -201,7 +200,7 @@ fn rules(session: &mut Session, rng: &mut Rng, stores: &Stores, h: &Header) -> R
         _ => {
             let width = match rng.percent(80) {
                 true => rng.place(old.len().min(new.len()).min(out.len()) + 1),
-                false => rng.next() as usize,
+                false => rng.next_u64() as usize,
             };
             let (from, new_from) = (place(rng, &old), place(rng, &new));
             let lent = session.write(rng, Slot::Output, &out);
@@ -225,7 +224,7 @@ fn rules(session: &mut Session, rng: &mut Rng, stores: &Stores, h: &Header) -> R
 }
 
 fn rank(session: &mut Session, rng: &mut Rng) -> Result<(), String> {
-    let live = rng.next() & rng.next();
+    let live = rng.next_u64() & rng.next_u64();
     let base = match rng.percent(70) {
         true => rng.below(65_537),
         false => rng.number(),

@@ -56,7 +56,7 @@ pub fn fuzz_number(rng: &mut Rng, header: &[u32]) -> u32 {
             near.wrapping_add(rng.below(3)).wrapping_sub(1)
         }
         6 => rng.below(12),
-        _ => rng.next() as u32,
+        _ => rng.next_u64() as u32,
     }
 }
 
@@ -192,7 +192,7 @@ impl Stores {
 
     /// Makes one store shorter or longer than it was.
     pub fn resize(&mut self, rng: &mut Rng) {
-        let word = rng.next() as u32;
+        let word = rng.next_u64() as u32;
         let (store, unit) = match rng.below(8) {
             0 | 1 => (&mut self.rows, 1),
             2 => (&mut self.keys, 1),
@@ -220,7 +220,7 @@ impl Stores {
         let any = |rng: &mut Rng| match manner {
             0 => 0,
             1 => DEAD,
-            2 => rng.next() as u32,
+            2 => rng.next_u64() as u32,
             _ => fuzz_number(rng, &header),
         };
         for store in [&mut self.rows, &mut self.live, &mut self.base] {
@@ -264,7 +264,7 @@ impl Stores {
             self.keys[at] = match (rng.below(10), cells) {
                 _ if rng.percent(free) => 0,
                 (0, _) | (_, None) => fuzz_number(rng, header),
-                (1, _) => rng.next() as u32 & !0x1_ffff | (row as u32 + 1),
+                (1, _) => rng.next_u64() as u32 & !0x1_ffff | (row as u32 + 1),
                 (_, Some(key)) => (reference::key_hash(key) & 0x7fff) << 17 | (row as u32 + 1),
             };
         }

@@ -54,7 +54,7 @@ fn sound(session: &mut Session, rng: &mut Rng) -> Result<Stores, String> {
         false => Vec::new(),
     };
     let pending = rng.pick(&[0, 11, 40, 120]);
-    let filler = rng.next() as u32;
+    let filler = rng.next_u64() as u32;
     let mut stores = Stores::sized(rng, &unopened(&opening), pending, filler);
     stores = session.perform_whole(rng, &stores, &Act::Call(Call::Open(opening)))?;
     for round in 0..=rng.below(5) {
@@ -79,7 +79,7 @@ fn grown(session: &mut Session, rng: &mut Rng) -> Result<Stores, String> {
     let mut opening = good_opening(rng);
     opening.capacity = rng.within(130, 160);
     let pending = 150 * (opening.columns as usize + 2);
-    let filler = rng.next() as u32;
+    let filler = rng.next_u64() as u32;
     let mut stores = Stores::sized(rng, &unopened(&opening), pending, filler);
     stores = session.perform_whole(rng, &stores, &Act::Call(Call::Open(opening)))?;
     let keys: Vec<Vec<u32>> = (0..140)

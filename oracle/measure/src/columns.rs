@@ -49,10 +49,13 @@ fn from_by_rows(width: usize, cells: &[u32], output: &mut [u32]) {
     }
 }
 
+/// A function of the library: width, cells, output.
+type Rearrange = fn(u32, &[u32], &mut [u32]) -> Result<(), Refusal>;
+
 /// A direction: the library's, and the two loops.
 struct Way {
     name: &'static str,
-    ours: fn(u32, &[u32], &mut [u32]) -> Result<(), Refusal>,
+    ours: Rearrange,
     by_columns: fn(usize, &[u32], &mut [u32]),
     by_rows: fn(usize, &[u32], &mut [u32]),
 }

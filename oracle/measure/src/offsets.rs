@@ -123,7 +123,7 @@ fn by_chance(report: &mut Report) {
     let (long, few, hundredth) = (some(60_000, 120_000), some(6, 120_000), some(600, 120_000));
     let half = some(30_000, 60_000);
     let mut row = |name: &str, first: &Subset, second: &Subset| {
-        pair(report, &format!("random ids, {name}"), first, second)
+        pair(report, &format!("random ids, {name}"), first, second);
     };
     row("16 and 16", &some(16, 48), &some(16, 32));
     row("60,000 and 40,000", &long, &some(40_000, 120_000));

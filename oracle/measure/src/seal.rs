@@ -61,7 +61,7 @@ impl Table {
             &mut self.live,
             &mut self.base,
         )
-        .expect("the stores are long enough")
+        .expect("the stores are long enough");
     }
 
     fn compact_rust(&mut self) {

@@ -101,7 +101,7 @@ impl Both {
             name,
             rows as usize,
             (&self.ours, |table: &mut Table| {
-                calls.iter().for_each(|call| play(table, call))
+                calls.iter().for_each(|call| play(table, call));
             }),
             (&self.theirs, |table: &mut RustTable| {
                 for call in calls {
@@ -127,7 +127,7 @@ fn stagings(report: &mut Report) {
 
 fn merges(report: &mut Report) {
     let mut merge = |name: &str, rows: u32, before: Both| {
-        before.once(report, &format!("merge: {name}"), rows, &[Call::Merge])
+        before.once(report, &format!("merge: {name}"), rows, &[Call::Merge]);
     };
     let new = Both::opened(4, 60_000).staged(inserts(60_000, 4, 1));
     merge("60,000 new keys, each", 60_000, new);

@@ -7,7 +7,7 @@ impl Rng {
         Rng(seed)
     }
 
-    pub fn next(&mut self) -> u64 {
+    pub fn next_u64(&mut self) -> u64 {
         self.0 = self.0.wrapping_add(0x9e37_79b9_7f4a_7c15);
         let mut z = self.0;
         z = (z ^ (z >> 30)).wrapping_mul(0xbf58_476d_1ce4_e5b9);
@@ -17,7 +17,7 @@ impl Rng {
 
     /// A number below `n`; 0 if there is none.
     pub fn below(&mut self, n: u32) -> u32 {
-        (self.next() % u64::from(n.max(1))) as u32
+        (self.next_u64() % u64::from(n.max(1))) as u32
     }
 
     /// A place in something of this length; 0 if it is empty.
@@ -45,7 +45,7 @@ impl Rng {
             0 => self.below(4),
             1 => u32::MAX - self.below(3),
             2 => (1u32 << self.below(32)).wrapping_sub(self.below(2)),
-            _ => self.next() as u32,
+            _ => self.next_u64() as u32,
         }
     }
 }

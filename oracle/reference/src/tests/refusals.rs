@@ -147,7 +147,7 @@ fn before_an_opening() {
         Call::Merge,
         Call::Compact,
         Call::Clear,
-        Call::Refresh(super::refreshes::of(&[], &[], 0)),
+        Call::Refresh(refreshes::of(&[], &[], 0)),
     ] {
         assert_eq!(call(&mut table, LENT, refused_call), refused(1));
     }
