@@ -252,7 +252,7 @@ fn indexes_that_are_kept() {
     ValueIndex::new().forget();
 }
 
-/// The cases of docs/DIFFERENCES.md in which a merge loses rows behind a refresh that said yes, and an index of another table
+/// The cases of docs/DIFFERENCES.md in which a merge loses rows behind a refresh that returned yes, and an index of another table
 /// leaves one out.
 #[test]
 fn refreshed_rows_that_are_lost() {
@@ -319,7 +319,7 @@ fn refreshed_rows_that_are_lost() {
 }
 
 #[test]
-fn questions() {
+fn queries() {
     let table = twenty();
     assert_eq!(table.get_row_column(&[7], 1), Ok(Some(1)));
     assert_eq!(table.get_row_column(&[7], 3), Err(Refusal::NoSuchColumn));

@@ -11,7 +11,7 @@ pub data Check : Type 0 where
 -- the number of the first check that applies, 0 if none does
 unfoldable pub firstRefusal : List Check → ℕ
 firstRefusal [] = 0
-firstRefusal (check applies number ∷ rungs) = cond applies number (firstRefusal rungs)
+firstRefusal (check applies number ∷ checks) = cond applies number (firstRefusal checks)
 
 -- the reply of an operation: the number of its refusal, or a value
 pub data Reply (A : Type 0) : Type 0 where

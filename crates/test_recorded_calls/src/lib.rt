@@ -11,7 +11,7 @@ use table::TableAnswer;
 
 pub mod lines; // lines.rt: the lines of the list
 pub mod lookups; // lookups.rt: its lookups, ranges and versions
-pub mod queries; // queries.rt: its questions
+pub mod queries; // queries.rt: its queries
 
 fn answer_table(h: Header, answer: TableAnswer) -> Answer {
     match answer {

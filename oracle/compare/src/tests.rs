@@ -214,7 +214,7 @@ fn origins_of_index_stores() {
 }
 
 #[test]
-fn a_run_tells_the_smallest_history() {
+fn a_run_prints_the_smallest_history() {
     let report = run(&subject(|| faulty(Fault::LateNone)), 2000, 0).expect_err("a difference");
     let lines: Vec<&str> = report.lines().collect();
     assert!(

@@ -78,8 +78,8 @@ answered-fits zero (range a b) output answer output′ m fit k e =
     absurd (let f = rw e at (m .answers) in let z : _≡_ {A = ℕ} 0 1 = cc in omega arith)
 answered-fits zero (list ids) output answer output′ m fit k e =
     let f = rw e at (m .answers) in
-    let told : take k output′ ≡ ids = cc in
-    omega (arith, fit refl, ap length told, length-take k output′, m .inside k e)
+    let ids-are : take k output′ ≡ ids = cc in
+    omega (arith, fit refl, ap length ids-are, length-take k output′, m .inside k e)
 answered-fits (suc n) v output answer output′ m fit k e =
     absurd (let f = rw e at (m .answers) in let z : _≡_ {A = ℕ} 0 1 = cc in omega arith)
 

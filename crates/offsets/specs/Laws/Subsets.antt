@@ -268,8 +268,8 @@ read-same (Range start end) (Ids n) output e f g = cc
 read-same (Ids n) (Refused m) output e f g = cc
 read-same (Ids n) (Range start end) output e f g = cc
 read-same (Ids n) (Ids m) output e f g =
-    let told : take n output ≡ take m output = cc in
-    ap (λ (k : ℕ). Ids k) (omega (arith, ap length told, length-take n output, length-take m output, f n refl, g m refl))
+    let ids-are : take n output ≡ take m output = cc in
+    ap (λ (k : ℕ). Ids k) (omega (arith, ap length ids-are, length-take n output, length-take m output, f n refl, g m refl))
 
 -- The reply determines the answer and the output: no choice is left. This covers all of *Intersect*, whose reply is
 -- `intersectReply`, and refine.

@@ -14,7 +14,7 @@ fn three_rows_of_two() {
 }
 
 #[test]
-fn the_ladder() {
+fn the_checks_in_order() {
     for (width, cells, output, outcome) in [
         (0, 7, 0, Err(1)),
         (9, 18, 18, Err(1)),
