@@ -76,7 +76,7 @@ range-does {s} {c} {answer} same m =
       stays = λ more. refl;
       result-refused = λ p r more. queries-refused p _ (rangeText (fastSubset (headerOf p) (entryWords (entries p)) c)) n (fast-number r c) more;
       result-done = λ p r zero.
-          rw (queries-done p (cond (known (p .opening .columns) c) 0 6) (rangeText (fastSubset (headerOf p) (entryWords (entries p)) c)) n (fast-number r c) zero, same, responseOf-accepted rangeResponse (rangeView answer) (fastSubset (s .header) (s .sorts) c) (m .table zero (represents-sound r .entries-rise)), ← fast-shown r c)
+          rw (queries-done p (cond (known (p .opening .columns) c) 0 6) (rangeText (fastSubset (headerOf p) (entryWords (entries p)) c)) n (fast-number r c) zero, same, responseOf-accepted rangeResponse (rangeView answer) (fastSubset (s .header) (s .sorts) c) (m .table zero (represents-sound r .contents .entries-rise)), ← fast-shown r c)
           (responds-table (range-response (s .header) (s .rows) (fastSubset (s .header) (s .sorts) c)) r);
     }
 
