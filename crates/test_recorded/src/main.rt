@@ -10,7 +10,7 @@ use table::Header;
 use table::Largest;
 
 mod answers; // answers.rt: answers compared with those of the list
-mod steps; // turns.rt: a line and its answer
+mod steps; // steps.rt: a line and its answer
 
 // The header before the first opening. Every operation refuses it.
 fn no_table() -> Header {

@@ -3,8 +3,8 @@ use native.Mathlib.Omega.{arith}
 use Rattle.levels_text.specs.inner.Appending.{appended-wrote}
 use Rattle.levels_answer.specs.inner.Encoded.{encodes-nothing, encodes-refused, encodes-merged, encodes-none, encodes-range, encodes-version, encodes-listing}
 use borrow.Author.Needs.{needs}
-use Rattle.levels_answer.proofs.encode.encode-response.Statement.{statement}
-use Rattle.levels_answer.proofs.encode.encode-response.Tie as tie
+use Rattle.levels_answer.proofs.encode.encode_response.Statement.{statement}
+use Rattle.levels_answer.proofs.encode.encode_response.Tie as tie
 
 returns : tie.Need-returns
 returns c = encodes-nothing _ _ _ (c .enum-told .given .1)
