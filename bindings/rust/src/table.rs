@@ -1,8 +1,8 @@
 //! A table that keeps its stores.
 
 use crate::{
-    Call, Condition, DEAD, Error, Header, Lengths, Merged, Opening, Page, Query, Refusal, Subset,
-    SubsetRef, ValueIndex, Version, Written, encode_calls, encode_queries, lent,
+    Call, Condition, DEAD, Error, Header, Lengths, Merge, Merged, Opening, Page, Query, Refusal,
+    Subset, SubsetRef, ValueIndex, Version, Written, encode_calls, encode_queries, lent,
 };
 use std::fmt;
 use std::slice::ChunksExact;
@@ -434,8 +434,28 @@ impl Table {
     /// # }
     /// ```
     pub fn merge(&mut self) -> Result<Merged, Error> {
+        Ok(self.merge_or_stop()?.accepted()?)
+    }
+
+    /// As [`merge`](Table::merge), with a stop as part of the answer and not as an error: what the merge did before the stop is in
+    /// it too. A table's merge is never refused.
+    ///
+    /// ```
+    /// # use mouldgrey::{Opening, Rule, Table};
+    /// # fn main() -> Result<(), mouldgrey::Error> {
+    /// # let opening = Opening { columns: 2, keys: 1, sort: 1, rule: Rule::KeepOld, capacity: 1, generation: 0 };
+    /// # let mut table = Table::new(&opening, 100)?;
+    /// table.stage_insert(&[7, 1])?;
+    /// table.stage_insert(&[8, 1])?;
+    /// let merge = table.merge_or_stop()?;
+    /// assert!(merge.stop.is_some_and(|stop| stop.place == 1));
+    /// assert!(merge.merged.added);
+    /// # Ok(())
+    /// # }
+    /// ```
+    pub fn merge_or_stop(&mut self) -> Result<Merge, Refusal> {
         let s = &mut self.stores;
-        let merge = lent::merge(
+        lent::merge(
             &mut s.header,
             &mut s.rows,
             &mut s.keys,
@@ -443,8 +463,7 @@ impl Table {
             &s.pending,
             &mut self.live,
             &mut self.base,
-        )?;
-        Ok(merge.accepted()?)
+        )
     }
 
     /// Drops the dead rows. Live rows move down and are renumbered in order; the generation rises by one. Refused by 10.
