@@ -9,11 +9,11 @@ use Rattle.replay_run.proofs.execute_query.Tie as tie
 cast-count : tie.Need-cast-count
 cast-count c = search needs
 
-slice-reshare-prefix-put : tie.Need-slice-reshare-prefix-put
-slice-reshare-prefix-put c = search needs
+slice-reshare-prefix-execute : tie.Need-slice-reshare-prefix-execute
+slice-reshare-prefix-execute c = search needs
 
-slice-aggregate-put : tie.Need-slice-aggregate-put
-slice-aggregate-put c = lent-count _ _ (c .before .before .before .before .before .before .before .before .before .before .pre .0)
+slice-aggregate-execute : tie.Need-slice-aggregate-execute
+slice-aggregate-execute c = lent-count _ _ (c .before .before .before .before .before .before .before .before .before .before .pre .0)
 
 execute-requires : tie.Need-execute-requires
 execute-requires c κs = search needs
@@ -27,11 +27,11 @@ same-length-2 c = search needs
 returns : tie.Need-returns
 returns c = execute-first _ (c .before .before .before .before .before .before .before .before .before .before .before .before .before .before .pre .0) (c .before .before .before .before .before .before .before .before .before .before .before .before .before .before .pre .1) (c .before .before .before .before .before .if1 .taken) (c .before .before .execute .ensures)
 
-slice-reshare-prefix-put-2 : tie.Need-slice-reshare-prefix-put-2
-slice-reshare-prefix-put-2 c = search needs
+slice-reshare-prefix-execute-2 : tie.Need-slice-reshare-prefix-execute-2
+slice-reshare-prefix-execute-2 c = search needs
 
-slice-aggregate-put-2 : tie.Need-slice-aggregate-put-2
-slice-aggregate-put-2 c = lent-count _ _ (omega (arith, c .before .before .before .before .before .before .before .before .before .before .before .before .pre .0, c .before .before .before .before .before .before .before .before .before .before .before .before .pre .1))
+slice-aggregate-execute-2 : tie.Need-slice-aggregate-execute-2
+slice-aggregate-execute-2 c = lent-count _ _ (omega (arith, c .before .before .before .before .before .before .before .before .before .before .before .before .pre .0, c .before .before .before .before .before .before .before .before .before .before .before .before .pre .1))
 
 execute-requires-2 : tie.Need-execute-requires-2
 execute-requires-2 c κs = search needs
@@ -59,14 +59,14 @@ execute-query-spec =
     tie.close
     (tie.spec
     cast-count
-    slice-reshare-prefix-put
-    slice-aggregate-put
+    slice-reshare-prefix-execute
+    slice-aggregate-execute
     execute-requires
     same-length
     same-length-2
     returns
-    slice-reshare-prefix-put-2
-    slice-aggregate-put-2
+    slice-reshare-prefix-execute-2
+    slice-aggregate-execute-2
     execute-requires-2
     same-length-3
     same-length-4
