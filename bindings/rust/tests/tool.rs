@@ -5,8 +5,9 @@ mod common;
 use common::{Folder, fed, program};
 use mouldgrey::{Table, check_image, image_text};
 use std::fs;
+use std::io::{BufRead, BufReader, Write};
 use std::path::{Path, PathBuf};
-use std::process::{Command, Output};
+use std::process::{Command, Output, Stdio};
 
 /// Exit status, standard output and standard error.
 fn shown(output: Output) -> (i32, String, String) {
@@ -175,6 +176,29 @@ fn staged_records_are_saved() {
         shown(output).1,
         "M,0,1,0\nT,4,2,3,1,0\nD,7,1,163,12\nD,8,1,1,12\n"
     );
+}
+
+/// A program at the other end of two pipes gets the answer to a line before it sends the next one.
+#[test]
+fn answers_come_line_by_line() {
+    let folder = Folder::new("tool-pipes");
+    let mut apply = program("apply", &folder.path("table.mg"));
+    let apply = apply.stdin(Stdio::piped()).stdout(Stdio::piped());
+    let mut child = apply.spawn().expect("the program runs");
+    let mut input = child.stdin.take().expect("a pipe");
+    let mut output = BufReader::new(child.stdout.take().expect("a pipe"));
+    for (line, expected) in [
+        ("V", "X,1\n"),
+        ("O,1,1,0,0,5,3\nV", "V,3,0\n"),
+        ("M", "M,0,0,0\n"),
+    ] {
+        writeln!(input, "{line}").expect("the program reads");
+        let mut answer = String::new();
+        output.read_line(&mut answer).expect("an answer");
+        assert_eq!(answer, expected);
+    }
+    drop(input);
+    assert!(child.wait().expect("a child").success());
 }
 
 #[test]
