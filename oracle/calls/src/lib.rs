@@ -288,6 +288,12 @@ pub trait Implementation {
     fn query(&self, lent: &Lengths, query: &Query) -> Answer;
     fn contents(&self) -> Contents;
 
+    /// Saves the table as an image, reads it into other stores of the lengths lent, with this capacity, or with 0 its own, and goes on
+    /// there. An implementation without stores has nothing to do.
+    fn reload(&mut self, _lent: &Lengths, _capacity: u32) -> Answer {
+        Answer::Done
+    }
+
     /// The first difference of its header and stores, if it has any, from those expected. `whole`: all of them are compared, else only
     /// what a staging may change.
     fn unlike(&self, _expected: &Expected, _whole: bool) -> Option<String> {

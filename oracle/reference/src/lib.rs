@@ -3,6 +3,7 @@
 
 pub mod answers;
 mod columns;
+pub mod images;
 mod layout;
 pub mod listings;
 mod queries;
@@ -157,6 +158,13 @@ impl Implementation for Reference {
             Call::Compact => self.compact(),
             Call::Clear => self.clear(),
             Call::Refresh(refresh) => self.refresh(lent, refresh),
+        }
+    }
+
+    fn reload(&mut self, lent: &Lengths, capacity: u32) -> Answer {
+        match self.go_on_elsewhere(lent, capacity) {
+            Ok(()) => Answer::Done,
+            Err(number) => Answer::Refused(number),
         }
     }
 

@@ -10,7 +10,7 @@ const LONGEST_LIST: usize = 65_536;
 /// The generation after which there is none.
 pub const LAST_GENERATION: u32 = u32::MAX;
 
-/// Turns a call away by this number when the test fires.
+/// Refuses a call with this number if the test fires.
 pub fn refuse(number: u32, fires: bool) -> Result<(), u32> {
     if fires { Err(number) } else { Ok(()) }
 }
@@ -214,14 +214,14 @@ fn test_opening(o: &Opening) -> Result<(), u32> {
 
 /// Test 1 of a call that is not lent the pending store: also "dead rows or sort entries above the row count, row count above
 /// capacity".
-fn test_header(h: &Header) -> Result<(), u32> {
+pub(crate) fn test_header(h: &Header) -> Result<(), u32> {
     test_opening(&h.opening())?;
     refuse(1, h.dead > h.rows || h.entries > h.rows)?;
     refuse(1, h.rows > h.capacity)
 }
 
 /// Test 1 of a call that is lent the pending store: also "pending words used above the pending store".
-fn test_header_and_pending(h: &Header, lent: &Lengths) -> Result<(), u32> {
+pub(crate) fn test_header_and_pending(h: &Header, lent: &Lengths) -> Result<(), u32> {
     test_header(h)?;
     refuse(1, h.pending as usize > lent.pending)
 }
@@ -241,8 +241,14 @@ fn test_entries(o: &Opening, lent: &Lengths) -> Result<(), u32> {
     refuse(2, lent.sort_entries < 2 * o.capacity as usize)
 }
 
+/// Test 2 on rows and sort entries: an image has no key store.
+pub(crate) fn test_image_rows(o: &Opening, lent: &Lengths) -> Result<(), u32> {
+    test_rows(o, lent)?;
+    test_entries(o, lent)
+}
+
 /// Test 2 on rows, keys and sort entries.
-fn test_stores(o: &Opening, lent: &Lengths) -> Result<(), u32> {
+pub(crate) fn test_stores(o: &Opening, lent: &Lengths) -> Result<(), u32> {
     test_rows(o, lent)?;
     test_keys(o, lent)?;
     test_entries(o, lent)

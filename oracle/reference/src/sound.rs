@@ -11,14 +11,20 @@ use std::collections::BTreeMap;
 /// Whether header and stores are sound; refused by 1 and 2.
 pub fn is_sound(held: &Held) -> Result<bool, u32> {
     test_soundness(&held.header, &lengths(held))?;
+    let h = &held.header;
+    let slots = &held.keys[..slots_in_use(h.capacity, h.rows)];
+    Ok(is_contents_sound(held) && Rows::of(held).keys_lead_to_live_rows(slots))
+}
+
+/// What soundness requires of everything but the key store, of stores that hold the words in use.
+pub(crate) fn is_contents_sound(held: &Held) -> bool {
     let held = &Rows::of(held);
-    Ok(held.counts_the_dead()
+    held.counts_the_dead()
         && held.keys_differ()
         && held.entries_rise()
         && held.sort_cells_are_recorded()
         && held.no_entry_exceeds_the_largest()
-        && held.keys_lead_to_live_rows()
-        && held.records_are_whole())
+        && held.records_are_whole()
 }
 
 fn lengths(held: &Held) -> Lengths {
@@ -37,15 +43,13 @@ fn lengths(held: &Held) -> Lengths {
 struct Rows<'a> {
     header: Header,
     rows: Vec<&'a [u32]>,
-    /// Those in use.
-    slots: &'a [u32],
     /// Value and first row.
     entries: Vec<(u32, u32)>,
     pending: &'a [u32],
 }
 
 impl<'a> Rows<'a> {
-    /// Of stores that passed tests 1 and 2.
+    /// Of a header that passed test 1, and stores that hold the words in use.
     fn of(held: &Held<'a>) -> Rows<'a> {
         let h = held.header;
         let rows = held.rows.chunks(h.columns as usize);
@@ -53,7 +57,6 @@ impl<'a> Rows<'a> {
         Rows {
             header: h,
             rows: rows.take(h.rows as usize).collect(),
-            slots: &held.keys[..slots_in_use(h.capacity, h.rows)],
             entries: entries.take(h.entries as usize).collect(),
             pending: &held.pending[..h.pending as usize],
         }
@@ -116,9 +119,9 @@ impl<'a> Rows<'a> {
 
     /// "The key store leads to exactly the live rows": each slot that is not free holds a live row, of its own, and each live
     /// row is in some slot from its key's home on, going round, with no free slot on the way.
-    fn keys_lead_to_live_rows(&self) -> bool {
+    fn keys_lead_to_live_rows(&self, slots: &[u32]) -> bool {
         let mut slot_of = BTreeMap::new();
-        for (slot, &word) in self.slots.iter().enumerate() {
+        for (slot, &word) in slots.iter().enumerate() {
             if word == 0 {
                 continue;
             }
@@ -131,21 +134,22 @@ impl<'a> Rows<'a> {
             }
         }
         self.live().all(|row| match slot_of.get(&row) {
-            Some(&slot) => self.way_is_taken(home(self.key(row), self.slots.len()), slot),
+            Some(&slot) => is_way_taken(slots, home(self.key(row), slots.len()), slot),
             None => false,
         })
-    }
-
-    fn way_is_taken(&self, home: usize, slot: usize) -> bool {
-        let count = self.slots.len();
-        let way = (slot + count - home) % count;
-        (0..way).all(|step| self.slots[(home + step) % count] != 0)
     }
 
     /// "Pending records are whole."
     fn records_are_whole(&self) -> bool {
         records(&self.header, self.pending).is_some()
     }
+}
+
+/// Whether no slot from a key's home up to this one is free.
+fn is_way_taken(slots: &[u32], home: usize, slot: usize) -> bool {
+    let count = slots.len();
+    let way = (slot + count - home) % count;
+    (0..way).all(|step| slots[(home + step) % count] != 0)
 }
 
 impl Reference {

@@ -3,6 +3,7 @@
 mod answers;
 mod columns;
 mod examples;
+mod images;
 mod precedence;
 mod refreshes;
 mod refusals;
