@@ -65,8 +65,9 @@ const LIBRARY: Subject<LibraryTable> = Subject {
 const BATCHES: u64 = 3_000;
 const BATCH_SEED: u64 = 12;
 
-/// The gate's fuzzed calls, and their seed.
+/// The gate's fuzzed calls, those about images, and their seed.
 const FUZZ_CALLS: u64 = 2_500_000;
+const FUZZED_IMAGES: u64 = 600_000;
 const FUZZ_SEED: u64 = 1;
 
 fn main() -> ExitCode {
@@ -95,7 +96,7 @@ fn command(arguments: &[&str]) -> Result<(), String> {
         }
         ["sequences"] => print(every_sequence()?),
         ["batches", count, seed] => print(vec![batches::gate(number(count)?, number(seed)?)?]),
-        ["fuzz"] => print(fuzz::gate(FUZZ_CALLS, FUZZ_SEED)?),
+        ["fuzz"] => print(fuzz::gate(FUZZ_CALLS, FUZZED_IMAGES, FUZZ_SEED)?),
         ["fuzz", calls, seed] => print(fuzz::run(number(calls)?, number(seed)?)?),
         ["record"] => record(record::SEED),
         ["record", seed] => record(number(seed)?),

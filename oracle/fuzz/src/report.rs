@@ -1,5 +1,6 @@
 //! What a run has reached.
 
+use crate::image_words::Manner;
 use crate::stores::STORES;
 use std::collections::BTreeMap;
 
@@ -7,7 +8,7 @@ use std::collections::BTreeMap;
 /// "does not fit".
 type Kind = (&'static str, &'static [usize]);
 
-pub const SHIPPED: [Kind; 36] = [
+pub const SHIPPED: [Kind; 41] = [
     ("mouldgrey_open_table", &[1, 2]),
     ("mouldgrey_stage_insert", &[1, 3, 7]),
     ("mouldgrey_stage_remove", &[1, 3, 7]),
@@ -44,7 +45,17 @@ pub const SHIPPED: [Kind; 36] = [
     ("mouldgrey_check_answers", &[6, 11]),
     ("mouldgrey_replay", &[1, 2]),
     ("mouldgrey_run_queries", &[]),
+    ("mouldgrey_image_size", &[1, 21]),
+    ("mouldgrey_write_image", &[1, 2, 21]),
+    ("mouldgrey_check_image", &[19, 20]),
+    ("mouldgrey_read_image", &[1, 2, 19, 20]),
+    ("mouldgrey_read_image_text", &[2, 19]),
 ];
+
+/// The functions of images are the last ones of `SHIPPED`. Of these each number must be returned so many times, and words of each
+/// manner must be checked so many times.
+const IMAGES: usize = 36;
+const TIMES: u64 = 1_000;
 
 pub const SINGLE_PARTS: [Kind; 17] = [
     ("mouldgrey_is_stale", &[]),
@@ -75,8 +86,8 @@ pub enum Change {
 /// How often a changed table was found sound, unsound, refused.
 type Soundness = [u64; 3];
 
-/// Places for the numbers 0, accepted, to 18.
-type Outcomes = [u64; 19];
+/// Places for the numbers 0, accepted, to 21.
+type Outcomes = [u64; 22];
 
 #[derive(Default)]
 pub struct Report {
@@ -93,6 +104,8 @@ pub struct Report {
     pub grown: u64,
     /// Changes in tables with slots that are not in use.
     pub spare: u64,
+    /// Checks of images, by the manner of their words: accepted, refused with 19, with 20.
+    images: [[u64; 3]; Manner::ALL.len()],
 }
 
 impl Report {
@@ -108,6 +121,23 @@ impl Report {
             [9, ..] => self.stops[1] += 1,
             _ => {}
         }
+    }
+
+    /// Counts a check of words that were made in this manner.
+    pub fn image(&mut self, manner: Manner, number: u32) {
+        let outcome = match number {
+            0 => 0,
+            19 => 1,
+            _ => 2,
+        };
+        self.images[manner as usize][outcome] += 1;
+    }
+
+    /// Calls of the functions of images.
+    pub fn image_calls(&self) -> u64 {
+        let names = SHIPPED[IMAGES..].iter().map(|(name, _)| name);
+        let outcomes = names.filter_map(|name| self.functions.get(name));
+        outcomes.flatten().sum()
     }
 
     /// Counts a change of a sound table, by what the soundness check returned.
@@ -157,7 +187,36 @@ impl Report {
         ));
         lines.push("two words of a store exchanged, likewise:".to_string());
         lines.extend(soundness_lines(&self.pairs[1..]));
+        lines.push(format!(
+            "{} calls about images; words that were checked:",
+            self.image_calls()
+        ));
+        for (manner, [sound, none, unsound]) in Manner::ALL.iter().zip(self.images) {
+            let name = manner.name();
+            lines.push(format!(
+                "  {name}: accepted {sound}, no image {none}, unsound {unsound}"
+            ));
+        }
         lines
+    }
+
+    /// What was reached too seldom about images.
+    fn seldom(&self) -> Vec<String> {
+        let mut seldom = Vec::new();
+        for (name, refusals) in &SHIPPED[IMAGES..] {
+            let outcomes = self.functions.get(name).copied().unwrap_or_default();
+            for &number in [0].iter().chain(*refusals) {
+                if outcomes[number] < TIMES {
+                    seldom.push(format!("{name}: {number} only {} times", outcomes[number]));
+                }
+            }
+        }
+        for (manner, outcomes) in Manner::ALL.iter().zip(self.images) {
+            if outcomes.iter().sum::<u64>() < TIMES {
+                seldom.push(format!("images {}: {outcomes:?}", manner.name()));
+            }
+        }
+        seldom
     }
 
     /// Functions and refusals that were never reached.
@@ -187,6 +246,7 @@ impl Report {
         if self.stops.contains(&0) {
             missing.push("a stop on sound stores".to_string());
         }
+        missing.extend(self.seldom());
         missing
     }
 }

@@ -33,12 +33,14 @@ pub enum Slot {
     Subset,
     OtherSubset,
     Noted,
+    Image,
 }
 
-const SLOTS: usize = 18;
+const SLOTS: usize = 19;
 
-/// The longest store: an index by three columns of 65,537 rows, and some words more.
-const LONGEST: usize = 9 * 65_537 + 1_024;
+/// The longest store: an image of 65,536 rows of eight columns with as many sort entries, or an index by three columns of 65,537
+/// rows, and some words more.
+const LONGEST: usize = 10 * 65_537 + 8_192;
 
 /// A store as it was lent.
 struct Lent {

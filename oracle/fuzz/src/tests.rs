@@ -2,7 +2,7 @@
 
 use crate::memory::Area;
 use crate::session::{Session, Slot};
-use crate::{gate, giant, run, watch};
+use crate::{IMAGE_SEEDS, gate, giant, run, watch};
 use random::Rng;
 use std::ffi::c_uint;
 use std::process::{Command, Output};
@@ -116,7 +116,8 @@ fn what_is_lent_to_be_read_stays() {
 #[test]
 fn a_short_run() {
     assert!(run(5_000, 3).is_ok());
+    assert!(run(5_000, IMAGE_SEEDS + 3).is_ok());
     // Too short to have seen all.
-    assert!(gate(5_000, 3).is_err());
+    assert!(gate(5_000, 5_000, 3).is_err());
     assert!(giant::pending().is_ok());
 }
