@@ -197,6 +197,15 @@ cases! {
         RefreshMergeStop8 = "refresh: the merge stops with 8",
         RefreshMergeStop9 = "refresh: the merge stops with 9",
         FullRefreshEightColumns = "full size: refresh by eight columns",
+        ReloadSame = "reload: the same capacity",
+        ReloadLarger = "reload: a larger capacity",
+        ReloadSmaller = "reload: a smaller capacity",
+        ReloadExact = "reload: as many rows as the capacity",
+        ReloadEmpty = "reload: without rows",
+        ReloadDeadRows = "reload: dead rows",
+        ReloadStaged = "reload: staged records",
+        ReloadMoreSlots = "reload: other slots in use",
+        FullReload = "full size: reload",
     }
     Often {
         NoteOtherGeneration = "rows since a note: another generation",

@@ -110,6 +110,7 @@ impl<'a, T: Implementation> Pair<'a, T> {
         match &step.act {
             Act::Call(call) => self.call(step, call, counts),
             Act::Query(query) => self.query(step, query, counts),
+            Act::Reload(capacity) => self.reload(step, *capacity, counts),
         }
     }
 
@@ -179,6 +180,37 @@ impl<'a, T: Implementation> Pair<'a, T> {
                 returned.unwrap_or_else(|| guarded(|| self.other.call(&step.lent, &call)));
             agree(&Ok(answer.clone()), &returned)?;
             if self.following && self.seen.rows <= FEW_ROWS {
+                agree(&Ok(self.seen.clone()), &guarded(|| self.other.contents()))?;
+            }
+            self.agree_on_stores(false)?;
+        }
+        Ok(answer)
+    }
+
+    /// Both tables go on in other stores, as they are. An index is of no use to a table of another capacity.
+    fn reload(
+        &mut self,
+        step: &Step,
+        capacity: u32,
+        counts: &mut Counts,
+    ) -> Result<Answer, Unlike> {
+        let before = self.reference.header();
+        let answer = self.reference.reload(&step.lent, capacity);
+        let after = self.reference.header();
+        counts.step(&self.opening, step, &answer);
+        let is_refused = answer != Answer::Done;
+        if !is_refused {
+            counts.reload(&before, &after);
+            self.opening.capacity = after.capacity;
+        }
+        if after.capacity != before.capacity {
+            self.origins.opened();
+        }
+        if self.subject.follows_paper || (self.following && !is_refused) {
+            counts.compared_step(&self.opening, step, &answer);
+            let returned = guarded(|| self.other.reload(&step.lent, capacity));
+            agree(&Ok(answer.clone()), &returned)?;
+            if self.following {
                 agree(&Ok(self.seen.clone()), &guarded(|| self.other.contents()))?;
             }
             self.agree_on_stores(false)?;

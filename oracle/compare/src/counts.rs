@@ -5,7 +5,8 @@ use crate::history::{Act, Step, needed, size};
 use crate::kinds::{ACCEPTED, AGAIN, Kind, Outcomes, outcome_name};
 use crate::mentioned::Mentioned;
 use crate::origins::Origin;
-use calls::{Answer, Call, Contents, DEAD, Opening, Query, Refresh, Subset};
+use calls::{Answer, Call, Contents, DEAD, Header, Opening, Query, Refresh, Subset};
+use std::cmp::Ordering;
 
 const WIDTHS: [Case; 8] = [
     Case::Open1Column,
@@ -323,6 +324,28 @@ impl Counts {
     ) {
         for case in before.cases(step, refresh, answer, index) {
             self.case(case);
+        }
+    }
+
+    /// Counts an accepted reload by the headers before and after it.
+    pub fn reload(&mut self, before: &Header, after: &Header) {
+        self.case(match after.capacity.cmp(&before.capacity) {
+            Ordering::Equal => Case::ReloadSame,
+            Ordering::Greater => Case::ReloadLarger,
+            Ordering::Less => Case::ReloadSmaller,
+        });
+        let slots = |of: &Header| reference::slots_in_use(of.capacity, of.rows);
+        for (is_so, case) in [
+            (after.rows == after.capacity, Case::ReloadExact),
+            (after.rows == 0, Case::ReloadEmpty),
+            (after.dead > 0, Case::ReloadDeadRows),
+            (after.pending > 0, Case::ReloadStaged),
+            (slots(after) != slots(before), Case::ReloadMoreSlots),
+            (after.rows as usize == FULL, Case::FullReload),
+        ] {
+            if is_so {
+                self.case(case);
+            }
         }
     }
 

@@ -71,7 +71,7 @@ pub fn history(number: u64) -> Vec<Step> {
     // Few rows among many slots, some of which meet, are cleared; the last generations are kept for later.
     if number != 2 {
         w.insert(0..FEW);
-        w.merge_and_ask();
+        w.merge_and_query();
         w.call(Call::Clear);
         w.query();
     }
@@ -80,14 +80,15 @@ pub fn history(number: u64) -> Vec<Step> {
         0 => w.insert(0..ROWS),
         _ => {
             w.insert(0..ROWS / 2);
-            w.merge_and_ask();
+            w.merge_and_query();
             w.insert(ROWS / 2..ROWS);
         }
     }
-    w.merge_and_ask();
+    w.merge_and_query();
+    w.reload();
     w.intersect();
     w.kill(number, ROWS / 2);
-    w.merge_and_ask();
+    w.merge_and_query();
     if number == 1 {
         w.call(Call::Compact);
     } else {
@@ -98,25 +99,30 @@ pub fn history(number: u64) -> Vec<Step> {
     w.query();
     // Full again, with other keys; then a row too many behind one that is kept.
     w.insert(ROWS..ROWS + ROWS / 2 + 1);
-    w.merge_and_ask();
+    w.merge_and_query();
     let kept = w.cells(ROWS);
     w.call(Call::Insert(kept));
     w.insert(3 * ROWS..3 * ROWS + 2);
-    w.merge_and_ask();
+    w.merge_and_query();
     w.call(Call::Compact);
     w.call(Call::Clear);
     w.query();
     // A batch of one row too many; then more than half of the table dies, which the merge drops.
     w.insert(0..ROWS + 1);
-    w.merge_and_ask();
+    w.merge_and_query();
     w.kill(number, ROWS / 2 + 1);
-    w.merge_and_ask();
+    w.merge_and_query();
     writer.steps
 }
 
 impl Writer {
     fn call(&mut self, call: Call) {
         let (lent, act) = (self.lent, Act::Call(call));
+        self.steps.push(Step { lent, act });
+    }
+
+    fn reload(&mut self) {
+        let (lent, act) = (self.lent, Act::Reload(0));
         self.steps.push(Step { lent, act });
     }
 
@@ -202,7 +208,7 @@ impl Writer {
         }
     }
 
-    fn merge_and_ask(&mut self) {
+    fn merge_and_query(&mut self) {
         self.call(Call::Merge);
         self.query();
     }

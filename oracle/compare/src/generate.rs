@@ -21,6 +21,8 @@ pub struct Manner {
     pub thorough: bool,
     /// Whether rows are refreshed.
     pub refreshes: bool,
+    /// Whether the table is saved and read into other stores now and then.
+    pub reloads: bool,
 }
 
 pub const ANY: Manner = Manner {
@@ -29,6 +31,7 @@ pub const ANY: Manner = Manner {
     loose: true,
     thorough: false,
     refreshes: true,
+    reloads: true,
 };
 
 /// What sets one history apart from another.
@@ -66,6 +69,8 @@ pub struct Writer {
     pub origins: Origins,
     steps: Vec<Step>,
     rounds: u32,
+    /// Decides on reloads, apart from `rng`: up to its first reload a history is the one without them.
+    reloading: Rng,
 }
 
 /// A history that has so many steps has no further round.
@@ -154,6 +159,7 @@ impl Writer {
             origins: Origins::default(),
             steps: Vec::new(),
             rounds: 0,
+            reloading: Rng::new(!seed),
         }
     }
 
@@ -232,6 +238,11 @@ impl Writer {
         }
         if self.manner.refreshes {
             refreshes::refresh(self);
+        }
+        if self.manner.reloads {
+            let lent = needed(&self.opening, self.flavour.pending);
+            let act = Act::Reload(0);
+            self.steps.push(Step { lent, act });
         }
         for kind in 0..self.kinds() {
             queries::write(self, kind);
@@ -323,6 +334,7 @@ impl Writer {
             }
         }
         self.refresh_perhaps();
+        self.reload_perhaps(2);
         let answer = match self.rng.below(100) {
             0..=81 => self.call(Call::Merge),
             82..=90 => self.call(Call::Compact),
@@ -334,6 +346,9 @@ impl Writer {
             _ if self.manner.refreshes && self.rng.percent(30) => self.open_again(),
             _ => self.open(),
         };
+        if matches!(answer, Answer::Merged { .. }) {
+            self.reload_perhaps(6);
+        }
         // The Rust cannot follow beyond a stop, so most tables are opened anew there.
         if matches!(answer, Answer::Merged { status: 8 | 9, .. }) && self.rng.percent(70) {
             self.open();
@@ -355,6 +370,48 @@ impl Writer {
                 refreshes::refresh(self);
             }
         }
+    }
+
+    /// Saves the table and reads it into other stores, so many times in a hundred: mostly of the same capacity or a larger one, now
+    /// and then of one that is just too small or too large, or into stores that are too short.
+    fn reload_perhaps(&mut self, percent: u32) {
+        if !self.manner.reloads || !self.reloading.percent(percent) {
+            return;
+        }
+        let rng = &mut self.reloading;
+        let (rows, own) = (self.seen.rows, self.opening.capacity);
+        let capacity = match rng.below(20) {
+            0..=6 => 0,
+            7 => own,
+            8..=10 => own + rng.within(1, 3),
+            11..=13 => own + rng.within(1, 200),
+            14 => 2 * own,
+            15 | 16 => rows.max(1),
+            17 => rows.saturating_sub(1),
+            _ => rng.within(rows.max(1), own),
+        };
+        let most = self.manner.greatest_capacity + u32::from(rng.percent(10));
+        let mut numbers = self.opening;
+        numbers.capacity = match capacity.min(most) {
+            0 => own,
+            capacity => capacity,
+        };
+        let mut lent = needed(&numbers, self.flavour.pending);
+        match rng.below(40) {
+            0 => lent.rows -= 1,
+            1 => lent.keys -= 1,
+            2 => lent.sort_entries -= 1,
+            3 => lent.pending = rng.place(lent.pending.min(60)),
+            _ => {}
+        }
+        let act = Act::Reload(capacity.min(most));
+        if self.scout.reload(&lent, capacity.min(most)) == Answer::Done {
+            if numbers.capacity != own {
+                self.origins.opened();
+            }
+            self.opening = numbers;
+        }
+        self.steps.push(Step { lent, act });
     }
 
     /// Another table with the same numbers, so that index stores may pass for its own.

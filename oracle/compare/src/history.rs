@@ -12,6 +12,8 @@ pub struct Step {
 pub enum Act {
     Call(Call),
     Query(Query),
+    /// The table is saved as an image and goes on in other stores, with this capacity, or with 0 its own.
+    Reload(u32),
 }
 
 /// Stores exactly as long as the opening's numbers require; an index store for eight columns.

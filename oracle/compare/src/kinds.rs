@@ -46,6 +46,7 @@ kinds! {
     Compact = "compact", [1, 2, 10];
     Clear = "clear", [1, 2, 10];
     Refresh = "refresh", [1, 2, 12, 6, AGAIN, 9, 7];
+    Reload = "reload", [1, 2];
     Lookup = "lookup", [1, 2, 3];
     Cell = "one cell", [1, 2, 3, 6];
     FastRange = "fast range", [1, 2, 6];
@@ -65,6 +66,7 @@ impl Kind {
         match act {
             Act::Call(call) => Kind::of_call(call),
             Act::Query(query) => Kind::of_query(query),
+            Act::Reload(_) => Kind::Reload,
         }
     }
 
@@ -99,12 +101,12 @@ impl Kind {
     }
 
     pub fn is_call(self) -> bool {
-        self <= Kind::Refresh
+        self <= Kind::Reload
     }
 
     /// Whether the recorded list has it.
     pub fn is_recorded(self) -> bool {
-        !matches!(self, Kind::Refresh | Kind::Precedence)
+        !matches!(self, Kind::Refresh | Kind::Reload | Kind::Precedence)
     }
 
     /// Whether a gate's run must reach each of its refusals often.

@@ -24,6 +24,7 @@ const MANNER: Manner = Manner {
     loose: false,
     thorough: true,
     refreshes: false,
+    reloads: false,
 };
 
 /// Made before any opening, so each is refused with 1, save the last.

@@ -3,7 +3,7 @@
 //! The ids left are compared with what the reference model leaves query by query, and, once something refined, with the order's own
 //! sentence.
 
-use crate::generate::{ANY, history};
+use crate::generate::{ANY, Manner, history};
 use crate::history::Act;
 use calls::{
     Answer, Call, Condition, Contents, Implementation, Lengths, Opening, Query, Refresh, Subset,
@@ -15,6 +15,12 @@ use reference::{Reference, index_words};
 
 const GATE_COUNT: u64 = 20_000;
 const GATE_SEED: u64 = 20_260_903;
+
+/// A list has no call that reloads its table.
+const LISTED: Manner = Manner {
+    reloads: false,
+    ..ANY
+};
 
 /// Runs of queries on each table.
 const RUNS: u32 = 4;
@@ -79,14 +85,14 @@ fn compare(count: u64, seed: u64) -> Result<Seen, String> {
 /// The lists of calls of a random history: one for each opening.
 fn lists(seed: u64) -> Vec<List> {
     let mut lists: Vec<List> = Vec::new();
-    for step in history(seed, ANY) {
+    for step in history(seed, LISTED) {
         match step.act {
             Act::Call(Call::Open(opening)) => lists.push(List {
                 opening,
                 lent: step.lent,
                 calls: Vec::new(),
             }),
-            Act::Query(_) => {}
+            Act::Query(_) | Act::Reload(_) => {}
             Act::Call(call) => {
                 if let Some(list) = lists.last_mut() {
                     list.calls.push(call);

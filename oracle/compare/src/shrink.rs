@@ -9,6 +9,7 @@ use calls::{Before, Call, Condition, Lengths, Opening, Query, Refresh, Subset};
 fn ample(history: &[Step]) -> Lengths {
     let capacity = |step: &Step| match &step.act {
         Act::Call(Call::Open(opening)) => opening.capacity.min(65_536),
+        Act::Reload(capacity) => (*capacity).min(65_536),
         _ => 1,
     };
     let largest = Opening {
@@ -54,6 +55,7 @@ fn with_stores(step: &Step, lent: Lengths) -> Step {
     let act = match &step.act {
         Act::Call(call) => Act::Call(call.clone()),
         Act::Query(query) => Act::Query(with_exact_output(query.clone())),
+        Act::Reload(capacity) => Act::Reload(*capacity),
     };
     Step { lent, act }
 }
@@ -168,7 +170,7 @@ fn simpler_acts(act: &Act) -> Vec<Act> {
     match act {
         Act::Query(query) => simpler.extend(fewer_parts(query).into_iter().map(Act::Query)),
         Act::Call(Call::Refresh(refresh)) => simpler.extend(simpler_refreshes(refresh)),
-        Act::Call(_) => {}
+        Act::Call(_) | Act::Reload(_) => {}
     }
     let line = step_line(act);
     let fields: Vec<&str> = line.split(',').collect();

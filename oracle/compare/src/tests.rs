@@ -33,6 +33,8 @@ enum Fault {
     LateNone,
     /// A refresh leaves out the last row that it finds.
     Refresh,
+    /// A reload drops dead rows.
+    Reload,
 }
 
 impl Implementation for Faulty {
@@ -81,6 +83,14 @@ impl Implementation for Faulty {
 
     fn contents(&self) -> Contents {
         self.table.contents()
+    }
+
+    fn reload(&mut self, lent: &Lengths, capacity: u32) -> Answer {
+        let answer = self.table.reload(lent, capacity);
+        if self.fault == Fault::Reload && self.table.contents().dead > 0 {
+            self.table.call(lent, &Call::Compact);
+        }
+        answer
     }
 }
 
@@ -177,6 +187,18 @@ fn fault_in_refresh() {
     assert_eq!(letters, "OIMH", "{lines:?}");
 }
 
+#[test]
+fn fault_in_reload() {
+    let lines = smallest(|| faulty(Fault::Reload));
+    let letters: String = lines.iter().map(|line| &line[..1]).collect();
+    assert!(
+        letters.starts_with("OI") && letters.ends_with("MZ"),
+        "{lines:?}"
+    );
+    assert_eq!(lines.last().map(String::as_str), Some("Z,0"), "{lines:?}");
+    assert!(lines.len() <= 6, "{lines:?}");
+}
+
 /// Which index stores are unsound, by document 02's words.
 #[test]
 fn origins_of_index_stores() {
@@ -214,7 +236,11 @@ fn origins_of_index_stores() {
 }
 
 #[test]
+<<<<<<< HEAD
 fn a_run_prints_the_smallest_history() {
+=======
+fn a_run_reports_the_smallest_history() {
+>>>>>>> 4eb6787 (compare: tables that are saved and loaded within histories)
     let report = run(&subject(|| faulty(Fault::LateNone)), 2000, 0).expect_err("a difference");
     let lines: Vec<&str> = report.lines().collect();
     assert!(

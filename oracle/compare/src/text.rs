@@ -10,6 +10,7 @@ pub fn step_line(act: &Act) -> String {
     match act {
         Act::Call(call) => call_line(call),
         Act::Query(query) => query_line(query),
+        Act::Reload(capacity) => line("Z", &[*capacity]),
     }
 }
 
@@ -195,6 +196,7 @@ pub fn parse(line: &str) -> Option<Act> {
     let mut numbers = Numbers(&numbers);
     let act = match call(letter, &mut numbers) {
         Some(call) => Act::Call(call),
+        None if letter == "Z" => Act::Reload(numbers.one()?),
         None => Act::Query(with_exact_output(query(letter, &mut numbers)?)),
     };
     numbers.0.is_empty().then_some(act)

@@ -1,5 +1,6 @@
 //! The proved library as an implementation of the table, over stores of its own, lent at the lengths that a call has.
 
+mod images;
 mod indexes;
 mod stores;
 #[cfg(test)]
@@ -269,6 +270,16 @@ impl Implementation for LibraryTable {
             assert_eq!(self.is_sound(), Ok(true), "unsound");
         }
         answer
+    }
+
+    fn reload(&mut self, lent: &Lengths, capacity: u32) -> Answer {
+        let read = images::reloaded(&self.now, lent, capacity);
+        answer(read, |stores| {
+            self.then = stores.clone();
+            self.now = stores;
+            assert_eq!(self.is_sound(), Ok(true), "unsound");
+            Answer::Done
+        })
     }
 
     /// Stores shorter than what is lent are lent longer ones of no meaning, which a refusal does not look at and an answer

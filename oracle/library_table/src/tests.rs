@@ -42,6 +42,34 @@ fn both() -> (LibraryTable, Reference) {
     (library, reference)
 }
 
+/// A table goes on in other stores, of another capacity too, or stays where it is.
+#[test]
+fn reloads() {
+    let (mut library, mut reference) = both();
+    let larger = Lengths {
+        rows: 300,
+        keys: 300,
+        sort_entries: 300,
+        ..LENT
+    };
+    let merge = Call::Merge;
+    for (lent, capacity, answer) in [
+        (&LENT, 0, Answer::Done),
+        (&LENT, 41, Answer::Done),
+        (&LENT, 42, Answer::Refused(2)),
+        (&LENT, 10, Answer::Refused(1)),
+        (&larger, 150, Answer::Done),
+        (&larger, 21, Answer::Done),
+    ] {
+        assert_eq!(library.reload(lent, capacity), answer, "{capacity}");
+        assert_eq!(reference.reload(lent, capacity), answer, "{capacity}");
+        assert_eq!(library.unlike(&reference.expected(), true), None);
+        let lent = &larger;
+        assert_eq!(library.call(lent, &merge), reference.call(lent, &merge));
+        assert_eq!(library.unlike(&reference.expected(), true), None);
+    }
+}
+
 #[test]
 fn every_cell_is_looked_at() {
     let (whole, reference) = both();

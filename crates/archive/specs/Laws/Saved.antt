@@ -91,7 +91,7 @@ module _ {p : Plain} {s : Stores} (r : Represents p s) {words : List ℕ} (saved
   unfolding refusal writeRefusal
   saved-parts =
       record {
-        bounds = represents-inside r;
+        header-fits = represents-inside r;
         text-fits = ltb-false _ _ (firstRefusal-no _ _ _ (firstRefusal-rest _ _ _ (firstRefusal-rest _ _ _ (accepted-size .0))));
         text-bytes = saved .bytes;
         rows-counted = length-take-le _ _ rows-in;

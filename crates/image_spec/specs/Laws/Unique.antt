@@ -121,7 +121,7 @@ length-packed (a ∷ b ∷ c ∷ d ∷ rest) = omega (arith, length-packed rest)
 
 -- the parts of the test
 pub record Parts (i : Image) : Type 0 where
-  pub bounds : outside (i .header) ≡ false
+  pub header-fits : outside (i .header) ≡ false
   pub text-fits : length (i .text) ≤ 4096
   pub text-bytes : all isByte (i .text) ≡ true
   pub rows-counted : length (i .rows) ≡ i .header .rows * i .header .columns
@@ -142,7 +142,7 @@ unfolding isImage
 image-parts i e =
     let q = six (not (outside (i .header))) _ _ _ _ _ e in
     record {
-      bounds = not-true _ (q .0);
+      header-fits = not-true _ (q .0);
       text-fits = leb-true _ _ (q .1);
       text-bytes = q .2;
       rows-counted = eqb-true _ _ (q .3);
@@ -155,7 +155,7 @@ pub parts-image : (i : Image) → Parts i → isImage i ≡ true
 unfolding isImage
 parts-image i p =
     rw (
-      p .bounds,
+      p .header-fits,
       le-leb _ _ (p .text-fits),
       p .text-bytes,
       eq-eqb _ _ (p .rows-counted),
