@@ -236,11 +236,7 @@ fn origins_of_index_stores() {
 }
 
 #[test]
-<<<<<<< HEAD
-fn a_run_prints_the_smallest_history() {
-=======
 fn a_run_reports_the_smallest_history() {
->>>>>>> 4eb6787 (compare: tables that are saved and loaded within histories)
     let report = run(&subject(|| faulty(Fault::LateNone)), 2000, 0).expect_err("a difference");
     let lines: Vec<&str> = report.lines().collect();
     assert!(
