@@ -4,6 +4,7 @@
 mod answers;
 mod cells;
 mod columns;
+mod images;
 mod keys;
 mod listings;
 mod offsets;
@@ -27,5 +28,6 @@ pub fn compare() -> Result<Vec<String>, String> {
         sequences::compare()?,
         listings::compare()?,
         answers::compare()?,
+        images::compare()?,
     ])
 }

@@ -1,6 +1,7 @@
 //! The proved library's times as ratios to the Rust's, in one run on one machine. Below 1 the proved library is faster.
 
 mod columns;
+mod images;
 mod keys;
 mod offsets;
 mod refreshes;
@@ -21,6 +22,7 @@ fn run(report: &mut Report) {
     tables::operations(report);
     refreshes::refreshes(report);
     columns::orders(report);
+    images::images(report);
 }
 
 /// A line for each thing measured whose name has this part: the medians of so many runs.
