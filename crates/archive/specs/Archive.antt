@@ -1,31 +1,35 @@
--- Archives: tables put away as images and taken up again, in the same stores or in others. What is known of writing and reading is
--- what the contracts of `write_image` and `read_image` state. Assumes nothing.
-use Prim.Native.Nat.{ℕ}
+-- Archives: tables saved as images and loaded again, into the same stores or others, with the same capacity or another. What is known
+-- of saving and loading is what the contracts of `write_image` and `read_image` state. Assumes nothing.
+use Prim.Native.Nat.{ℕ, _≤_}
 use mathlib.Core.Path.{_≡_}
 use mathlib.Core.Bool.{true, cond, _||_}
 use mathlib.Core.List.{List, [], _∷_, _++_}
+use mathlib.Core.Option.{some}
 use lib.ListN.{length, take}
 use lib.Dec.{ltb, eqb}
-use Rattle.lists.specs.Lists.{all}
+use Rattle.lists.specs.Lists.{all, any, filter, rising, splice}
 use Rattle.refusals.specs.Refusals.{check, firstRefusal, refused, reply, outcome}
 use Rattle.crc32.specs.Crc.{bytesOf}
+use Rattle.offsets.specs.Subsets.{Subset, members}
 use Rattle.plain_table.specs.Staged.{Opening}
 use Rattle.plain_table.specs.Refusing.{storesShort}
-use Rattle.plain_table.specs.Plain.{Plain}
-use Rattle.plain_table.specs.Calls.{LentCall}
+use Rattle.plain_table.specs.Plain.{Plain, liveRows, opened}
+use Rattle.plain_table.specs.Calls.{LentCall, after, afterAll}
 use Rattle.table.specs.declared.Header.{Header}
 use Rattle.table.specs.declared.TableAnswer.{TableAnswer}
 use Rattle.table.specs.declared.TableAnswer.the-variants.{Table}
 use Rattle.table.specs.Numbers.{openingOf, tableView}
 use Rattle.table.specs.Refusing.{outside}
 use Rattle.table.specs.Contracts.{Stores, Body, body, bodyOf, joined, lengths, Represents}
+use Rattle.image_spec.specs.declared.LengthAnswer.{LengthAnswer}
 use Rattle.image_spec.specs.declared.LengthAnswer.the-variants.{Length}
-use Rattle.image_spec.specs.Image.{imageWords, imageOf}
-use Rattle.image_spec.specs.Contracts.{ImageWritten, ImageChecked, ImageRead, withCapacity}
+use Rattle.image_spec.specs.Image.{Image, imageWords, Reads, imageOf}
+use Rattle.image_spec.specs.Contracts.{lengthView, ImageWritten, ImageChecked, ImageRead, TextRead, withCapacity}
 use Rattle.history.specs.Histories.{behind, Step, History}
-use Rattle.history.specs.Claim.{Claimed}
+use Rattle.history.specs.Runs.{Query, refines, Run}
+use Rattle.history.specs.Claim.{liveIn, wanted}
 
--- an image of a table, in words
+-- the words that `write_image` wrote of these stores, with a text
 pub record Saved (s : Stores) (words : List ℕ) : Type 0 where
   pub text : List ℕ
   pub bytes : all (λ byte. ltb byte 256) text ≡ true
@@ -35,7 +39,7 @@ pub record Saved (s : Stores) (words : List ℕ) : Type 0 where
   pub written : ImageWritten (s .header) (s .rows) (s .sorts) (s .pending) text output (Length count) output′
   pub image : words ≡ take count output′
 
--- a plain table with another capacity, unless that is 0
+-- a plain table with another capacity; 0: the capacity stays
 abbrev pub resized : Plain → ℕ → Plain
 resized p capacity =
     record {
@@ -53,33 +57,58 @@ resized p capacity =
       largest = p .largest;
     }
 
--- Reading after writing: refused by nothing but a capacity outside its bounds or a short store; else the same plain table, with that
+-- what `read_image` refuses of the caller's capacity and stores, behind 19 and 20
+abbrev pub storesRefusal : Header → ℕ → Body → List ℕ → ℕ
+storesRefusal h capacity b pending =
+    firstRefusal
+    (check (outside (withCapacity h capacity)) 1
+    ∷ check (storesShort (openingOf (withCapacity h capacity)) (lengths (b .rows) (b .keys) (b .sorts) pending [] []) || ltb (length pending) (h .pending)) 2
+    ∷ [])
+
+-- Loading after saving: refused by nothing but a capacity outside its bounds or a short store; else the same plain table, with that
 -- capacity.
 pub record ReadAfterWrite (p : Plain) (s : Stores) (capacity : ℕ) (b : Body) (pending : List ℕ) (answer : TableAnswer) (b′ : Body) (pending′ : List ℕ) : Type 0 where
-  pub refusal : outcome (tableView answer)
-      ≡ reply
-      (firstRefusal
-      (check (outside (withCapacity (s .header) capacity)) 1
-      ∷ check
-      (storesShort (openingOf (withCapacity (s .header) capacity)) (lengths (b .rows) (b .keys) (b .sorts) pending [] [])
-      || ltb (length pending) (s .header .pending))
-      2
-      ∷ []))
-      tt
+  pub refusal : outcome (tableView answer) ≡ reply (storesRefusal (s .header) capacity b pending) tt
   pub represents : (h : Header) → answer ≡ Table h → Represents (resized p capacity) (joined h b′ pending′)
 
--- A table put away and taken up again: `write_image` and `read_image` are lent a first part of each store.
-pub data Reloaded : Stores → Stores → Type 0 where
-  reloaded : {s t : Stores} (rows sorts pending : List ℕ) (words : List ℕ) → Saved s words
-      → (b : Body) (before : List ℕ) → ImageRead words 0 b before (Table (t .header)) (bodyOf t) (t .pending)
-      → (rest : Body) (more : List ℕ)
-      → Reloaded (behind s (body rows [] sorts) pending) (behind t rest more)
+-- The text after saving: refused by nothing but a short output; else the text at the start of the output.
+pub record TextAfterWrite (text output : List ℕ) (answer : LengthAnswer) (output′ : List ℕ) : Type 0 where
+  pub answers : lengthView answer ≡ reply (firstRefusal (check (ltb (length output) (length text)) 2 ∷ [])) (length text)
+  pub written : firstRefusal (check (ltb (length output) (length text)) 2 ∷ []) ≡ 0 → output′ ≡ splice output 0 text
 
--- a history, in which tables are also put away and taken up again: that is no call, and nothing changes on the plain table
-pub data Archived (o : Opening) (generation : ℕ) : List LentCall → Stores → Type 0 where
-  made : {calls : List LentCall} {s : Stores} → History o generation calls s → Archived o generation calls s
-  reloads : {calls : List LentCall} {s t : Stores} → Archived o generation calls s → Reloaded s t → Archived o generation calls t
-  goes-on : {calls : List LentCall} {c : LentCall} {s t : Stores} → Archived o generation calls s → Step s c t → Archived o generation (calls ++ (c ∷ [])) t
+-- An accepted image is the image of the table that was loaded, with the capacity that the image has and its text. So a table in stores
+-- and a text have one image.
+pub record ImageOfLoaded (words : List ℕ) (h : Header) (b′ : Body) (pending′ : List ℕ) : Type 0 where
+  pub capacity : ℕ
+  pub text : List ℕ
+  pub bytes : all (λ byte. ltb byte 256) text ≡ true
+  pub is : words ≡ imageWords (imageOf (withCapacity h capacity) (b′ .rows) (b′ .sorts) pending′ text)
+
+-- ---- histories
+
+-- A table saved and loaded: `write_image` is lent all but the cells `rows`, `sorts` and `pending` at the end of these stores; what is
+-- loaded is a first part of other stores, which end in `rest` and `more`.
+pub data Reloaded (capacity : ℕ) : Stores → Stores → Type 0 where
+  reloaded : {s t : Stores} (rows sorts pending : List ℕ) (words : List ℕ) → Saved s words
+      → (b : Body) (before : List ℕ) → ImageRead words capacity b before (Table (t .header)) (bodyOf t) (t .pending)
+      → (rest : Body) (more : List ℕ)
+      → Reloaded capacity (behind s (body rows [] sorts) pending) (behind t rest more)
+
+-- A history in which tables are also saved and loaded: the plain table, which loading changes in its capacity alone, and the stores.
+pub data Archived : Plain → Stores → Type 0 where
+  made : {o : Opening} {generation : ℕ} {calls : List LentCall} {s : Stores} → History o generation calls s
+      → Archived (afterAll (opened o generation) calls) s
+  loads : {p : Plain} {s t : Stores} (capacity : ℕ) → Archived p s → Reloaded capacity s t → Archived (resized p capacity) t
+  goes-on : {p : Plain} {c : LentCall} {s t : Stores} → Archived p s → Step s c t → Archived (after p (c .lengths) (c .call)) t
+
+-- The claim of term 3 (`Claimed`) of such a history.
+pub record ArchiveClaimed (p : Plain) (s : Stores) : Type 0 where
+  pub live-rows : liveIn s ≡ liveRows p
+  pub ids-left : (start : Subset) (queries : List Query) (end : Subset) (accepted : List Query)
+      → Run s start queries end accepted → any refines accepted ≡ true
+      → (members end ≡ filter (wanted s accepted) (members start)) × (rising (members end) ≡ true)
+
+-- ---- damage
 
 -- two sequences of bytes that are equal but for at most four neighbouring bytes, and not equal
 pub record Damaged (bytes bytes′ : List ℕ) : Type 0 where
@@ -93,17 +122,27 @@ pub record Damaged (bytes bytes′ : List ℕ) : Type 0 where
   pub is′ : bytes′ ≡ before ++ four′ ++ after
   pub differ : bytes ≡ bytes′ → ⊥
 
+-- every function that reads images refuses these words with 19
+pub record RefusedAsImage (words : List ℕ) : Type 0 where
+  pub checked : (answer : TableAnswer) → ImageChecked words answer → tableView answer ≡ refused 19
+  pub loaded : (capacity : ℕ) (b : Body) (pending : List ℕ) (answer : TableAnswer) (b′ : Body) (pending′ : List ℕ)
+      → ImageRead words capacity b pending answer b′ pending′ → outcome (tableView answer) ≡ refused 19
+  pub text : (output : List ℕ) (answer : LengthAnswer) (output′ : List ℕ) → TextRead words output answer output′ → lengthView answer ≡ refused 19
+
+-- ---- what is guaranteed
+
 pub record Archives : Type 0 where
   pub read-after-write : (p : Plain) (s : Stores) (words : List ℕ) (capacity : ℕ) (b : Body) (pending : List ℕ) (answer : TableAnswer) (b′ : Body) (pending′ : List ℕ)
       → Represents p s → Saved s words → ImageRead words capacity b pending answer b′ pending′
       → ReadAfterWrite p s capacity b pending answer b′ pending′
-  -- an accepted image is the image of the table that is read from it: a table and a text have one image
-  pub one-image : (words : List ℕ) (b : Body) (pending : List ℕ) (h : Header) (b′ : Body) (pending′ : List ℕ)
-      → ImageRead words 0 b pending (Table h) b′ pending′
-      → (text : List ℕ) × (words ≡ imageWords (imageOf h (b′ .rows) (b′ .sorts) pending′ text))
-  -- an image changed within any four neighbouring bytes is refused with 19
-  pub damage-refused : (words words′ : List ℕ) (h : Header) (answer : TableAnswer)
-      → ImageChecked words (Table h) → Damaged (bytesOf words) (bytesOf words′) → ImageChecked words′ answer
-      → tableView answer ≡ refused 19
-  -- the claim of term 3 holds of archives
-  pub term-three : (o : Opening) (generation : ℕ) (calls : List LentCall) (s : Stores) → Archived o generation calls s → Claimed o generation calls s
+  pub text-after-write : (p : Plain) (s : Stores) (words : List ℕ) → Represents p s → (saved : Saved s words)
+      → (output : List ℕ) (answer : LengthAnswer) (output′ : List ℕ) → TextRead words output answer output′
+      → TextAfterWrite (saved .text) output answer output′
+  pub one-image : (words : List ℕ) (capacity : ℕ) (b : Body) (pending : List ℕ) (h : Header) (b′ : Body) (pending′ : List ℕ)
+      → ImageRead words capacity b pending (Table h) b′ pending′ → ImageOfLoaded words h b′ pending′
+  -- whoever wrote an image, a table that is loaded from it is sound (its generation is a word, so it fits)
+  pub loaded-sound : (words : List ℕ) (capacity : ℕ) (b : Body) (pending : List ℕ) (h : Header) (b′ : Body) (pending′ : List ℕ)
+      → h .generation ≤ 4294967295 → ImageRead words capacity b pending (Table h) b′ pending′
+      → (p : Plain) × Represents p (joined h b′ pending′)
+  pub damage-refused : (words words′ : List ℕ) (i : Image) → Reads words (some i) → Damaged (bytesOf words) (bytesOf words′) → RefusedAsImage words′
+  pub term-three : (p : Plain) (s : Stores) → Archived p s → ArchiveClaimed p s

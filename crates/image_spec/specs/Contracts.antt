@@ -1,5 +1,7 @@
--- What the functions that write, check and read images promise: the answer and every lent cell, accepted or refused. New refusals: 19,
--- words that are no image; 20, an image of a table that is not sound; 21, a text of more than 4,096 bytes. Assumes nothing.
+-- What the functions that write, check and read images promise: the answer and every lent cell, accepted or refused. What is not named
+-- as left behind is lent shared and stays as it is. New refusals: 19, words that are no image: of another length than their header and
+-- text have, with a header outside its bounds, a text that is too long or filled up with other bytes than 0, or another checksum; 20, an
+-- image of a table that is not sound; 21, a text to be written of more than 4,096 bytes. Assumes nothing.
 use Prim.Native.Nat.{ℕ, _<_}
 use mathlib.Core.Path.{_≡_}
 use mathlib.Core.Bool.{Bool, true, false, cond, not, _||_}
@@ -54,7 +56,7 @@ pub record ImageWritten (h : Header) (rows sorts pending text output : List ℕ)
 
 -- ---- checking and reading
 
--- the image that words are, and whether it is of a sound table
+-- the image that words are, and whether it is of a sound table; of words that are no image `sound` means nothing
 pub record Decoded (words : List ℕ) : Type 0 where
   pub image : Option Image
   pub reads : Reads words image
@@ -62,7 +64,7 @@ pub record Decoded (words : List ℕ) : Type 0 where
   pub if-sound : sound ≡ true → (i : Image) → image ≡ some i → SoundImage i
   pub if-unsound : sound ≡ false → (i : Image) → image ≡ some i → SoundImage i → ⊥
 
--- the header of a table that is read: the image's, with another capacity unless that is 0
+-- the header of a table that is read: the image's, with this capacity; 0: the image's own
 abbrev pub withCapacity : Header → ℕ → Header
 withCapacity h capacity =
     header
@@ -108,7 +110,8 @@ pub record ImageRead (words : List ℕ) (capacity : ℕ) (b : Body) (pending : L
   pub loaded : (i : Image) → decoded .image ≡ some i → readRefusal (decoded .image) (decoded .sound) capacity b pending ≡ 0
       → Loaded i capacity b pending answer b′ pending′
 
--- *Read text*: 19; 2 for an output shorter than the text; else the text's bytes at the start of the output
+-- *Read text*: 19; 2 for an output shorter than the text; else the text's bytes at the start of the output. It is read of an image of an
+-- unsound table too
 unfoldable pub textRefusal : Option Image → ℕ → ℕ
 textRefusal none output = 19
 textRefusal (some i) output = firstRefusal (check (ltb output (length (i .text))) 2 ∷ [])

@@ -8,7 +8,7 @@ use mathlib.Core.Option.{Option, none, some}
 use native.Mathlib.Omega.{arith}
 use lib.ListN.{length, getD}
 use Rattle.lists.specs.Lists.{flatten}
-use Rattle.refusals.specs.Refusals.{Reply, refused, accepted}
+use Rattle.refusals.specs.Refusals.{Reply, refused, accepted, reply, outcome}
 use Rattle.crc32.specs.Crc.{register, crc32, bytesOf, wordBytes}
 use Rattle.crc32.specs.Bytes.{Below}
 use Rattle.crc32.specs.Laws.Bytes.{bytes-of-append, bytes-of-below, bytes-of-cons}
@@ -18,8 +18,8 @@ use Rattle.table.specs.declared.TableAnswer.{TableAnswer}
 use Rattle.table.specs.declared.TableAnswer.the-variants.{Table}
 use Rattle.table.specs.Numbers.{tableView}
 use Rattle.image_spec.specs.Image.{Image, imageBody, imageWords, isImage, Reads, reads, reads-none}
-use Rattle.image_spec.specs.Contracts.{checkReply, ImageChecked}
-use Rattle.archive.specs.Archive.{Damaged}
+use Rattle.image_spec.specs.Contracts.{lengthView, checkReply, readRefusal, textRefusal, textOf, ImageChecked, ImageRead, TextRead}
+use Rattle.archive.specs.Archive.{Damaged, RefusedAsImage}
 
 -- ---- bytes
 
@@ -76,15 +76,25 @@ damaged-none words words′ i e d j f =
     damaged-register (bytesOf words) (bytesOf words′) (bytes-of-below words) (bytes-of-below words′) d
     (ap (λ (x : List ℕ). register (bytesOf x)) e ∙ image-residue i ∙ sym (ap (λ (x : List ℕ). register (bytesOf x)) f ∙ image-residue j))
 
-pub damage-refused : (words words′ : List ℕ) (h : Header) (answer : TableAnswer)
-    → ImageChecked words (Table h) → Damaged (bytesOf words) (bytesOf words′) → ImageChecked words′ answer
-    → tableView answer ≡ refused 19
-unfolding checkReply tableView
-damage-refused words words′ h answer m d m′ =
-    elim (read-cases words′ (m′ .decoded .image) (m′ .decoded .reads)) [
-      | inl e ↦ m′ .answers ∙ ap (λ (o : Option Image). checkReply o (m′ .decoded .sound)) e
-      | inr k ↦ elim (read-cases words (m .decoded .image) (m .decoded .reads)) [
-        | inl e ↦ absurd (let q : _≡_ {A = Reply Header} (accepted h) (refused 19) = m .answers ∙ ap (λ (o : Option Image). checkReply o (m .decoded .sound)) e in let z : _≡_ {A = ℕ} 0 1 = cc in omega arith)
-        | inr i ↦ absurd (damaged-none words words′ (i .image) (i .are) d (k .image) (k .are))
+-- every function that reads images refuses them
+pub no-image-refused : (words : List ℕ) → ((o : Option Image) → Reads words o → o ≡ none) → RefusedAsImage words
+unfolding checkReply readRefusal textRefusal reply outcome
+no-image-refused words never =
+    record {
+      checked = λ answer m. m .answers ∙ ap (λ (o : Option Image). checkReply o (m .decoded .sound)) (never _ (m .decoded .reads));
+      loaded = λ capacity b pending answer b′ pending′ m.
+          m .refusal ∙ ap (λ (o : Option Image). reply (readRefusal o (m .decoded .sound) capacity b pending) tt) (never _ (m .decoded .reads));
+      text = λ output answer output′ m.
+          m .answers ∙ ap (λ (o : Option Image). reply (textRefusal o (length output)) (length (textOf o))) (never _ (m .reads));
+    }
+
+pub damage-refused : (words words′ : List ℕ) (i : Image) → Reads words (some i) → Damaged (bytesOf words) (bytesOf words′) → RefusedAsImage words′
+damage-refused words words′ i r d =
+    no-image-refused words′
+    (λ o r′. elim (read-cases words′ o r′) [
+      | inl e ↦ e
+      | inr k ↦ elim (read-cases words (some i) r) [
+        | inl e ↦ absurd (let z : _≡_ {A = ℕ} 0 1 = cc in omega arith)
+        | inr j ↦ absurd (damaged-none words words′ (j .image) (j .are) d (k .image) (k .are))
       ]
-    ]
+    ])

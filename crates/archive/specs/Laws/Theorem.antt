@@ -1,17 +1,23 @@
 -- What archives guarantee. Assumes nothing but the contracts that the definitions cite.
 use Prim.Native.Nat.{ℕ, zero, suc, _*_, _≤_}
 use mathlib.Core.Path.{_≡_, refl, sym, ap, _∙_}
-use mathlib.Core.Bool.{Bool, true, false, _||_}
+use mathlib.Core.Bool.{Bool, true, false, not, _||_}
 use mathlib.Core.List.{List, [], _∷_, _++_}
 use mathlib.Core.Logic.{inl, inr}
 use mathlib.Core.Option.{Option, none, some}
+use native.Mathlib.Nat.{mul-le-mul-right}
 use native.Mathlib.Omega.{arith}
 use lib.ListN.{length, take}
 use mathlib.Core.List.{append-nil}
-use borrow.Author.Tests.{ltb-false}
+use lib.Dec.{ltb, eqb}
+use lib.Seq.{take-all}
+use borrow.Author.Tests.{ltb-false, ne-eqb, not-false, le-ltb}
+use Rattle.lists.specs.Lists.{splice}
 use Rattle.lists.specs.Laws.All.{or-no-left, or-no-right}
-use Rattle.refusals.specs.Refusals.{Reply, refused, accepted, reply, outcome}
+use Rattle.lists.specs.Laws.Parts.{length-splice}
+use Rattle.refusals.specs.Refusals.{check, firstRefusal, Reply, refused, accepted, reply, outcome}
 use Rattle.plain_table.specs.Staged.{Opening}
+use Rattle.plain_table.specs.Refusing.{storesShort}
 use Rattle.plain_table.specs.Plain.{Plain, opened}
 use Rattle.plain_table.specs.Calls.{LentCall, after, afterAll}
 use Rattle.plain_table.specs.Laws.Calls.{firstRefusal-no, firstRefusal-rest}
@@ -19,26 +25,32 @@ use Rattle.table.specs.declared.Header.{Header}
 use Rattle.table.specs.declared.TableAnswer.{TableAnswer}
 use Rattle.table.specs.declared.TableAnswer.the-variants.{Table}
 use Rattle.table.specs.Numbers.{openingOf, tableView}
-use Rattle.table.specs.Refusing.{outside, pendingOutside, rowsShort, pairsShort}
-use Rattle.table.specs.Contracts.{Stores, stores, Body, body, bodyOf, joined, Represents}
-use Rattle.table.specs.Laws.Shown.{LongEnough, represents-long}
+use Rattle.table.specs.Refusing.{outside, pendingOutside, rowsShort, pairsShort, soundRefusal}
+use Rattle.table.specs.Sound.{Sound}
+use Rattle.table.specs.Contracts.{Stores, stores, Body, body, bodyOf, joined, lengths, Represents}
+use Rattle.table.specs.Laws.Shown.{LongEnough, stores-long}
+use Rattle.table.specs.Laws.Refusals.{Inside, outside-inside}
+use Rattle.table.specs.Laws.Sound.{sound-represents}
 use Rattle.table.specs.Laws.Live.{live-shown}
 use Rattle.table.specs.Laws.Fronts.{long-header, pending-part, pending-more, body-part, body-more}
 use Rattle.image_spec.specs.declared.LengthAnswer.the-variants.{Length}
-use Rattle.image_spec.specs.Image.{Image, imageWords, imageOf, imageLength}
-use Rattle.image_spec.specs.Contracts.{lengthView, writeRefusal, withCapacity, readRefusal, Loaded, ImageRead}
-use Rattle.image_spec.specs.Laws.Unique.{Parts, image-parts}
+use Rattle.image_spec.specs.declared.LengthAnswer.{LengthAnswer}
+use Rattle.image_spec.specs.Image.{Image, imageWords, SoundImage, imageOf}
+use Rattle.image_spec.specs.Contracts.{lengthView, writeRefusal, withCapacity, readRefusal, Loaded, ImageRead, textRefusal, textOf, TextRead}
+use Rattle.image_spec.specs.Laws.Unique.{Parts, image-parts, reads-unique}
 use Rattle.history.specs.Histories.{behind, Step}
-use Rattle.history.specs.Claim.{liveIn, Claimed}
+use Rattle.history.specs.Claim.{liveIn}
 use Rattle.history.specs.Laws.Calls.{step-represents, history-represents}
 use Rattle.history.specs.Laws.Narrowing.{narrowed-wanted, narrowed-rising}
 use Rattle.history.specs.Laws.Theorem.{run-narrows}
-use Rattle.archive.specs.Archive.{Saved, resized, ReadAfterWrite, Reloaded, reloaded, Archived, made, reloads, goes-on, Archives}
-use Rattle.archive.specs.Laws.Saved.{accepted-number}
+use Rattle.archive.specs.Archive.{Saved, resized, ReadAfterWrite, TextAfterWrite, ImageOfLoaded, Reloaded, reloaded, Archived, made, loads, goes-on, ArchiveClaimed, Archives}
+use Rattle.archive.specs.Laws.Contents.{SameInUse, contents-same}
+use Rattle.archive.specs.Laws.Resized.{SameShape, all-words-same, all-widths-same}
+use Rattle.archive.specs.Laws.Saved.{accepted-number, savedImage, saved-reads}
 use Rattle.archive.specs.Laws.Loaded.{front-put, accepted-none, refusal-is, loaded-represents}
 use Rattle.archive.specs.Laws.Damage.{IsImage, read-cases, damage-refused}
 
--- ---- reading after writing
+-- ---- loading after saving
 
 pub read-after-write : (p : Plain) (s : Stores) (words : List ℕ) (capacity : ℕ) (b : Body) (pending : List ℕ) (answer : TableAnswer) (b′ : Body) (pending′ : List ℕ)
     → Represents p s → Saved s words → ImageRead words capacity b pending answer b′ pending′
@@ -46,35 +58,178 @@ pub read-after-write : (p : Plain) (s : Stores) (words : List ℕ) (capacity : �
 read-after-write p s words capacity b pending answer b′ pending′ r saved m =
     record { refusal = refusal-is r saved capacity m; represents = loaded-represents r saved capacity m }
 
--- ---- an image is that of the table read from it
+pub text-after-write : (p : Plain) (s : Stores) (words : List ℕ) → Represents p s → (saved : Saved s words)
+    → (output : List ℕ) (answer : LengthAnswer) (output′ : List ℕ) → TextRead words output answer output′
+    → TextAfterWrite (saved .text) output answer output′
+unfolding textRefusal textOf
+text-after-write p s words r saved output answer output′ m =
+    let e : m .image ≡ some (savedImage r saved) = reads-unique words _ _ (m .reads) (saved-reads r saved) in
+    record {
+      answers = m .answers ∙ ap (λ (o : Option Image). reply (textRefusal o (length output)) (length (textOf o))) e;
+      written = λ z.
+          m .written (ap (λ (o : Option Image). textRefusal o (length output)) e ∙ z) ∙ ap (λ (o : Option Image). splice output 0 (textOf o)) e;
+    }
 
-module _ (words : List ℕ) (b : Body) (pending : List ℕ) (h : Header) (b′ : Body) (pending′ : List ℕ) (m : ImageRead words 0 b pending (Table h) b′ pending′) where
-  none-refused : readRefusal (m .decoded .image) (m .decoded .sound) 0 b pending ≡ 0
+-- ---- an image that was accepted
+
+-- the capacity of an image put back
+capacity-back : (h i : Header) (capacity : ℕ) → h ≡ withCapacity i capacity → eqb (i .capacity) 0 ≡ false → withCapacity h (i .capacity) ≡ i
+capacity-back h i capacity e own = ap (λ (x : Header). withCapacity x (i .capacity)) e ∙ rw own
+
+at-header : {p : Plain} (h k : Header) (b : Body) (pending : List ℕ) → h ≡ k → Represents p (joined k b pending) → Represents p (joined h b pending)
+at-header h k b pending e r = rw e r
+
+module _ (words : List ℕ) (capacity : ℕ) (b : Body) (pending : List ℕ) (h : Header) (b′ : Body) (pending′ : List ℕ) (m : ImageRead words capacity b pending (Table h) b′ pending′) where
+  none-refused : readRefusal (m .decoded .image) (m .decoded .sound) capacity b pending ≡ 0
   unfolding tableView
   none-refused = accepted-none h _ (m .refusal)
 
-  of-image : IsImage words (m .decoded .image) → (text : List ℕ) × (words ≡ imageWords (imageOf h (b′ .rows) (b′ .sorts) pending′ text))
-  unfolding tableView
-  of-image k =
-      let i = k .image in
-      let l : Loaded i 0 b pending (Table h) b′ pending′ = m .loaded i (k .is-read) none-refused in
-      let same : h ≡ i .header = (let q : _≡_ {A = Reply Header} (accepted h) (accepted (i .header)) = l .answers in cc) in
-      let parts = image-parts i (k .passes) in
-      let rows : take (h .rows * h .columns) (b′ .rows) ≡ i .rows = rw (same, l .rows-after) (front-put (b .rows) (i .rows) _ (parts .rows-counted)) in
-      let sorts : take (2 * h .entries) (b′ .sorts) ≡ i .sorts = rw (same, l .sorts-after) (front-put (b .sorts) (i .sorts) _ (parts .sorts-counted)) in
-      let words-pending : take (h .pending) pending′ ≡ i .pending = rw (same, l .pending-after) (front-put pending (i .pending) _ (parts .pending-counted)) in (
-        i .text,
-        k .are
-            ∙ ap imageWords (sym (λ j. record { header = same j; text = i .text; rows = rows j; sorts = sorts j; pending = words-pending j })),
-      )
-
-  pub one-image : (text : List ℕ) × (words ≡ imageWords (imageOf h (b′ .rows) (b′ .sorts) pending′ text))
+  -- the image
+  accepted-image : IsImage words (m .decoded .image)
   unfolding readRefusal
-  one-image =
+  accepted-image =
       elim (read-cases words (m .decoded .image) (m .decoded .reads)) [
-        | inl e ↦ absurd (let z : 19 ≡ 0 = sym (ap (λ (o : Option Image). readRefusal o (m .decoded .sound) 0 b pending) e) ∙ none-refused in omega (arith, z))
-        | inr k ↦ of-image k
+        | inl e ↦ absurd (let z : 19 ≡ 0 = sym (ap (λ (o : Option Image). readRefusal o (m .decoded .sound) capacity b pending) e) ∙ none-refused in omega (arith, z))
+        | inr k ↦ k
       ]
+
+  abbrev image : Image
+  image = accepted-image .image
+
+  loaded : Loaded image capacity b pending (Table h) b′ pending′
+  loaded = m .loaded image (accepted-image .is-read) none-refused
+
+  parts : Parts image
+  parts = image-parts image (accepted-image .passes)
+
+  header-is : h ≡ withCapacity (image .header) capacity
+  unfolding tableView
+  header-is = let q : _≡_ {A = Reply Header} (accepted h) (accepted (withCapacity (image .header) capacity)) = loaded .answers in cc
+
+  -- its capacity is not 0
+  own-capacity : eqb (image .header .capacity) 0 ≡ false
+  own-capacity =
+      let i : Inside (image .header) = outside-inside (image .header) (parts .header-fits) in
+      ne-eqb (image .header .capacity) 0 (λ e. omega (arith, e, i .bounds .capacity-some))
+
+  back-header : withCapacity h (image .header .capacity) ≡ image .header
+  back-header = capacity-back h (image .header) capacity header-is own-capacity
+
+  rows-front : take (image .header .rows * image .header .columns) (b′ .rows) ≡ image .rows
+  rows-front = ap (take (image .header .rows * image .header .columns)) (loaded .rows-after) ∙ front-put (b .rows) (image .rows) _ (parts .rows-counted)
+
+  sorts-front : take (2 * image .header .entries) (b′ .sorts) ≡ image .sorts
+  sorts-front = ap (take (2 * image .header .entries)) (loaded .sorts-after) ∙ front-put (b .sorts) (image .sorts) _ (parts .sorts-counted)
+
+  pending-front : take (image .header .pending) pending′ ≡ image .pending
+  pending-front = ap (take (image .header .pending)) (loaded .pending-after) ∙ front-put pending (image .pending) _ (parts .pending-counted)
+
+  image-back : imageOf (image .header) (b′ .rows) (b′ .sorts) pending′ (image .text) ≡ image
+  image-back = λ j. record { header = image .header; text = image .text; rows = rows-front j; sorts = sorts-front j; pending = pending-front j }
+
+  pub one-image : ImageOfLoaded words h b′ pending′
+  one-image =
+      record {
+        capacity = image .header .capacity;
+        text = image .text;
+        bytes = parts .text-bytes;
+        is = accepted-image .are
+            ∙ ap imageWords (sym image-back)
+            ∙ ap (λ (x : Header). imageWords (imageOf x (b′ .rows) (b′ .sorts) pending′ (image .text))) (sym back-header);
+      }
+
+  -- ---- the table that was loaded is sound
+
+  abbrev after-load : Header
+  after-load = withCapacity (image .header) capacity
+
+  abbrev stores-short : Bool
+  stores-short =
+      storesShort (openingOf after-load) (lengths (b .rows) (b .keys) (b .sorts) pending [] []) || ltb (length pending) (image .header .pending)
+
+  checks-passed : firstRefusal (check (not (m .decoded .sound)) 20 ∷ check (outside after-load) 1 ∷ check stores-short 2 ∷ []) ≡ 0
+  unfolding readRefusal
+  checks-passed = sym (ap (λ (o : Option Image). readRefusal o (m .decoded .sound) capacity b pending) (accepted-image .is-read)) ∙ none-refused
+
+  image-sound : SoundImage image
+  image-sound = m .decoded .if-sound (not-false _ (firstRefusal-no _ _ _ checks-passed)) image (accepted-image .is-read)
+
+  bounds-pass : outside after-load ≡ false
+  bounds-pass = firstRefusal-no _ _ _ (firstRefusal-rest _ _ _ checks-passed)
+
+  inside : Inside after-load
+  inside = outside-inside after-load bounds-pass
+
+  none-short-loaded : stores-short ≡ false
+  none-short-loaded = firstRefusal-no _ _ _ (firstRefusal-rest _ _ _ (firstRefusal-rest _ _ _ checks-passed))
+
+  long : LongEnough (openingOf after-load) (length (b .rows)) (length (b .keys)) (length (b .sorts))
+  long = stores-long (openingOf after-load) (lengths (b .rows) (b .keys) (b .sorts) pending [] []) (or-no-left _ _ none-short-loaded)
+
+  pending-fits : image .header .pending ≤ length pending
+  pending-fits =
+      ltb-false _ _
+      (or-no-right (storesShort (openingOf after-load) (lengths (b .rows) (b .keys) (b .sorts) pending [] [])) (ltb (length pending) (image .header .pending)) none-short-loaded)
+
+  same-rows : length (b′ .rows) ≡ length (b .rows)
+  same-rows =
+      let fit = mul-le-mul-right (image .header .columns) (inside .rows-fit) in
+      ap length (loaded .rows-after) ∙ length-splice (b .rows) _ 0 (omega (arith, parts .rows-counted, long .rows-long, fit))
+
+  same-sorts : length (b′ .sorts) ≡ length (b .sorts)
+  same-sorts =
+      ap length (loaded .sorts-after) ∙ length-splice (b .sorts) _ 0 (omega (arith, parts .sorts-counted, long .sorts-long, inside .rows-fit, inside .entries-fit))
+
+  same-pending : length pending′ ≡ length pending
+  same-pending = ap length (loaded .pending-after) ∙ length-splice pending _ 0 (omega (arith, parts .pending-counted, pending-fits))
+
+  tested : soundRefusal after-load (length (b′ .rows)) (length (b′ .keys)) (length (b′ .sorts)) (length pending′) ≡ 0
+  unfolding soundRefusal pendingOutside rowsShort pairsShort firstRefusal
+  tested =
+      let pending-pass : ltb (length pending′) (image .header .pending) ≡ false = le-ltb (length pending′) (image .header .pending) (omega (arith, same-pending, pending-fits)) in
+      let rows-pass : ltb (length (b′ .rows)) (after-load .capacity * after-load .columns) ≡ false = le-ltb (length (b′ .rows)) (after-load .capacity * after-load .columns) (omega (arith, same-rows, long .rows-long)) in
+      let keys-pass : ltb (length (b′ .keys)) (2 * after-load .capacity) ≡ false = le-ltb (length (b′ .keys)) (2 * after-load .capacity) (omega (arith, loaded .slots, long .keys-long)) in
+      let sorts-pass : ltb (length (b′ .sorts)) (2 * after-load .capacity) ≡ false = le-ltb (length (b′ .sorts)) (2 * after-load .capacity) (omega (arith, same-sorts, long .sorts-long)) in
+      rw (bounds-pass, pending-pass, rows-pass, keys-pass, sorts-pass)
+
+  same-in-use : SameInUse (image .header) (image .rows) (image .sorts) (image .pending) (b′ .rows) (b′ .sorts) pending′
+  same-in-use =
+      record {
+        rows-same = rows-front ∙ sym (take-all (image .header .rows * image .header .columns) (image .rows) (omega (arith, parts .rows-counted)));
+        sorts-same = sorts-front ∙ sym (take-all (2 * image .header .entries) (image .sorts) (omega (arith, parts .sorts-counted)));
+        pending-same = pending-front ∙ sym (take-all (image .header .pending) (image .pending) (omega (arith, parts .pending-counted)));
+      }
+
+  sound-after : Sound after-load (b′ .rows) (b′ .keys) (b′ .sorts) pending′ (image-sound .0)
+  sound-after =
+      let c = contents-same same-in-use (image-sound .1) in
+      record {
+        tested = tested;
+        contents =
+            record {
+              dead-counted = c .dead-counted;
+              keys-differ = c .keys-differ;
+              entries-rise = c .entries-rise;
+              sorted = c .sorted;
+              largest-kept = c .largest-kept;
+              pending-counted = c .pending-counted ∙ all-words-same shape (image-sound .0);
+              pending-whole =
+                  record {
+                    whole = sym (all-widths-same shape (image-sound .0)) ∙ c .pending-whole .whole;
+                    in-order = rw (← all-words-same shape (image-sound .0)) (c .pending-whole .in-order);
+                  };
+            };
+        keys-sound = loaded .keys-sound;
+      }
+    where
+      shape : SameShape (openingOf (image .header)) (openingOf after-load)
+      shape = record { columns = refl; keys = refl }
+
+  pub loaded-sound : h .generation ≤ 4294967295 → (p : Plain) × Represents p (joined h b′ pending′)
+  loaded-sound fits =
+      let g : after-load .generation ≤ 4294967295 = omega (arith, fits, ap (λ (x : Header). x .generation) header-is) in
+      let r = sound-represents sound-after g in
+      (r .0, at-header h after-load b′ pending′ header-is (r .1))
 
 -- ---- histories go on
 
@@ -98,22 +253,15 @@ module _ {p : Plain} {s : Stores} (rows sorts pending : List ℕ) (r : Represent
         sorts-long = ltb-false _ _ (or-no-right (rowsShort (s .header) (length (s .rows))) (pairsShort (s .header) (length (s .sorts))) short-no);
       })
 
--- one call more
-after-then : (p : Plain) (cs : List LentCall) (c : LentCall) → afterAll p (cs ++ (c ∷ [])) ≡ after (afterAll p cs) (c .lengths) (c .call)
-unfolding afterAll
-after-then p [] c = refl
-after-then p (d ∷ cs) c = after-then (after p (d .lengths) (d .call)) cs c
-
--- the stores of an archive represent the plain table after the same calls
-pub archive-represents : {o : Opening} {generation : ℕ} {calls : List LentCall} {s : Stores} → Archived o generation calls s → Represents (afterAll (opened o generation) calls) s
+-- the stores of an archive represent its plain table
+pub archive-represents : {p : Plain} {s : Stores} → Archived p s → Represents p s
 archive-represents (made h) = history-represents h
-archive-represents (reloads a (reloaded {s} {t} rows sorts pending words saved b before m rest more)) =
-    pending-more more (body-more rest (loaded-represents (lent-represents rows sorts pending (archive-represents a) saved) saved 0 m (t .header) refl))
-archive-represents {o} {generation} (goes-on {calls} {c} a step) =
-    rw (after-then (opened o generation) calls c) (step-represents (archive-represents a) step)
+archive-represents (loads capacity a (reloaded {s} {t} rows sorts pending words saved b before m rest more)) =
+    pending-more more (body-more rest (loaded-represents (lent-represents rows sorts pending (archive-represents a) saved) saved capacity m (t .header) refl))
+archive-represents (goes-on a step) = step-represents (archive-represents a) step
 
-pub archived-claimed : (o : Opening) (generation : ℕ) (calls : List LentCall) (s : Stores) → Archived o generation calls s → Claimed o generation calls s
-archived-claimed o generation calls s a =
+pub archived-claimed : (p : Plain) (s : Stores) → Archived p s → ArchiveClaimed p s
+archived-claimed p s a =
     let shown = archive-represents a in
     record {
       live-rows = unfold liveIn in live-shown shown;
@@ -126,7 +274,9 @@ pub archives : Archives
 archives =
     record {
       read-after-write = read-after-write;
+      text-after-write = text-after-write;
       one-image = one-image;
+      loaded-sound = λ words capacity b pending h b′ pending′ fits m. loaded-sound words capacity b pending h b′ pending′ m fits;
       damage-refused = damage-refused;
       term-three = archived-claimed;
     }
