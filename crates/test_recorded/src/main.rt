@@ -36,7 +36,7 @@ fn write_count(count: u64, text: &[u8]) {
 
 fn write_counts(counts: Counts) {
     write_count(counts.answers, b" recorded answers\n");
-    write_count(counts.compared, b" of them compared for here\n");
+    write_count(counts.compared, b" of them compared here\n");
     write_count(counts.agreed, b" agreed\n");
 }
 
