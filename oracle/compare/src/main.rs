@@ -66,7 +66,7 @@ const BATCHES: u64 = 3_000;
 const BATCH_SEED: u64 = 12;
 
 /// The gate's fuzzed calls, those about images, and their seed.
-const FUZZ_CALLS: u64 = 2_500_000;
+const FUZZ_CALLS: u64 = 2_800_000;
 const FUZZED_IMAGES: u64 = 600_000;
 const FUZZ_SEED: u64 = 1;
 
