@@ -9,12 +9,12 @@ use Rattle.table.specs.declared.TableAnswer.{TableAnswer}
 use Rattle.table.specs.Laws.Answers.{table-view-injective}
 use Rattle.image_spec.specs.Image.{Image}
 use Rattle.image_spec.specs.Contracts.{Decoded, checkReply, ImageChecked}
-use Rattle.image_parse.specs.Laws.Images.{one-image}
+use Rattle.image_spec.specs.Laws.Unique.{reads-unique}
 
 module _ {words : List ℕ} (a b : Decoded words) where
   -- words are one image at most
   pub same-image : a .image ≡ b .image
-  same-image = one-image words (a .image) (b .image) (a .reads) (b .reads)
+  same-image = reads-unique words (a .image) (b .image) (a .reads) (b .reads)
 
   -- and it is of a sound table or not
   pub same-sound : (i : Image) → a .image ≡ some i → a .sound ≡ b .sound

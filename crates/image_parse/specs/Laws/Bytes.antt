@@ -53,14 +53,6 @@ bytes-small (w ∷ ws) =
 
 -- ---- the words of bytes
 
-pub length-packed : (bytes : List ℕ) → length (packed bytes) ≡ (length bytes + 3) / 4
-unfolding packed
-length-packed [] = refl
-length-packed (a ∷ []) = refl
-length-packed (a ∷ b ∷ []) = refl
-length-packed (a ∷ b ∷ c ∷ []) = refl
-length-packed (a ∷ b ∷ c ∷ d ∷ bytes) = omega (arith, length-packed bytes)
-
 module _ (a b c d : ℕ) (ka : a < 256) (kb : b < 256) (kc : c < 256) (kd : d < 256) where
   byte-0 : (a + 256 * b + 65536 * c + 16777216 * d) % 256 ≡ a
   byte-0 = omega arith

@@ -23,7 +23,8 @@ use Rattle.abi.specs.Laws.Encoding.{header-decoded, flag-refused}
 use Rattle.image_spec.specs.Image.{Image, packed, imageBody, imageWords, isImage, Reads, reads, reads-none}
 use Rattle.image_parse.specs.declared.Layout.{Layout}
 use Rattle.image_parse.specs.inner.Parsed.{headerIn, layoutOf, Placed, part, imageIn, Marked, Filled, Whole, Passes, IsAt}
-use Rattle.image_parse.specs.Laws.Bytes.{length-bytes, bytes-append, isByte, bytes-small, length-packed, packed-bytes}
+use Rattle.image_spec.specs.Laws.Unique.{length-packed}
+use Rattle.image_parse.specs.Laws.Bytes.{length-bytes, bytes-append, isByte, bytes-small, packed-bytes}
 
 -- ---- what an image has
 
@@ -345,10 +346,3 @@ module _ (words : List ℕ) (i : Image) (is : isImage i ≡ true) (e : words ≡
   image-there =
       let p = image-proper i is in
       rw e (sym (image-back i p) ∙ ap (imageIn (imageWords i)) (sym (layout-back i p)))
-
--- words are one image at most
-pub one-image : (words : List ℕ) (a b : Option Image) → Reads words a → Reads words b → a ≡ b
-one-image words (some _) (some _) (reads i p e) (reads j q f) = ap some (image-there words i p e ∙ sym (image-there words j q f))
-one-image words (some _) none (reads i p e) (reads-none f) = absurd (f i p e)
-one-image words none (some _) (reads-none f) (reads i p e) = absurd (f i p e)
-one-image words none none (reads-none f) (reads-none g) = refl

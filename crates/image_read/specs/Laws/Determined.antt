@@ -21,7 +21,7 @@ use Rattle.image_spec.specs.declared.LengthAnswer.{LengthAnswer}
 use Rattle.image_spec.specs.declared.LengthAnswer.the-variants.{Refused, Length}
 use Rattle.image_spec.specs.Image.{Image}
 use Rattle.image_spec.specs.Contracts.{lengthView, Decoded, readRefusal, ImageRead, textRefusal, textOf, TextRead}
-use Rattle.image_parse.specs.Laws.Images.{one-image}
+use Rattle.image_spec.specs.Laws.Unique.{reads-unique}
 use Rattle.image_check.specs.Laws.Determined.{same-image, same-sound}
 
 -- ---- *Read text*
@@ -37,7 +37,7 @@ length-view-injective (Length m) (Length n) e = cc
 pub text-read-determined : {words output output₁ output₂ : List ℕ} {a b : LengthAnswer}
     → TextRead words output a output₁ → TextRead words output b output₂ → Same a b output₁ output₂
 text-read-determined {words} {output} {a = a} {b = b} x y =
-    let e = one-image words (x .image) (y .image) (x .reads) (y .reads) in
+    let e = reads-unique words (x .image) (y .image) (x .reads) (y .reads) in
     let number = ap (λ (i : Option Image). textRefusal i (length output)) e in
     record {
       answer = length-view-injective a b (x .answers ∙ ap (λ (i : Option Image). reply (textRefusal i (length output)) (length (textOf i))) e ∙ sym (y .answers));

@@ -13,7 +13,7 @@ use Rattle.table.specs.declared.Header.{Header}
 use Rattle.abi.specs.Encoding.{encodeHeader}
 use Rattle.image_spec.specs.Image.{packed, imageBody, imageWords, imageOf, imageLength}
 use Rattle.image_write.specs.inner.Parts.{imageHead, storeWords, wordsInUse, Holds}
-use Rattle.image_write.specs.Laws.Packed.{length-packed}
+use Rattle.image_spec.specs.Laws.Unique.{length-packed}
 
 -- a word behind words
 pub set-behind : (l w : List ℕ) (at i a : ℕ) → i ≡ at + length w → i < length l → set (splice l at w) i a ≡ splice l at (w ++ (a ∷ []))

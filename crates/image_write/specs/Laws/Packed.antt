@@ -6,14 +6,6 @@ use native.Mathlib.Omega.{arith}
 use lib.ListN.{length, getD, List·getD-eq-default}
 use Rattle.image_spec.specs.Image.{packed}
 
-pub length-packed : (bytes : List ℕ) → length (packed bytes) ≡ (length bytes + 3) / 4
-unfolding packed
-length-packed [] = refl
-length-packed (a ∷ []) = refl
-length-packed (a ∷ b ∷ []) = refl
-length-packed (a ∷ b ∷ c ∷ []) = refl
-length-packed (a ∷ b ∷ c ∷ d ∷ bytes) = let e = length-packed bytes in omega arith
-
 -- the four bytes from a place on, 0 behind the end, as one word
 abbrev pub wordFrom : List ℕ → ℕ → ℕ
 wordFrom bytes at =

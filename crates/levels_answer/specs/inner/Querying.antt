@@ -10,7 +10,7 @@ use Rattle.table.specs.declared.RangeAnswer.{RangeAnswer}
 use Rattle.table.specs.declared.RangeAnswer.the-variants.{Refused as RangeRefused, None, Range as Ranged}
 use Rattle.table.specs.declared.Version.{Version as Versioned}
 use Rattle.table.specs.declared.VersionAnswer.{VersionAnswer}
-use Rattle.table.specs.declared.VersionAnswer.the-variants.{Refused as VersionRefused, Version as VersionTold}
+use Rattle.table.specs.declared.VersionAnswer.the-variants.{Refused as VersionRefused, Version as VersionEncoded}
 use Rattle.table.specs.Numbers.{rangeView, versionView}
 use Rattle.table.specs.Contracts.{stores, RangeRead, VersionRead}
 use Rattle.levels_spec.specs.declared.Response.{Response}
@@ -44,7 +44,7 @@ module _ (answer : VersionAnswer) where
   unfolding versionView responseOf
   version-refused n responds e = rw e
 
-  pub version-responds : (v : Versioned) (responds : Versioned → Response) → answer ≡ VersionTold v → responds v ≡ responseOf responds (versionView answer)
+  pub version-responds : (v : Versioned) (responds : Versioned → Response) → answer ≡ VersionEncoded v → responds v ≡ responseOf responds (versionView answer)
   unfolding versionView responseOf
   version-responds v responds e = rw e
 

@@ -9,7 +9,7 @@ use lib.Seq.{take-length}
 use Rattle.lists.specs.Lists.{splice}
 use Rattle.lists.specs.Laws.Parts.{splice-nil}
 use Rattle.image_spec.specs.Image.{packed}
-use Rattle.image_write.specs.Laws.Packed.{length-packed}
+use Rattle.image_spec.specs.Laws.Unique.{length-packed}
 use Rattle.image_write.specs.Laws.Bodies.{write-step}
 use borrow.Author.Needs.{needs}
 use Rattle.image_write.proofs.parts.write_text.Statement.{statement}
