@@ -215,6 +215,7 @@ fn sorted(mut lines: Vec<String>) -> Vec<String> {
 const CRATES: [&str; 10] = [
     "abi_table",
     "abi_read",
+    "abi_row",
     "abi_query",
     "abi_refresh",
     "abi_precedence",

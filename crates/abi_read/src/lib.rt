@@ -1,35 +1,19 @@
-// The reads of a table as C functions: lookups, fast range, versions; and the intersection of two subsets.
+// The reads of a table as C functions: one cell, fast range, versions; and the intersection of two subsets.
 ghost use Prim.Native.Nat.{ℕ};
 ghost use mathlib.Core.List.{List};
 ghost use lib.ListN.{length, getD};
 ghost use Rattle.offsets.specs.Subsets.{range};
 ghost use Rattle.offsets.specs.Answers.{subsetOf, intersectReply, Answered};
-ghost use Rattle.table.specs.Numbers.{rowView, cellView, rangeView, versionView};
-ghost use Rattle.table.specs.Contracts.{LookedUp, CellRead, RangeRead, RowsSince, RowsSinceVersion, VersionRead};
+ghost use Rattle.table.specs.Numbers.{cellView, rangeView, versionView};
+ghost use Rattle.table.specs.Contracts.{CellRead, RangeRead, RowsSince, RowsSinceVersion, VersionRead};
 ghost use Rattle.abi.specs.Encoding.{decodeHeader, decodeCondition, decodeSubset, encodeOption, encodeRange, encodeVersion, subsetView, encodeSubset, Answers};
 use abi::decode_condition;
 use abi::decode_header;
 use abi::decode_subset;
 use abi::store_cell;
 use abi::store_range;
-use abi::store_row;
 use abi::store_subset;
 use abi::store_version;
-
-// The answer is two words: found, row.
-#[no_mangle]
-pub extern "C" fn mouldgrey_get_row(
-    header: &[u32; 12],
-    rows: &[u32],
-    keys: &[u32],
-    key: &[u32],
-    row: &mut [u32; 2],
-) -> u32
-    ensures { λ r. ⌜ Answers (λ answer. LookedUp (decodeHeader (now (header .entry))) (now (rows .entry)) (now (keys .entry)) (now (key .entry)) answer) rowView encodeOption (now (row .entry)) r (now (row .exit)) ⌝ }
-{
-    let answer = table_read::get_row(decode_header(header), rows, keys, key);
-    store_row(answer, row)
-}
 
 // The answer is two words: found, cell.
 #[no_mangle]

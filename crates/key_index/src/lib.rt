@@ -220,8 +220,8 @@ fn bits_ahead(slots: u32, store: &[u32], home: u32, hash: u32) -> u32
 }
 
 // Same contract as `find`, but faster. Most rows are in their key's home slot. A window detects most keys that have no row. Most
-// other rows are in the next slot with their hash's bits. Otherwise falls back to `find`. Call it from one place of a library only:
-// it is long, and the compiler inlines it at one call site only, but `find` at each.
+// other rows are in the next slot with their hash's bits. Otherwise falls back to `find`. Call it once in a library object: it is long,
+// and the compiler inlines it only where it is called once.
 pub fn look_up(t: IndexShape, rows: &[u32], store: &[u32], key: &[u32], hash: u32) -> Found
     requires { ⌜ (Fits t (now rows) (now store)) × (length (now key) ≡ t .keys) ⌝ }
     ensures { λ r. ⌜ FoundIs t (now (rows .entry)) (now (store .entry)) (now (key .entry)) hash r ⌝ }

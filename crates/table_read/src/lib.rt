@@ -25,7 +25,7 @@ pub fn get_row(h: Header, rows: &[u32], keys: &[u32], key: &[u32]) -> RowAnswer
     if refusal != 0 {
         return RowAnswer::Refused(refusal);
     }
-    let found = key_index::find(index_shape(h), rows, keys, key, cells::compact_hash(key));
+    let found = key_index::look_up(index_shape(h), rows, keys, key, cells::compact_hash(key));
     match found {
         Found::None => RowAnswer::None,
         Found::At(row, slot) => RowAnswer::Row(row),

@@ -11,20 +11,15 @@ use Rattle.offsets.specs.Answers.{Answered, intersectReply}
 use Rattle.offsets.specs.Laws.Subsets.{answered-determined}
 use Rattle.sort_entries.specs.Entries.{entriesOf, entriesSound}
 use Rattle.table.specs.declared.Header.{Header}
-use Rattle.table.specs.Numbers.{rowView, cellView, rangeView, versionView}
-use Rattle.table.specs.Refusing.{lookupRefusal, cellRefusal, fastRefusal}
-use Rattle.table.specs.Contracts.{LookedUp, CellRead, RangeRead, RowsSince, RowsSinceVersion, VersionRead}
+use Rattle.table.specs.Numbers.{cellView, rangeView, versionView}
+use Rattle.table.specs.Refusing.{cellRefusal, fastRefusal}
+use Rattle.table.specs.Contracts.{CellRead, RangeRead, RowsSince, RowsSinceVersion, VersionRead}
 use Rattle.table.specs.Laws.Determined as library
-use Rattle.table.specs.Laws.Determined.{KnownKeys, looked-up-determined, cell-read-determined, range-read-determined, version-read-determined, rows-since-determined}
+use Rattle.table.specs.Laws.Determined.{KnownKeys, cell-read-determined, range-read-determined, version-read-determined, rows-since-determined}
 use Rattle.abi.specs.Encoding.{decodeCondition, encodeOption, encodeRange, encodeVersion, subsetView, encodeSubset, Answers}
 use Rattle.abi.specs.Laws.Determined.{SameOutcome, answers-determined}
 
 module _ {words words₁ words₂ : List ℕ} {r₁ r₂ : ℕ} where
-  pub get-row-determined : (h : Header) (rows keys key : List ℕ)
-      → Answers (λ a. LookedUp h rows keys key a) rowView encodeOption words r₁ words₁ → Answers (λ a. LookedUp h rows keys key a) rowView encodeOption words r₂ words₂
-      → SameOutcome rowView (SameAnswer rowView (lookupRefusal h (length rows) (length keys) (length key)) (KnownKeys h rows keys)) r₁ r₂ words₁ words₂
-  get-row-determined h rows keys key = answers-determined (λ x y. looked-up-determined)
-
   pub get-row-column-determined : (h : Header) (rows keys key : List ℕ) (column : ℕ)
       → Answers (λ a. CellRead h rows keys key column a) cellView encodeOption words r₁ words₁ → Answers (λ a. CellRead h rows keys key column a) cellView encodeOption words r₂ words₂
       → SameOutcome cellView (SameAnswer cellView (cellRefusal h (length rows) (length keys) (length key) column) (KnownKeys h rows keys)) r₁ r₂ words₁ words₂

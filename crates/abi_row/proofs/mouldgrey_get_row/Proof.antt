@@ -1,9 +1,9 @@
--- `abi_read::mouldgrey_get_row` meets its contract. Assumes nothing.
+-- `abi_row::mouldgrey_get_row` meets its contract. Assumes nothing.
 use mathlib.Core.Path.{sym}
 use Rattle.abi.specs.Laws.Encoding.{answers}
 use borrow.Author.Needs.{needs}
-use Rattle.abi_read.proofs.mouldgrey_get_row.Statement.{statement}
-use Rattle.abi_read.proofs.mouldgrey_get_row.Tie as tie
+use Rattle.abi_row.proofs.mouldgrey_get_row.Statement.{statement}
+use Rattle.abi_row.proofs.mouldgrey_get_row.Tie as tie
 
 pub mouldgrey-get-row-spec : {M : Type 1} → statement M
 mouldgrey-get-row-spec =
