@@ -3,10 +3,12 @@
 mod columns;
 mod images;
 mod keys;
+mod listings;
 mod offsets;
 mod refreshes;
 mod report;
 mod seal;
+mod sizes;
 mod tables;
 
 use report::Report;
@@ -20,9 +22,11 @@ fn run(report: &mut Report) {
     offsets::intersect(report);
     keys::index(report);
     tables::operations(report);
+    sizes::sizes(report);
     refreshes::refreshes(report);
     columns::orders(report);
     images::images(report);
+    listings::listings(report);
 }
 
 /// A line for each thing measured whose name has this part: the medians of so many runs.
@@ -44,7 +48,9 @@ pub fn check() -> Result<(), String> {
         }
     }
     report.print();
-    match report.above() {
+    let mut above = report.above();
+    above.extend(report.more_above());
+    match above {
         above if above.is_empty() => Ok(()),
         above => Err(format!("above its record:\n{}", above.join("\n"))),
     }

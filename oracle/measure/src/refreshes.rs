@@ -130,8 +130,60 @@ fn finding(report: &mut Report) {
     }
 }
 
+/// As many values as rows, none of which a row has, and one value again and again, which six rows have.
+fn many_values(report: &mut Report) {
+    let absent: Vec<u32> = (TYPES..TYPES + ROWS).collect();
+    let again = vec![types(1)[0]; 1_000];
+    for (name, columns) in [("one column", &[2][..]), ("two columns", &[2, 4])] {
+        for (of, values) in [
+            ("60,000 values", &absent),
+            ("one value 1,000 times", &again),
+        ] {
+            report.compare_along(
+                &format!("refresh: 60,000 unseen rows, {of}, {name}, each row"),
+                ROWS as usize,
+                &mut Indexed::new(ROWS, columns),
+                |both, _| both.forget(),
+                |both| both.ours(values),
+                |both| both.theirs(values),
+            );
+        }
+    }
+}
+
+/// One value that no row has: over an index that is up to date, and behind one new row.
+fn nothing(report: &mut Report) {
+    report.compare_along(
+        "refresh: up to date, 60,000 rows, one absent value, whole",
+        1,
+        &mut Indexed::new(ROWS, &[2]),
+        |both, _| {
+            both.ours(&[]);
+            both.theirs(&[TYPES]);
+        },
+        |both| both.ours(&[TYPES]),
+        |both| both.theirs(&[TYPES]),
+    );
+    let first = 40_000;
+    report.compare_along(
+        "refresh: 40,000 rows seen, one new, one absent value, whole",
+        1,
+        &mut Indexed::new(first, &[2]),
+        |both, round| {
+            both.ours(&[]);
+            both.theirs(&[TYPES]);
+            both.both
+                .stage([typed(first + round), Call::Merge].into_iter());
+        },
+        |both| both.ours(&[TYPES]),
+        |both| both.theirs(&[TYPES]),
+    );
+}
+
 pub fn refreshes(report: &mut Report) {
     afresh(report);
     catching_up(report);
     finding(report);
+    many_values(report);
+    nothing(report);
 }

@@ -81,6 +81,32 @@ impl Row {
     }
 }
 
+/// Starts the last line, which counts the rows whose ratio is above 1.0.
+const ABOVE: &str = "rows above 1.0: ";
+
+/// The processor's name, as the system gives it.
+fn processor() -> String {
+    let info = std::fs::read_to_string("/proc/cpuinfo").unwrap_or_default();
+    let value = |line: &str, name: &str| {
+        let (key, value) = line.split_once(':')?;
+        (key.trim() == name).then(|| value.trim().to_string())
+    };
+    let field = |name: &str| info.lines().find_map(|line| value(line, name));
+    let name = field("model name").unwrap_or("unknown".to_string());
+    let number = |name: &str| field(name).unwrap_or_default();
+    format!(
+        "{name}, family {}, model {}",
+        number("cpu family"),
+        number("model")
+    )
+}
+
+/// How many rows are above 1.0, in the last line of a record.
+fn recorded_above(line: &str) -> Option<usize> {
+    let counts = line.strip_prefix(ABOVE)?;
+    counts.split_whitespace().next()?.parse().ok()
+}
+
 /// The name and the ratio of a printed line.
 fn recorded(line: &str) -> Option<(&str, f64)> {
     let (name, times) = line.strip_prefix("  ")?.split_at_checked(NAME_WIDTH)?;
@@ -179,10 +205,21 @@ impl Report {
     }
 
     pub fn print(&self) {
+        println!("processor: {}", processor());
         println!("nanoseconds of the proved library and of the Rust, and their ratio");
         for row in &self.rows {
             println!("{}", row.line());
         }
+        let above = self.rows.iter().filter(|row| 1.0 < median(row.ratios()));
+        println!("{ABOVE}{} of {}", above.count(), self.rows.len());
+    }
+
+    /// An error if more rows are above 1.0 in every run than the record has above 1.0 in the median.
+    pub fn more_above(&self) -> Option<String> {
+        let most = RECORDED.lines().find_map(recorded_above)?;
+        let above = self.rows.iter().filter(|row| 1.0 < row.least_ratio());
+        let count = above.count();
+        (most < count).then(|| format!("{count} rows are above 1.0, recorded {most}"))
     }
 
     /// The rows that were in no run within what is recorded of them; those of which nothing is recorded, too.

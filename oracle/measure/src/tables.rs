@@ -15,7 +15,7 @@ const SORT: u32 = 3;
 const SEED: u64 = 5;
 
 /// The key of row `i`, in an order that no store follows.
-fn key(i: u32) -> [u32; 2] {
+pub fn key(i: u32) -> [u32; 2] {
     let mixed = i.wrapping_mul(0x85eb_ca6b) % (1 << 30);
     [mixed / 2, 1 + mixed % 2]
 }
@@ -54,12 +54,16 @@ fn play(table: &mut Table, call: &Call) {
 impl Both {
     /// An empty table of these columns, with room for so many staged inserts.
     pub fn opened(columns: u32, inserts: u32) -> Both {
+        Both::opened_with(CAPACITY, columns, inserts)
+    }
+
+    pub fn opened_with(capacity: u32, columns: u32, inserts: u32) -> Both {
         let opening = Opening {
             columns,
             keys: 2,
             sort: SORT,
             rule: Rule::TakeNew,
-            capacity: CAPACITY,
+            capacity,
             generation: 0,
         };
         let same = calls::Opening {
@@ -67,7 +71,7 @@ impl Both {
             keys: 2,
             sort: SORT,
             rule: 1,
-            capacity: CAPACITY,
+            capacity,
             generation: 0,
         };
         let pending = inserts * (columns + 2);
@@ -91,12 +95,12 @@ impl Both {
         }
     }
 
-    fn merged(self) -> Both {
+    pub fn merged(self) -> Both {
         self.staged(std::iter::once(Call::Merge))
     }
 
     /// Calls on copies, for each of so many rows.
-    fn once(&self, report: &mut Report, name: &str, rows: u32, calls: &[Call]) {
+    pub fn once(&self, report: &mut Report, name: &str, rows: u32, calls: &[Call]) {
         report.compare_anew(
             name,
             rows as usize,
@@ -112,11 +116,11 @@ impl Both {
     }
 }
 
-fn inserts(count: u32, columns: u32, level: u32) -> impl Iterator<Item = Call> {
+pub fn inserts(count: u32, columns: u32, level: u32) -> impl Iterator<Item = Call> {
     (0..count).map(move |i| Call::Insert(row(i, columns, level, 100 * level + i / 1_000)))
 }
 
-fn removal(i: u32) -> Call {
+pub fn removal(i: u32) -> Call {
     Call::RemoveKey(key(i).to_vec())
 }
 

@@ -1,0 +1,209 @@
+//! The same operations at other sizes, from ten rows in a small table to a full one: the key store's size classes make its load differ.
+//! Lookups and removals that find their row and that do not; tables that are copied for each round, and one that is reused, so that
+//! its key store has a history.
+
+use crate::report::Report;
+use crate::tables::{Both, inserts, key, removal};
+use calls::Call;
+use mouldgrey::lent;
+use rustc_hash::FxHasher;
+use std::collections::HashMap;
+use std::hash::BuildHasherDefault;
+use std::hint::black_box;
+
+const COLUMNS: u32 = 4;
+const SMALL: u32 = 64;
+const LARGE: u32 = 65_536;
+/// The number of keys that no row has starts here.
+const ABSENT: u32 = 1_000_000;
+const BATCH: u32 = 1_000;
+
+/// Row count and capacity.
+const SIZES: [(u32, u32); 7] = [
+    (10, SMALL),
+    (1_000, LARGE),
+    (7_000, LARGE),
+    (8_192, LARGE),
+    (20_000, LARGE),
+    (60_000, LARGE),
+    (65_536, LARGE),
+];
+
+fn filled(rows: u32, capacity: u32) -> Both {
+    Both::opened_with(capacity, COLUMNS, capacity)
+        .staged(inserts(rows, COLUMNS, 1))
+        .merged()
+}
+
+/// So many places below a count, in an order that no store follows.
+fn places(count: u32, most: u32) -> Vec<u32> {
+    let step = 40_503 % count.max(2) | 1;
+    (0..most.min(count))
+        .map(|i| i.wrapping_mul(step) % count)
+        .collect()
+}
+
+fn lookups(report: &mut Report, size: &str, both: &Both, rows: u32) {
+    let s = both.ours.stores();
+    let hits: Vec<[u32; 2]> = places(rows, 8_192).into_iter().map(key).collect();
+    let misses: Vec<[u32; 2]> = (0..hits.len() as u32).map(|i| key(ABSENT + i)).collect();
+    for (what, keys) in [("hit", &hits), ("miss", &misses)] {
+        let theirs = || {
+            keys.iter()
+                .filter_map(|key| both.theirs.cell(key, 2))
+                .fold(0, u32::wrapping_add)
+        };
+        report.compare(
+            &format!("{size}: row {what}"),
+            keys.len(),
+            || {
+                keys.iter()
+                    .filter_map(|key| {
+                        lent::get_row(&s.header, &s.rows, &s.keys, key).expect("a fit key")
+                    })
+                    .fold(0, u32::wrapping_add)
+            },
+            theirs,
+        );
+        report.compare(
+            &format!("{size}: one cell, {what}"),
+            keys.len(),
+            || {
+                keys.iter()
+                    .filter_map(|key| {
+                        lent::get_row_column(&s.header, &s.rows, &s.keys, key, 2)
+                            .expect("a fit key")
+                    })
+                    .fold(0, u32::wrapping_add)
+            },
+            theirs,
+        );
+    }
+}
+
+/// A quarter of the rows: too few for the merge to compact.
+fn removals(report: &mut Report, size: &str, both: &Both, rows: u32) {
+    let dying = places(rows, rows / 4);
+    let pieces = dying.len();
+    let staged = both.clone().staged(dying.iter().map(|&i| removal(i)));
+    staged.once(
+        report,
+        &format!("{size}: removal, each"),
+        pieces as u32,
+        &[Call::Merge],
+    );
+    let absent = (0..pieces as u32).map(|i| removal(ABSENT + i));
+    let nothing = both.clone().staged(absent);
+    nothing.once(
+        report,
+        &format!("{size}: removal of no row, each"),
+        pieces as u32,
+        &[Call::Merge],
+    );
+    report.compare_along(
+        &format!("{size}: removal, table reused, each"),
+        pieces,
+        &mut both.clone(),
+        |both, round| {
+            if 0 < round {
+                let again = dying
+                    .iter()
+                    .map(|&i| Call::Insert(crate::tables::row(i, COLUMNS, 1, 1_000)));
+                both.stage(
+                    [Call::Compact]
+                        .into_iter()
+                        .chain(again)
+                        .chain([Call::Merge]),
+                );
+            }
+            both.stage(dying.iter().map(|&i| removal(i)));
+        },
+        |both| both.ours.merge().is_ok(),
+        |both| both.theirs.play(&Call::Merge),
+    );
+}
+
+fn merges(report: &mut Report, size: &str, both: &Both, rows: u32, capacity: u32) {
+    for (what, count) in [("1,000 new keys, each", BATCH), ("one new key, whole", 1)] {
+        if rows + count <= capacity {
+            let new = (rows..rows + count)
+                .map(|i| Call::Insert(crate::tables::row(i, COLUMNS, 1, 1_000)));
+            let staged = both.clone().staged(new);
+            staged.once(
+                report,
+                &format!("{size}: merge of {what}"),
+                count,
+                &[Call::Merge],
+            );
+        }
+    }
+    both.once(
+        report,
+        &format!("{size}: merge of nothing, whole"),
+        1,
+        &[Call::Merge],
+    );
+    both.once(
+        report,
+        &format!("{size}: compact, no row dead, whole"),
+        1,
+        &[Call::Compact],
+    );
+    both.once(report, &format!("{size}: clear, whole"), 1, &[Call::Clear]);
+}
+
+type Keys = HashMap<u64, u32, BuildHasherDefault<FxHasher>>;
+
+/// What a plain Rust program tests of the same stores: that keys differ, that rows have the values of their sort entries, and the counts.
+fn is_sound(both: &Both, keys: &mut Keys) -> bool {
+    let s = both.ours.stores();
+    keys.clear();
+    let entries = &s.sorts[..2 * s.header.entries as usize];
+    let (mut entry, mut dead) = (0, 0);
+    for (number, row) in s
+        .rows
+        .chunks(COLUMNS as usize)
+        .take(s.header.rows as usize)
+        .enumerate()
+    {
+        if entries
+            .get(2 * entry + 3)
+            .is_some_and(|&first| first as usize == number)
+        {
+            entry += 1;
+        }
+        if row[0] == mouldgrey::DEAD {
+            dead += 1;
+            continue;
+        }
+        let key = (u64::from(row[0]) << 32) | u64::from(row[1]);
+        if row[3] != entries[2 * entry] || keys.insert(key, number as u32).is_some() {
+            return false;
+        }
+    }
+    dead == s.header.dead
+}
+
+fn soundness(report: &mut Report, size: &str, both: &Both) {
+    let mut keys = Keys::default();
+    report.compare(
+        &format!("{size}: is sound, whole"),
+        1,
+        || black_box(&both.ours).is_sound(),
+        || is_sound(black_box(both), &mut keys),
+    );
+}
+
+pub fn sizes(report: &mut Report) {
+    for (rows, capacity) in SIZES {
+        let size = format!("{rows} rows in {capacity}");
+        let both = filled(rows, capacity);
+        lookups(report, &size, &both, rows);
+        removals(report, &size, &both, rows);
+        merges(report, &size, &both, rows, capacity);
+        soundness(report, &size, &both);
+    }
+    let few = filled(32, LARGE);
+    merges(report, "32 rows in 65536", &few, 32, LARGE);
+    soundness(report, "32 rows in 65536", &few);
+}
