@@ -1,12 +1,12 @@
-// The key store's part of the table's soundness check: whether it leads to exactly the live rows. Takes time linear in slots and
-// rows: one pass over the rows, one up to a free slot, and one round over the slots from there. Safe on any store: a word is
-// validated before it is used as a row number.
+// The key store's part of the table's soundness check: whether its slots have words of live rows only, and as many as there are
+// live rows. Takes time linear in slots and rows: one pass over the rows, one up to a free slot, and one round over the slots from
+// there. Safe on any store: a word is validated before it is used as a row number.
 ghost use mathlib.Core.Path.{_≡_};
 ghost use Prim.Native.Nat.{_<_, _≤_};
 ghost use lib.ListN.{length};
 ghost use Rattle.key_index.specs.Slots.{slots};
 ghost use Rattle.key_index.specs.inner.Index.{RowsIn, Fits};
-ghost use Rattle.key_check.specs.inner.Check.{isLiveRow, liveCount, ReachableIs, FreeIs, RoundFits, KeysChecked};
+ghost use Rattle.key_check.specs.inner.Check.{isLiveRow, liveCount, ReachableIs, FreeIs, RoundFits, SlotsChecked};
 use key_index::IndexShape;
 use key_index::ROW_RANGE;
 use key_index::home_slot;
@@ -80,18 +80,11 @@ fn is_reachable(t: IndexShape, rows: &[u32], word: u32, at: u32, run: u32) -> bo
     (at + (n - home)) % n < run
 }
 
-// Whether the slots, scanned once round from a free one, have each live row exactly once. `seen` has a flag for each row, all of
-// them clear. Each taken slot has a different row, so no live row is missing if taken slots and live rows are equally many.
-fn round_holds(
-    t: IndexShape,
-    rows: &[u32],
-    store: &[u32],
-    free: u32,
-    live: u32,
-    seen: &mut [u8],
-) -> bool
-    requires { ⌜ RoundFits t (now rows) (now store) free live (now seen) ⌝ }
-    ensures { λ r. ⌜ KeysChecked t (now (rows .entry)) (now (store .entry)) r ⌝ }
+// Whether the slots, scanned once round from a free one, have words of live rows within reach of their homes, and as many as there
+// are live rows. If each live row is then found by a lookup, no row has two slots.
+fn round_holds(t: IndexShape, rows: &[u32], store: &[u32], free: u32, live: u32) -> bool
+    requires { ⌜ RoundFits t (now rows) (now store) free live ⌝ }
+    ensures { λ r. ⌜ SlotsChecked t (now (rows .entry)) (now (store .entry)) r ⌝ }
 {
     let n = 2 * t.room;
     let mut run: u32 = 0;
@@ -109,20 +102,15 @@ fn round_holds(
             if !is_reachable(t, rows, word, at, run) {
                 return false;
             }
-            let row = (word % ROW_RANGE - 1) as usize;
-            if seen[row] != 0 {
-                return false;
-            }
-            seen[row] = 1;
         }
     }
     taken == live
 }
 
-// Whether a key store leads to exactly the live rows.
-pub fn keys_sound(t: IndexShape, rows: &[u32], store: &[u32]) -> bool
+// Whether a key store's slots are sound.
+pub fn slots_sound(t: IndexShape, rows: &[u32], store: &[u32]) -> bool
     requires { ⌜ Fits t (now rows) (now store) ⌝ }
-    ensures { λ r. ⌜ KeysChecked t (now (rows .entry)) (now (store .entry)) r ⌝ }
+    ensures { λ r. ⌜ SlotsChecked t (now (rows .entry)) (now (store .entry)) r ⌝ }
 {
     let live = count_live(t, rows);
     let n = 2 * t.room;
@@ -130,6 +118,5 @@ pub fn keys_sound(t: IndexShape, rows: &[u32], store: &[u32]) -> bool
     if n <= free {
         return false;
     }
-    let mut seen = [0u8; 65536];
-    round_holds(t, rows, store, free, live, &mut seen)
+    round_holds(t, rows, store, free, live)
 }

@@ -26,6 +26,7 @@ use Rattle.key_index.specs.declared.Found.{Found}
 use Rattle.key_index.specs.declared.Found.the-variants.{None, At}
 use Rattle.key_index.specs.Slots.{LiveAt, keyAt, KeysSound}
 use Rattle.key_index.specs.inner.Index.{Fits, FoundIs, KeysDiffer}
+use Rattle.key_check.specs.inner.Check.{SlotsSound}
 use Rattle.sort_entries.specs.Entries.{entriesOf, entriesSound}
 use Rattle.sort_entries.specs.inner.Checks.{Decides, decides-yes, decides-no, cellsSound}
 use Rattle.sort_entries.specs.Laws.Cells.{cells-live, cells-of}
@@ -41,8 +42,8 @@ use Rattle.table.specs.Numbers.{openingOf, largestView, soundView}
 use Rattle.table.specs.Refusing.{soundRefusal}
 use Rattle.table.specs.Sound.{indexShapeOf}
 use Rattle.table.specs.Contracts.{Checked}
-use Rattle.table_check.specs.inner.Checks.{deadRows, lastKept, RowsSound, KeyStoreSound, OwnIs, kindWords, keyPlace, keyWords, Begins, RecordRead, HoldsFrom, PendingWhole, SoundStores}
-use Rattle.table_check.specs.Laws.Checks.{parts-sound, sound-rows, sound-index, sound-whole, own-dead, own-none, own-at, begins-words, begins-hash, words-begin, holds-cons, holds-head, holds-tail, holds-none, holds-some, holds-pending, pending-holds}
+use Rattle.table_check.specs.inner.Checks.{deadRows, lastKept, RowsSound, KeyStoreSound, OwnIs, AllOwn, kindWords, keyPlace, keyWords, Begins, RecordRead, HoldsFrom, PendingWhole, SoundStores}
+use Rattle.table_check.specs.Laws.Checks.{parts-sound, sound-rows, sound-index, sound-whole, own-differ, own-sound, own-dead, own-none, own-at, begins-words, begins-hash, words-begin, holds-cons, holds-head, holds-tail, holds-none, holds-some, holds-pending, pending-holds}
 
 -- ---- rows
 
@@ -128,7 +129,7 @@ module _ (h : Header) (rows sorts : List ℕ) where
 -- ---- keys
 
 -- the answers of `finds_itself`, after the row's key is looked up
-module _ (t : IndexShape) (rows keys : List ℕ) (row : ℕ) (fits : Fits t rows keys) (sound : KeysSound t rows keys) (below : row < t .rows) where
+module _ (t : IndexShape) (rows keys : List ℕ) (row : ℕ) (fits : Fits t rows keys) (below : row < t .rows) where
   abbrev lent : List ℕ
   lent = take (row * t .columns + t .keys - row * t .columns) (drop (row * t .columns) rows)
 
@@ -143,18 +144,26 @@ module _ (t : IndexShape) (rows keys : List ℕ) (row : ℕ) (fits : Fits t rows
     found = rw (← key-part t rows row (fits .most-keys), ← h) f
 
     pub itself-none : r ≡ None → OwnIs t rows keys row false
-    itself-none e = own-none t rows keys row live sound (rw e at found)
+    itself-none e = own-none t rows keys row live (rw e at found)
 
     pub itself-at : (i slot : ℕ) → r ≡ At i slot → OwnIs t rows keys row (eqb i row)
-    itself-at i slot e = own-at t rows keys row live sound i slot (rw e at found)
+    itself-at i slot e = own-at t rows keys row live i slot (rw e at found)
+
+-- with a sound key store, live rows are found by their keys exactly if these differ
+pub differ-decided : (t : IndexShape) (rows keys : List ℕ) → KeysSound t rows keys → (r : Bool) → AllOwn t rows keys r → Decides (KeysDiffer t rows) r
+differ-decided t rows keys sound r d = record { yes = λ q. own-differ t rows keys (d .yes q); no = λ q. d .no q sound }
 
 -- the answers of `key_store_sound`
 module _ (t : IndexShape) (rows keys : List ℕ) where
   pub index-astray : (KeysSound t rows keys → ⊥) → Decides (KeyStoreSound t rows keys) false
   index-astray f = decides-no (λ s. f (s .keys-sound))
 
-  pub key-store-decided : KeysSound t rows keys → (r : Bool) → Decides (KeysDiffer t rows) r → Decides (KeyStoreSound t rows keys) r
-  key-store-decided k r d = record { yes = λ q. record { keys-sound = k; keys-differ = d .yes q }; no = λ q s. d .no q (s .keys-differ) }
+  pub key-store-decided : Fits t rows keys → SlotsSound t rows keys → (r : Bool) → AllOwn t rows keys r → Decides (KeyStoreSound t rows keys) r
+  key-store-decided fits k r d =
+      record {
+        yes = λ q. record { keys-sound = own-sound t rows keys fits k (d .yes q); keys-differ = own-differ t rows keys (d .yes q) };
+        no = λ q s. d .no q (s .keys-sound) (s .keys-differ);
+      }
 
 -- ---- pending records
 

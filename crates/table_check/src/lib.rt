@@ -11,7 +11,7 @@ ghost use Rattle.sort_entries.specs.inner.Checks.{Decides, Cells};
 ghost use Rattle.table.specs.Numbers.{openingOf};
 ghost use Rattle.table.specs.Refusing.{soundRefusal};
 ghost use Rattle.table.specs.Contracts.{Checked};
-ghost use Rattle.table_check.specs.inner.Checks.{deadRows, lastKept, RowsSound, KeyStoreSound, OwnIs, PendingIn, kindWords, keyPlace, RecordRead, PendingWhole, SoundStores};
+ghost use Rattle.table_check.specs.inner.Checks.{deadRows, lastKept, RowsSound, KeyStoreSound, OwnIs, AllOwn, PendingIn, kindWords, keyPlace, RecordRead, PendingWhole, SoundStores};
 use key_index::Found;
 use key_index::IndexShape;
 use table::Header;
@@ -79,7 +79,7 @@ pub fn rows_sound(h: Header, rows: &[u32], sorts: &[u32]) -> bool
 
 // Whether a row is dead or found by its key. If two live rows have the same key, a lookup finds the first of them in the key store.
 fn finds_itself(t: IndexShape, rows: &[u32], keys: &[u32], row: u32) -> bool
-    requires { ⌜ (Fits t (now rows) (now keys)) × (KeysSound t (now rows) (now keys)) × (row < t .rows) ⌝ }
+    requires { ⌜ (Fits t (now rows) (now keys)) × (row < t .rows) ⌝ }
     ensures { λ r. ⌜ OwnIs t (now (rows .entry)) (now (keys .entry)) row r ⌝ }
 {
     let from = (row * t.columns) as usize;
@@ -95,10 +95,10 @@ fn finds_itself(t: IndexShape, rows: &[u32], keys: &[u32], row: u32) -> bool
     }
 }
 
-// Whether the keys of live rows differ, given a sound key store.
-pub fn keys_differ(t: IndexShape, rows: &[u32], keys: &[u32]) -> bool
-    requires { ⌜ (Fits t (now rows) (now keys)) × (KeysSound t (now rows) (now keys)) ⌝ }
-    ensures { λ r. ⌜ Decides (KeysDiffer t (now (rows .entry))) r ⌝ }
+// Whether each live row is found by its key.
+fn rows_found(t: IndexShape, rows: &[u32], keys: &[u32]) -> bool
+    requires { ⌜ Fits t (now rows) (now keys) ⌝ }
+    ensures { λ r. ⌜ AllOwn t (now (rows .entry)) (now (keys .entry)) r ⌝ }
 {
     let mut row: u32 = 0;
     while row < t.rows {
@@ -110,15 +110,24 @@ pub fn keys_differ(t: IndexShape, rows: &[u32], keys: &[u32]) -> bool
     true
 }
 
-// Whether the key store refers to exactly the live rows, and their keys differ.
+// Whether the keys of live rows differ, given a sound key store.
+pub fn keys_differ(t: IndexShape, rows: &[u32], keys: &[u32]) -> bool
+    requires { ⌜ (Fits t (now rows) (now keys)) × (KeysSound t (now rows) (now keys)) ⌝ }
+    ensures { λ r. ⌜ Decides (KeysDiffer t (now (rows .entry))) r ⌝ }
+{
+    rows_found(t, rows, keys)
+}
+
+// Whether the key store refers to exactly the live rows, and their keys differ. If each live row is found, it has a slot, and no
+// row has two if the slots are sound.
 fn key_store_sound(t: IndexShape, rows: &[u32], keys: &[u32]) -> bool
     requires { ⌜ Fits t (now rows) (now keys) ⌝ }
     ensures { λ r. ⌜ Decides (KeyStoreSound t (now (rows .entry)) (now (keys .entry))) r ⌝ }
 {
-    if !key_check::keys_sound(t, rows, keys) {
+    if !key_check::slots_sound(t, rows, keys) {
         return false;
     }
-    keys_differ(t, rows, keys)
+    rows_found(t, rows, keys)
 }
 
 // The number of words of a record of this kind; 0 for an unknown kind.

@@ -1,18 +1,24 @@
--- Laws of counting rows and slots, and of the unrolled ring (a line of slots) that the check visits position by position. Assumes
--- nothing.
+-- Laws of counting rows and slots, and of the unrolled ring (a line of slots) that the check visits position by position; and that
+-- sound slots in which each live row is found are a sound key store. Assumes nothing.
 use Prim.Native.Nat.{ℕ, zero, suc, _+_, _-_, _≤_, _<_}
 use mathlib.Core.Path.{_≡_, refl, sym, ap, _∙_}
 use mathlib.Core.Logic.{inl, inr}
 use mathlib.Core.Bool.{Bool, true, false, not, _&&_, and-true}
+use mathlib.Core.List.{List}
 use native.Mathlib.Decide.{decLt, ℕ-discrete}
 use native.Mathlib.Numerals.{add-one}
 use native.Mathlib.Omega.{arith}
-use lib.Dec.{eqb}
-use borrow.Author.Tests.{eq-eqb, ne-eqb}
+use lib.Dec.{eqb, ltb}
+use lib.ListN.{getD}
+use borrow.Author.Tests.{eq-eqb, ne-eqb, lt-ltb}
 use Rattle.lists.specs.Laws.Filter.{split}
-use Rattle.key_index.specs.Slots.{slotFrom}
-use Rattle.key_index.specs.Laws.Unrolled.{away, slot-below, slot-then, slot-round, slot-one, away-below, away-slot, away-line, Line}
-use Rattle.key_check.specs.inner.Check.{tally}
+use Rattle.key_index.specs.declared.IndexShape.{IndexShape}
+use Rattle.key_index.specs.Slots.{LiveAt, keyAt, slots, word, slotFrom, KeysSound}
+use Rattle.key_index.specs.inner.Index.{Fits}
+use Rattle.key_index.specs.Laws.Ring.{word-some, word-same}
+use Rattle.key_index.specs.Laws.Unrolled.{away, slot-below, slot-then, slot-zero, slot-round, slot-one, away-below, away-slot, away-line, line, line-at, Line}
+use Rattle.key_index.specs.Laws.Lines.{Stored, lineHome, small, roll}
+use Rattle.key_check.specs.inner.Check.{isLiveRow, tally, takenCount, Front, SlotsSound}
 
 module _ (test : ℕ → Bool) (n : ℕ) where
   suc-yes : test n ≡ true → tally test (suc n) ≡ suc (tally test n)
@@ -90,17 +96,9 @@ matched R f (suc n) g m has own =
 
 -- ---- the line, one position at a time
 
--- the first p positions of a line; the other positions are not scanned yet
-pub record Front (homeOf : ℕ → ℕ) (Held : ℕ → Type 0) (l : ℕ → ℕ) (p : ℕ) : Type 0 where
-  pub only : (q : ℕ) → q < p → 0 < l q → Held (l q)
-  pub once : (a b : ℕ) → a < p → b < p → 0 < l a → l a ≡ l b → a ≡ b
-  pub after : (q : ℕ) → q < p → 0 < l q → homeOf (l q) ≤ q
-  pub way : (q : ℕ) → q < p → 0 < l q → (e : ℕ) → homeOf (l q) ≤ e → e ≤ q → 0 < l e
-
 -- the condition for a taken position p to extend the front
 pub record Joins (homeOf : ℕ → ℕ) (Held : ℕ → Type 0) (l : ℕ → ℕ) (p : ℕ) : Type 0 where
   pub held : Held (l p)
-  pub fresh : (q : ℕ) → q < p → 0 < l q → l q ≡ l p → ⊥
   pub after : homeOf (l p) ≤ p
   pub way : (e : ℕ) → homeOf (l p) ≤ e → e ≤ p → 0 < l e
 
@@ -109,7 +107,6 @@ module _ (homeOf : ℕ → ℕ) (Held : ℕ → Type 0) (l : ℕ → ℕ) where
   front-none =
       record {
         only = λ q h. absurd (omega arith);
-        once = λ a b h. absurd (omega arith);
         after = λ q h. absurd (omega arith);
         way = λ q h. absurd (omega arith);
       }
@@ -118,19 +115,9 @@ module _ (homeOf : ℕ → ℕ) (Held : ℕ → Type 0) (l : ℕ → ℕ) where
   front-more p f j =
       record {
         only = λ q h c. elim (ℕ-discrete q p) [ yes e ↦ rw e (j (rw e at c) .held) | no e ↦ f .only q (omega arith) c ];
-        once = λ a b h k c e. apart a b h k c e (ℕ-discrete a p) (ℕ-discrete b p);
         after = λ q h c. elim (ℕ-discrete q p) [ yes e ↦ rw e (j (rw e at c) .after) | no e ↦ f .after q (omega arith) c ];
         way = λ q h c e i k. elim (ℕ-discrete q p) [ yes u ↦ j (rw u at c) .way e (rw u at i) (omega arith) | no u ↦ f .way q (omega arith) c e i k ];
       }
-    where
-      apart : (a b : ℕ) → a < p + 1 → b < p + 1 → 0 < l a → l a ≡ l b → Dec (a ≡ p) → Dec (b ≡ p) → a ≡ b
-      apart a b h k c e (yes u) (yes v) = u ∙ sym v
-      apart a b h k c e (yes u) (no v) = absurd (j (rw u at c) .fresh b (omega arith) (rw e at c) (sym e ∙ ap l u))
-      apart a b h k c e (no u) (yes v) = absurd (j (rw (e, v) at c) .fresh a (omega arith) c (e ∙ ap l v))
-      apart a b h k c e (no u) (no v) = f .once a b (omega arith) (omega arith) c e
-
-  pub front-all : (n : ℕ) → l 0 ≡ 0 → Front homeOf Held l n → ((w : ℕ) → Held w → (p : ℕ) × (p < n) × (l p ≡ w)) → Line n homeOf Held l
-  front-all n z f all = record { free = z; only = f .only; once = f .once; all = all; after = f .after; way = f .way }
 
 -- the `run` positions before p are taken, and the one before them is free
 pub record Run (l : ℕ → ℕ) (p run : ℕ) : Type 0 where
@@ -184,3 +171,68 @@ module _ (n z h p : ℕ) (zn : z < n) (hn : h < n) (pn : p < n) where
 
   pub far-line : away n z h ≤ p → away n h (slotFrom n z p) ≡ p - away n z h
   far-line i = ap (λ (x : ℕ). away n x (slotFrom n z p)) (sym (away-slot n z h zn hn)) ∙ away-line n z (away n z h) p zn i pn
+
+-- ---- sound slots in which each live row is found
+
+pub live-is : (t : IndexShape) (rows : List ℕ) (row : ℕ) → row < t .rows → isLiveRow t rows row ≡ true → LiveAt t rows row
+unfolding isLiveRow
+live-is t rows row h e = (h, e)
+
+pub is-live : (t : IndexShape) (rows : List ℕ) (row : ℕ) → LiveAt t rows row → isLiveRow t rows row ≡ true
+unfolding isLiveRow
+is-live t rows row s = s .1
+
+module _ (t : IndexShape) (rows store : List ℕ) (f : Fits t rows store) where
+  -- live rows with a position each, other than a: there are fewer of them than taken positions
+  spared : (l : ℕ → ℕ) (n a : ℕ) → a < n → 0 < l a
+      → ((row : ℕ) → LiveAt t rows row → (q : ℕ) × (q < n) × (q ≡ a → ⊥) × (l q ≡ word (keyAt t rows row) row))
+      → tally (isLiveRow t rows) (t .rows) < takenCount l n
+  spared l n a h c places =
+      let m = matched (λ row q. l q ≡ word (keyAt t rows row) row) (isLiveRow t rows) (t .rows) (without (λ q. ltb 0 (l q)) a) n
+      (λ row k e.
+      let p = places row (live-is t rows row k e) in
+      (p .0, p .1, without-other (λ q. ltb 0 (l q)) a (p .0) (p .2) ∙ lt-ltb 0 (l (p .0)) (rw (p .3) (word-some (keyAt t rows row) row)), p .3))
+      (λ i j q h k u v. word-same _ _ i j (omega (arith, f .count, f .most)) (omega (arith, f .count, f .most)) (sym u ∙ v)) in
+      omega (arith, m, tally-without (λ q. ltb 0 (l q)) a n h (lt-ltb 0 (l a) c))
+
+  module _ (s : SlotsSound t rows store) (found : (row : ℕ) → LiveAt t rows row → (slot : ℕ) × (slot < slots t) × (getD store slot 0 ≡ word (keyAt t rows row) row)) where
+    abbrev l : ℕ → ℕ
+    l = line (slots t) (s .start) store
+
+    -- the position of a live row
+    position : (row : ℕ) → LiveAt t rows row → (q : ℕ) × (q < slots t) × (l q ≡ word (keyAt t rows row) row)
+    position row live =
+        let p = found row live in (
+          away (slots t) (s .start) (p .0),
+          away-below (slots t) (s .start) (p .0) (omega (arith, s .slot)),
+          line-at (slots t) (s .start) store _ (p .0) (away-slot (slots t) (s .start) (p .0) (s .slot) (p .1)) ∙ p .2,
+        )
+
+    -- no two positions have the same row: one of them would be spared
+    once : (a b : ℕ) → a < slots t → b < slots t → 0 < l a → l a ≡ l b → a ≡ b
+    once a b h k c e =
+        elim (ℕ-discrete a b) [
+          | yes q ↦ q
+          | no ne ↦ absurd (omega (
+            arith,
+            s .count,
+            spared l (slots t) a h c (λ row live.
+                let p = position row live in
+                elim (ℕ-discrete (p .0) a) [
+                  | yes q ↦ (b, k, (λ v. ne (sym v)), sym e ∙ ap l (sym q) ∙ p .2)
+                  | no q ↦ (p .0, p .1, q, p .2)
+                ]),
+          ))
+        ]
+
+    pub found-sound : KeysSound t rows store
+    found-sound =
+        roll t (small t rows store f) rows (s .start) (s .slot) store
+        (record {
+          free = line-at (slots t) (s .start) store 0 (s .start) (slot-zero (slots t) (s .start) (s .slot)) ∙ s .free;
+          only = s .front .only;
+          once = once;
+          all = λ w m. let p = position (m .0) (m .1) in (p .0, p .1, p .2 ∙ sym (m .2));
+          after = s .front .after;
+          way = s .front .way;
+        })

@@ -1,16 +1,19 @@
--- The check of a key store: contracts of its functions, and why it is sufficient. The ring is unrolled at a free slot. The check
--- tests that each taken position of the line has the word of a live row that can be reached from its home, and that no two
--- positions have the same row. If taken positions and live rows are then equally many, no live row is missing. Assumes nothing.
+-- The check of a key store's slots: contracts of its functions, and what it leaves open. The ring is unrolled at a free slot. The
+-- check tests that each taken position of the line has the word of a live row that can be reached from its home, and that taken
+-- positions and live rows are equally many. Two positions may still have the same row. Then some live row has no position, so a
+-- lookup of its key does not find it. Assumes nothing.
 use Prim.Native.Nat.{ℕ, zero, suc, _-_, _%_, _^_, _≤_, _<_}
 use mathlib.Core.Path.{_≡_}
 use mathlib.Core.Bool.{Bool, true, false, cond}
 use mathlib.Core.List.{List}
-use lib.ListN.{length, getD}
+use lib.Dec.{ltb}
+use lib.ListN.{getD}
 use Rattle.lists.specs.Lists.{rowAt}
 use Rattle.constraints.specs.Constraints.{isLive}
 use Rattle.key_index.specs.declared.IndexShape.{IndexShape}
 use Rattle.key_index.specs.Slots.{LiveAt, keyAt, slots, word, home, KeysSound}
-use Rattle.key_index.specs.Laws.Unrolled.{away}
+use Rattle.key_index.specs.Laws.Lines.{Stored, lineHome}
+use Rattle.key_index.specs.Laws.Unrolled.{away, line}
 use Rattle.key_index.specs.inner.Index.{Fits}
 
 -- ---- contracts
@@ -46,16 +49,33 @@ pub record ReachableIs (t : IndexShape) (rows : List ℕ) (w at run : ℕ) (r : 
   pub yes : r ≡ true → Reachable t rows w at run
   pub no : r ≡ false → Reachable t rows w at run → ⊥
 
--- the scan starts at a free slot, with the number of live rows, and with no row seen yet
-pub record RoundFits (t : IndexShape) (rows store : List ℕ) (z live : ℕ) (seen : List ℕ) : Type 0 where
+-- the scan starts at a free slot, with the number of live rows
+pub record RoundFits (t : IndexShape) (rows store : List ℕ) (z live : ℕ) : Type 0 where
   pub fits : Fits t rows store
   pub slot : z < slots t
   pub free : getD store z 0 ≡ 0
   pub count : live ≡ liveCount t rows
-  pub flags : t .rows ≤ length seen
-  pub clear : (i : ℕ) → i < t .rows → getD seen i 0 ≡ 0
 
--- the answer is true exactly if the store is sound
-pub record KeysChecked (t : IndexShape) (rows store : List ℕ) (r : Bool) : Type 0 where
-  pub yes : r ≡ true → KeysSound t rows store
+-- The first p positions of a line; the other positions are not scanned yet. Each taken position has a word that must be held, at
+-- or after its home, and no position from its home to it is free.
+pub record Front (homeOf : ℕ → ℕ) (Held : ℕ → Type 0) (l : ℕ → ℕ) (p : ℕ) : Type 0 where
+  pub only : (q : ℕ) → q < p → 0 < l q → Held (l q)
+  pub after : (q : ℕ) → q < p → 0 < l q → homeOf (l q) ≤ q
+  pub way : (q : ℕ) → q < p → 0 < l q → (e : ℕ) → homeOf (l q) ≤ e → e ≤ q → 0 < l e
+
+-- how many of the first p positions of a line are taken
+abbrev pub takenCount : (ℕ → ℕ) → ℕ → ℕ
+takenCount l p = tally (λ q. ltb 0 (l q)) p
+
+-- each taken slot has the word of a live row that can be reached from its home, and taken slots and live rows are equally many
+pub record SlotsSound (t : IndexShape) (rows store : List ℕ) : Type 0 where
+  pub start : ℕ
+  pub slot : start < slots t
+  pub free : getD store start 0 ≡ 0
+  pub front : Front (lineHome t rows start) (Stored t rows) (line (slots t) start store) (slots t)
+  pub count : takenCount (line (slots t) start store) (slots t) ≡ liveCount t rows
+
+-- a store that passes has sound slots, and a sound store passes
+pub record SlotsChecked (t : IndexShape) (rows store : List ℕ) (r : Bool) : Type 0 where
+  pub yes : r ≡ true → SlotsSound t rows store
   pub no : r ≡ false → KeysSound t rows store → ⊥

@@ -9,7 +9,7 @@ use Rattle.table_check.proofs.finds_itself.Statement.{statement}
 use Rattle.table_check.proofs.finds_itself.Tie as tie
 
 lies : (s : tie.Start) → Inside (s .args .rows .now) (s .args .t .columns) (s .args .row)
-lies s = row-inside _ _ _ (rows-in _ _ _ (s .pre .0)) (s .pre .2)
+lies s = row-inside _ _ _ (rows-in _ _ _ (s .pre .0)) (s .pre .1)
 
 mul-from : tie.Need-mul-from
 mul-from c = omega (arith, lies (c .before .before .before))
@@ -21,7 +21,7 @@ is-dead-requires : tie.Need-is-dead-requires
 is-dead-requires c κs = omega (arith, lies (c .before .before .before), c .before .before .before .pre .0 .some-columns)
 
 returns : tie.Need-returns
-returns c = let s = c .before .before .before .before .before in itself-dead _ _ _ _ (s .pre .0) (s .pre .1) (s .pre .2) (sym (c .before .is-dead .ensures) ∙ c .if1 .taken)
+returns c = let s = c .before .before .before .before .before in itself-dead _ _ _ _ (s .pre .0) (s .pre .1) (sym (c .before .is-dead .ensures) ∙ c .if1 .taken)
 
 add-to : tie.Need-add-to
 add-to c = omega (arith, lies (c .before .before .before .before .before .before), c .before .before .before .before .before .before .pre .0 .most-keys)
@@ -41,13 +41,13 @@ part-find-end c = omega (arith, lies (c .before .before .before .before .before 
 returns-2 : tie.Need-returns-2
 returns-2 c =
     let s = c .before .before .before .before .before .before .before .before .before .before .before .before in
-    itself-none _ _ _ _ (s .pre .0) (s .pre .1) (s .pre .2) (sym (c .before .before .before .before .before .before .before .before .is-dead .ensures) ∙ c .before .before .before .before .before .before .before .if1 .left) _ _
+    itself-none _ _ _ _ (s .pre .0) (s .pre .1) (sym (c .before .before .before .before .before .before .before .before .is-dead .ensures) ∙ c .before .before .before .before .before .before .before .if1 .left) _ _
     (c .before .before .before .before .compact-hash .ensures) (c .before .before .find .ensures) (c .enum-told .given .1)
 
 returns-3 : tie.Need-returns-3
 returns-3 c =
     let s = c .before .before .before .before .before .before .before .before .before .before .before .before .before in
-    itself-at _ _ _ _ (s .pre .0) (s .pre .1) (s .pre .2) (sym (c .before .before .before .before .before .before .before .before .before .is-dead .ensures) ∙ c .before .before .before .before .before .before .before .before .if1 .left) _ _
+    itself-at _ _ _ _ (s .pre .0) (s .pre .1) (sym (c .before .before .before .before .before .before .before .before .before .is-dead .ensures) ∙ c .before .before .before .before .before .before .before .before .if1 .left) _ _
     (c .before .before .before .before .before .compact-hash .ensures) (c .before .before .before .find .ensures) _ _ (c .before .found .given .1)
 
 pub finds-itself-spec : {M : Type 1} → statement M

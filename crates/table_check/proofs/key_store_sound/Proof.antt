@@ -6,15 +6,12 @@ use Rattle.table_check.proofs.key_store_sound.Statement.{statement}
 use Rattle.table_check.proofs.key_store_sound.Tie as tie
 
 returns : tie.Need-returns
-returns c = index-astray _ _ _ (c .before .keys-sound .ensures .no (not-true _ (c .if1 .taken)))
-
-keys-differ-requires : tie.Need-keys-differ-requires
-keys-differ-requires c κs = (c .before .before .before .before .pre, c .before .keys-sound .ensures .yes (not-false _ (c .if1 .left)))
+returns c = index-astray _ _ _ (c .before .slots-sound .ensures .no (not-true _ (c .if1 .taken)))
 
 returns-2 : tie.Need-returns-2
-returns-2 c = key-store-decided _ _ _ (c .before .before .keys-sound .ensures .yes (not-false _ (c .before .if1 .left))) _ (c .keys-differ .ensures)
+returns-2 c = key-store-decided _ _ _ (c .before .before .before .before .before .pre) (c .before .before .slots-sound .ensures .yes (not-false _ (c .before .if1 .left))) _ (c .rows-found .ensures)
 
 pub key-store-sound-spec : {M : Type 1} → statement M
 key-store-sound-spec =
     tie.close
-    (tie.spec (λ c κs. search needs) returns keys-differ-requires returns-2)
+    (tie.spec (λ c κs. search needs) returns (λ c κs. search needs) returns-2)

@@ -51,7 +51,12 @@ Own t rows keys row = (d : ℕ) × FirstHit t rows keys (keyAt t rows row) (comp
 -- whether a row is dead or found by its key
 pub record OwnIs (t : IndexShape) (rows keys : List ℕ) (row : ℕ) (r : Bool) : Type 0 where
   pub yes : r ≡ true → LiveAt t rows row → Own t rows keys row
-  pub no : r ≡ false → KeysDiffer t rows → ⊥
+  pub no : r ≡ false → KeysSound t rows keys → KeysDiffer t rows → ⊥
+
+-- whether each live row is found by its key
+pub record AllOwn (t : IndexShape) (rows keys : List ℕ) (r : Bool) : Type 0 where
+  pub yes : r ≡ true → (i : ℕ) → LiveAt t rows i → Own t rows keys i
+  pub no : r ≡ false → KeysSound t rows keys → KeysDiffer t rows → ⊥
 
 -- ---- pending records
 
