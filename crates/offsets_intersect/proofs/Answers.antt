@@ -1,25 +1,12 @@
 -- The reply that each answer encodes. Assumes nothing.
-use Prim.Native.Nat.{ℕ, zero, suc, _≤_, _<_, min, max}
-use mathlib.Core.Path.{_≡_, refl, sym, _∙_}
-use mathlib.Core.Bool.{Bool, true, false, _&&_}
-use mathlib.Core.List.{List, [], _∷_}
-use native.Mathlib.Omega.{arith}
-use lib.Dec.{leb}
-use lib.ListN.{length}
-use borrow.Author.Tests.{lt-leb, le-leb}
-use Rattle.lists.specs.Lists.{filter, within}
-use Rattle.lists.specs.Laws.Parts.{splice-nil}
-use Rattle.lists.specs.Laws.Filter.{and-left, and-right, length-filter, count-le}
+use Rattle.offsets_intersect.proofs.Prelude.{ℕ, zero, suc, _≤_, _<_, min, max, _≡_, refl, sym, _∙_, Bool, true, false, _&&_, List, [], _∷_, arith, leb, length, lt-leb, le-leb, filter, within, splice-nil, and-left, and-right, length-filter}
+use Rattle.offsets_intersect.proofs.Prelude.{count-le, Refused, Range, subsetOf, Answered, roomNeeded, intersectRefusal, intersectReply, Wrote, Fitting, Searchable, common, answered-refused as refused-answered, refusal-first, refusal-second}
+use Rattle.offsets_intersect.proofs.Prelude.{refusal-none, Allowed, allowed, dense-is, sparse-is, answered-range, answered-list, formed-order, formed-rising, formed-short}
 use Rattle.refusals.specs.Refusals.{refused, accepted, reply}
 use Rattle.offsets.specs.declared.SubsetHead.{SubsetHead}
 use Rattle.offsets.specs.declared.SubsetAnswer.{SubsetAnswer}
-use Rattle.offsets.specs.declared.SubsetAnswer.the-variants.{Refused, Range, List as Ids}
+use Rattle.offsets.specs.declared.SubsetAnswer.the-variants.{List as Ids}
 use Rattle.offsets.specs.Subsets.{Subset, range, list, wellFormed, listOrNothing, intersect}
-use Rattle.offsets.specs.Answers.{subsetOf, Answered, roomNeeded, intersectRefusal, intersectReply}
-use Rattle.offsets.specs.inner.Writing.{Wrote}
-use Rattle.offsets_intersect.specs.inner.Common.{Fitting, Searchable, common}
-use Rattle.offsets.specs.Laws.Answers.{answered-refused as refused-answered, refusal-first, refusal-second, refusal-none, Allowed, allowed}
-use Rattle.offsets.specs.Laws.Subsets.{dense-is, sparse-is, answered-range, answered-list, formed-order, formed-rising, formed-short}
 
 -- ---- answers
 

@@ -1,24 +1,9 @@
 -- The loops that write ids, one step at a time: a copy, a linear merge and a search by strides. Assumes nothing.
-use Prim.Native.Nat.{ℕ, _+_, _-_, _≤_, _<_}
-use mathlib.Core.Path.{_≡_, refl, sym, ap, _∙_}
-use mathlib.Core.Logic.{inl, inr}
-use mathlib.Core.Bool.{true, false}
-use mathlib.Core.List.{List, [], _∷_, _++_}
-use native.Mathlib.Decide.{decLt}
-use native.Mathlib.Numerals.{add-one}
-use native.Mathlib.Omega.{arith}
-use lib.ListN.{length, take, drop, getD, set, length-append, length-drop, length-set}
-use lib.Seq.{take-suc, take-all, length-take-le}
-use Rattle.lists.specs.Lists.{splice, filter, rising, elem, within}
+use Rattle.offsets_intersect.proofs.Prelude.{ℕ, _+_, _-_, _≤_, _<_, _≡_, refl, sym, ap, _∙_, inl, inr, true, false, List, [], _∷_, _++_, decLt, add-one, arith, length, take, drop, getD, set, length-append, length-drop, length-set, take-suc}
+use Rattle.offsets_intersect.proofs.Prelude.{take-all, length-take-le, splice, filter, rising, elem, within, splice-nil, split, filter-step, filter-skip, rising-at, filter-elem-comm, notBelow-le, notBelow-past, notBelow-upto, notBelow-mono}
+use Rattle.offsets_intersect.proofs.Prelude.{elem-notBelow, elem-not-notBelow, elem-in-notBelow, filter-within-places, filter-stop, put-more, scanPlace, scan, Scanned, Fitting, Searchable, common, Wrote}
 use Rattle.lists.specs.inner.Searching.{firstNotBelow}
-use Rattle.lists.specs.Laws.Parts.{splice-nil}
-use Rattle.lists.specs.Laws.Filter.{split, filter-step, filter-skip}
-use Rattle.lists.specs.Laws.Rising.{rising-at, filter-elem-comm}
-use Rattle.lists.specs.Laws.Search.{notBelow-le, notBelow-past, notBelow-upto, notBelow-mono, elem-notBelow, elem-not-notBelow, elem-in-notBelow, filter-within-places, filter-stop, put-more}
 use Rattle.offsets_search.specs.declared.Scan.the-variants.{Hit, Next}
-use Rattle.offsets_search.specs.inner.Search.{scanPlace, scan, Scanned}
-use Rattle.offsets_intersect.specs.inner.Common.{Fitting, Searchable, common}
-use Rattle.offsets.specs.inner.Writing.{Wrote}
 
 -- ---- the copy
 

@@ -1,4 +1,5 @@
-pub mod Similar
 pub mod Answers
 pub mod Common
 pub mod Passing
+pub mod Prelude
+pub mod Similar

@@ -1,24 +1,8 @@
 -- The merge of long lists, one step at a time: a block, an id, an id that is common. Assumes nothing.
-use Prim.Native.Nat.{ℕ, zero, suc, _+_, _-_, _≤_, _<_}
-use mathlib.Core.Path.{_≡_, refl, sym, ap, _∙_}
-use mathlib.Core.Logic.{inl, inr}
-use mathlib.Core.Bool.{Bool, true, false, not, _&&_}
-use mathlib.Core.List.{List, [], _∷_, _++_, append-assoc, append-nil}
-use native.Mathlib.Decide.{decLt}
-use native.Mathlib.Numerals.{add-one}
-use native.Mathlib.Omega.{arith}
-use lib.Dec.{eqb}
-use lib.ListN.{length, take, drop, getD, set, length-take, length-drop, length-set, take-append-drop, drop-of-length-le}
-use lib.Seq.{length-take-le, drop-cons, drop-drop, getD-take, getD-drop}
-use borrow.Author.Tests.{not-true, eqb-false}
-use Rattle.lists.specs.Lists.{splice, filter, rising, elem}
-use Rattle.lists.specs.Laws.Parts.{splice-alike, set-splice, front-splice, drop-splice}
-use Rattle.lists.specs.Laws.Filter.{split, and-left, and-right, filter-append, filter-yes}
-use Rattle.lists.specs.Laws.Rising.{rising-at, rising-drop, elem-at}
-use Rattle.lists.specs.Laws.Search.{elem-notBelow, filter-nothing}
-use Rattle.offsets.specs.inner.Writing.{Wrote}
-use Rattle.offsets_intersect.specs.inner.Common.{common}
-use Rattle.offsets_intersect.specs.inner.Blocks.{Lacks, Apart, ApartAt, SkippedTo, MergedTo}
+use Rattle.offsets_intersect.proofs.Prelude.{ℕ, zero, suc, _+_, _-_, _≤_, _<_, _≡_, refl, sym, ap, _∙_, inl, inr, Bool, true, false, not, _&&_, List, [], _∷_, _++_, append-assoc, append-nil, decLt, add-one, arith, eqb, length, take, drop, getD}
+use Rattle.offsets_intersect.proofs.Prelude.{set, length-take, length-drop, length-set, take-append-drop, drop-of-length-le, length-take-le, drop-cons, drop-drop, getD-take, getD-drop, not-true, eqb-false, splice, filter, rising, elem}
+use Rattle.offsets_intersect.proofs.Prelude.{splice-alike, set-splice, front-splice, drop-splice, split, and-left, and-right, filter-append, filter-yes, rising-at, rising-drop, elem-at, elem-notBelow, filter-nothing, Wrote, common, Lacks, Apart}
+use Rattle.offsets_intersect.proofs.Prelude.{ApartAt, SkippedTo, MergedTo}
 use Rattle.offsets_intersect.proofs.Common.{common-comm}
 
 -- ---- ids that the others lack

@@ -1,14 +1,5 @@
 -- Lists of similar length: the two halves of the test. Assumes nothing.
-use Prim.Native.Nat.{ℕ, _*_, _/_, _≤_, _<_}
-use mathlib.Core.Path.{_≡_, sym, _∙_}
-use mathlib.Core.Logic.{inl, inr}
-use mathlib.Core.Bool.{Bool, true, false, true≢false, _&&_}
-use native.Mathlib.Decide.{decLt}
-use native.Mathlib.Omega.{arith}
-use lib.Dec.{leb}
-use borrow.Author.Tests.{le-leb, lt-leb}
-use Rattle.lists.specs.Laws.Filter.{split}
-use Rattle.offsets_intersect.specs.inner.Common.{similar, MuchLonger}
+use Rattle.offsets_intersect.proofs.Prelude.{ℕ, _*_, _/_, _≤_, _<_, _≡_, sym, _∙_, inl, inr, Bool, true, false, true≢false, _&&_, decLt, arith, leb, le-leb, lt-leb, split, similar, MuchLonger}
 
 module _ (a b : ℕ) where
   pub half-yes : (r : Bool) → a ≤ 16 → r ≡ leb b 16 → r ≡ (leb a 16 && leb b 16)

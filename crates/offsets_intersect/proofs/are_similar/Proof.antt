@@ -1,9 +1,5 @@
 -- `offsets_intersect::are_similar` meets its contract. Assumes nothing.
-use mathlib.Core.Path.{_≡_}
-use mathlib.Core.Logic.{⊎-elim}
-use mathlib.Core.Bool.{_&&_}
-use lib.Dec.{leb}
-use borrow.Author.Needs.{needs}
+use Rattle.offsets_intersect.proofs.Prelude.{_≡_, ⊎-elim, _&&_, leb, needs}
 use Rattle.offsets_intersect.proofs.Similar.{half-yes, half-no, similar-short, similar-upper, similar-not}
 use Rattle.offsets_intersect.proofs.are_similar.Statement.{statement}
 use Rattle.offsets_intersect.proofs.are_similar.Tie as tie
@@ -12,17 +8,11 @@ use Rattle.offsets_intersect.proofs.are_similar.Tie as tie
 half : (c : tie.Joined1) → c .if1 .if2 ≡ (leb (c .before .args .a) 16 && leb (c .before .args .b) 16)
 half c = ⊎-elim (λ w. half-yes (c .before .args .a) (c .before .args .b) (c .if1 .if2) (w .0 .taken) (w .1)) (λ w. half-no (c .before .args .a) (c .before .args .b) (c .if1 .if2) (w .0 .left) (w .1)) (c .if1 .came)
 
-mul-result : tie.Need-mul-result
-mul-result c = search needs
-
-returns : tie.Need-returns
-returns c = similar-short (c .before .before .args .a) (c .before .before .args .b) _ (half (c .before)) (c .if2 .taken)
-
-returns-2 : tie.Need-returns-2
-returns-2 c = similar-upper (c .before .before .before .args .a) (c .before .before .before .args .b) _ (half (c .before .before)) (c .before .if2 .left) (c .if3 .taken)
-
-returns-3 : tie.Need-returns-3
-returns-3 c = similar-not (c .before .before .before .args .a) (c .before .before .before .args .b) _ (half (c .before .before)) (c .before .if2 .left) (c .if3 .left)
-
 pub are-similar-spec : {M : Type 1} → statement M
-are-similar-spec = tie.close (tie.spec mul-result returns returns-2 returns-3)
+are-similar-spec =
+    tie.close
+    (tie.spec
+    (λ c. search needs)
+    (λ c. similar-short (c .before .before .args .a) (c .before .before .args .b) _ (half (c .before)) (c .if2 .taken))
+    (λ c. similar-upper (c .before .before .before .args .a) (c .before .before .before .args .b) _ (half (c .before .before)) (c .before .if2 .left) (c .if3 .taken))
+    (λ c. similar-not (c .before .before .before .args .a) (c .before .before .before .args .b) _ (half (c .before .before)) (c .before .if2 .left) (c .if3 .left)))

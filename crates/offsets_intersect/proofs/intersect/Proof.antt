@@ -1,24 +1,8 @@
 -- `offsets_intersect::intersect` meets its contract. Assumes nothing.
-use mathlib.Core.Path.{_≡_, sym, _∙_}
-use mathlib.Core.Bool.{_&&_, false}
-use lib.ListN.{length}
-use borrow.Author.Needs.{needs}
-use Rattle.offsets.specs.Answers.{subsetOf, intersectRefusal}
+use Rattle.offsets_intersect.proofs.Prelude.{_≡_, sym, _∙_, _&&_, false, length, needs, subsetOf, intersectRefusal}
 use Rattle.offsets_intersect.proofs.Answers.{answered-refused, one-list, can-range-list, can-list-range, can-lists, as-ranges, as-range-list, as-list-range, as-lists}
 use Rattle.offsets_intersect.proofs.intersect.Statement.{statement}
 use Rattle.offsets_intersect.proofs.intersect.Tie as tie
-
-intersect-ranges-requires : tie.Need-intersect-ranges-requires
-intersect-ranges-requires c κs = search needs
-
-returns : tie.Need-returns
-returns c = as-ranges _ _ _ _ _ _ (c .before .if1 .taken) (c .intersect-ranges .ensures _)
-
-intersect-refusal-requires : tie.Need-intersect-refusal-requires
-intersect-refusal-requires c κs = search needs
-
-returns-2 : tie.Need-returns-2
-returns-2 c = answered-refused _ _ _ _ _ (c .before .intersect-refusal .ensures) (c .if2 .taken)
 
 -- past the tests, of which one is that not both are ranges
 none : (c : tie.Else2) → let a = c .before .before .before .before .before .before .before .before .args in intersectRefusal (subsetOf (a .first) (a .first-ids .now)) (subsetOf (a .second) (a .second-ids .now)) (length (a .output .now)) ≡ 0
@@ -31,28 +15,13 @@ intersect-range-list-requires : tie.Need-intersect-range-list-requires
 intersect-range-list-requires c κs =
     can-range-list _ _ _ _ _ (none (c .before .before)) (c .before .if3 .taken) (one-list _ _ (listed (c .before .before)) (c .before .if3 .taken))
 
-same-length : tie.Need-same-length
-same-length c = search needs
-
 returns-3 : tie.Need-returns-3
 returns-3 c =
     let d = c .before .before .before .before in
     as-range-list _ _ _ _ _ (none (d .before)) _ _ (d .if3 .taken) (one-list _ _ (listed (d .before)) (d .if3 .taken)) (c .before .before .intersect-range-list .ensures)
 
-intersect-list-range-requires : tie.Need-intersect-list-range-requires
-intersect-list-range-requires c κs = can-list-range _ _ _ _ _ (none (c .before .before .before)) (c .before .before .if3 .left) (c .before .if4 .taken)
-
-same-length-2 : tie.Need-same-length-2
-same-length-2 c = search needs
-
 returns-4 : tie.Need-returns-4
 returns-4 c = as-list-range _ _ _ _ _ (none (c .before .before .before .before .before .before)) _ _ (c .before .before .before .before .before .if3 .left) (c .before .before .before .before .if4 .taken) (c .before .before .intersect-list-range .ensures)
-
-intersect-lists-requires : tie.Need-intersect-lists-requires
-intersect-lists-requires c κs = can-lists _ _ _ _ _ (none (c .before .before .before)) (c .before .before .if3 .left) (c .before .if4 .left)
-
-same-length-3 : tie.Need-same-length-3
-same-length-3 c = search needs
 
 returns-5 : tie.Need-returns-5
 returns-5 c = as-lists _ _ _ _ _ (none (c .before .before .before .before .before .before)) _ _ (c .before .before .before .before .before .if3 .left) (c .before .before .before .before .if4 .left) (c .before .before .intersect-lists .ensures)
@@ -61,16 +30,12 @@ pub intersect-spec : {M : Type 1} → statement M
 intersect-spec =
     tie.close
     (tie.spec
-    intersect-ranges-requires
-    returns
-    intersect-refusal-requires
-    returns-2
-    intersect-range-list-requires
-    same-length
-    returns-3
-    intersect-list-range-requires
-    same-length-2
-    returns-4
-    intersect-lists-requires
-    same-length-3
-    returns-5)
+    (λ c κs. search needs)
+    (λ c. as-ranges _ _ _ _ _ _ (c .before .if1 .taken) (c .intersect-ranges .ensures _))
+    (λ c κs. search needs)
+    (λ c. answered-refused _ _ _ _ _ (c .before .intersect-refusal .ensures) (c .if2 .taken))
+    intersect-range-list-requires (λ c. search needs) returns-3
+    (λ c κs. can-list-range _ _ _ _ _ (none (c .before .before .before)) (c .before .before .if3 .left) (c .before .if4 .taken))
+    (λ c. search needs) returns-4
+    (λ c κs. can-lists _ _ _ _ _ (none (c .before .before .before)) (c .before .before .if3 .left) (c .before .if4 .left))
+    (λ c. search needs) returns-5)

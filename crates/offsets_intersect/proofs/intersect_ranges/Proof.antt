@@ -1,26 +1,8 @@
 -- `offsets_intersect::intersect_ranges` meets its contract. Assumes nothing.
-use mathlib.Core.Path.{_∙_, ap₂}
-use Prim.Native.Nat.{max}
-use borrow.Author.Needs.{needs}
-use Rattle.offsets.specs.declared.SubsetAnswer.the-variants.{Range}
+use Rattle.offsets_intersect.proofs.Prelude.{_∙_, ap₂, max, needs, Range}
 use Rattle.offsets_intersect.proofs.Answers.{ranges-first, ranges-second, ranges-answered}
 use Rattle.offsets_intersect.proofs.intersect_ranges.Statement.{statement}
 use Rattle.offsets_intersect.proofs.intersect_ranges.Tie as tie
-
-returns : tie.Need-returns
-returns c output = ranges-first _ _ _ _ output (c .if1 .taken)
-
-returns-2 : tie.Need-returns-2
-returns-2 c output = ranges-second _ _ _ _ output (c .before .if1 .left) (c .if2 .taken)
-
-larger-requires : tie.Need-larger-requires
-larger-requires c κs = search needs
-
-smaller-requires : tie.Need-smaller-requires
-smaller-requires c κs = search needs
-
-larger-requires-2 : tie.Need-larger-requires-2
-larger-requires-2 c κs = search needs
 
 returns-3 : tie.Need-returns-3
 returns-3 c output =
@@ -30,4 +12,8 @@ returns-3 c output =
 
 pub intersect-ranges-spec : {M : Type 1} → statement M
 intersect-ranges-spec =
-    tie.close (tie.spec returns returns-2 larger-requires smaller-requires larger-requires-2 returns-3)
+    tie.close
+    (tie.spec
+    (λ c output. ranges-first _ _ _ _ output (c .if1 .taken))
+    (λ c output. ranges-second _ _ _ _ output (c .before .if1 .left) (c .if2 .taken))
+    (λ c κs. search needs) (λ c κs. search needs) (λ c κs. search needs) returns-3)

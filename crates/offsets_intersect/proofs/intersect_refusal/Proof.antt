@@ -1,25 +1,10 @@
 -- `offsets_intersect::intersect_refusal` meets its contract. Assumes nothing.
-use mathlib.Core.Path.{sym, _∙_}
-use borrow.Author.Needs.{needs}
-use borrow.Author.Tests.{not-true, not-false}
-use Rattle.offsets.specs.Laws.Answers.{refusal-first, refusal-second, refusal-room, refusal-none}
+use Rattle.offsets_intersect.proofs.Prelude.{sym, _∙_, needs, not-true, not-false, refusal-first, refusal-second, refusal-room, refusal-none}
 use Rattle.offsets_intersect.proofs.intersect_refusal.Statement.{statement}
 use Rattle.offsets_intersect.proofs.intersect_refusal.Tie as tie
 
-is-well-formed-requires : tie.Need-is-well-formed-requires
-is-well-formed-requires c κs = search needs
-
-returns : tie.Need-returns
-returns c = refusal-first _ _ _ (sym (c .before .is-well-formed .ensures) ∙ not-true _ (c .if1 .taken))
-
-is-well-formed-requires-2 : tie.Need-is-well-formed-requires-2
-is-well-formed-requires-2 c κs = search needs
-
 returns-2 : tie.Need-returns-2
 returns-2 c = refusal-second _ _ _ (sym (c .before .before .before .is-well-formed .ensures) ∙ not-false _ (c .before .before .if1 .left)) (sym (c .before .is-well-formed2 .ensures) ∙ not-true _ (c .if2 .taken))
-
-room-needed-requires : tie.Need-room-needed-requires
-room-needed-requires c κs = search needs
 
 returns-3 : tie.Need-returns-3
 returns-3 c = refusal-room _ _ _ (sym (c .before .before .before .before .before .is-well-formed .ensures) ∙ not-false _ (c .before .before .before .before .if1 .left)) (sym (c .before .before .before .is-well-formed2 .ensures) ∙ not-false _ (c .before .before .if2 .left)) (rw (c .before .room-needed .ensures) at (c .if3 .taken))
@@ -31,10 +16,6 @@ pub intersect-refusal-spec : {M : Type 1} → statement M
 intersect-refusal-spec =
     tie.close
     (tie.spec
-    is-well-formed-requires
-    returns
-    is-well-formed-requires-2
-    returns-2
-    room-needed-requires
-    returns-3
-    returns-4)
+    (λ c κs. search needs)
+    (λ c. refusal-first _ _ _ (sym (c .before .is-well-formed .ensures) ∙ not-true _ (c .if1 .taken)))
+    (λ c κs. search needs) returns-2 (λ c κs. search needs) returns-3 returns-4)

@@ -1,14 +1,9 @@
 -- `offsets_intersect::keep_common` meets its contract. Assumes nothing.
-use mathlib.Core.Path.{sym, _∙_}
-use native.Mathlib.Omega.{arith}
-use borrow.Author.Needs.{needs}
+use Rattle.offsets_intersect.proofs.Prelude.{sym, _∙_, arith, needs}
 use Rattle.offsets_intersect.proofs.Similar.{first-longer, second-longer}
 use Rattle.offsets_intersect.proofs.Common.{wrote-turned}
 use Rattle.offsets_intersect.proofs.keep_common.Statement.{statement}
 use Rattle.offsets_intersect.proofs.keep_common.Tie as tie
-
-merge-similar-requires : tie.Need-merge-similar-requires
-merge-similar-requires c κs = let p = c .before .before .before .before .before .before .pre in (p .0, p .1, sym (c .before .before .are-similar .ensures) ∙ c .before .if1 .taken)
 
 gallop-along-requires : tie.Need-gallop-along-requires
 gallop-along-requires c κs =
@@ -26,5 +21,7 @@ pub keep-common-spec : {M : Type 1} → statement M
 keep-common-spec =
     tie.close
     (tie.spec
-    (λ c κs. search needs) merge-similar-requires (λ c. search needs) (λ c. search needs) gallop-along-requires
-    (λ c. search needs) returns-2 gallop-along-requires-2 (λ c. search needs) (λ c. search needs))
+    (λ c κs. search needs)
+    (λ c κs. let p = c .before .before .before .before .before .before .pre in (p .0, p .1, sym (c .before .before .are-similar .ensures) ∙ c .before .if1 .taken))
+    (λ c. search needs) (λ c. search needs) gallop-along-requires (λ c. search needs) returns-2 gallop-along-requires-2 (λ c. search needs)
+    (λ c. search needs))

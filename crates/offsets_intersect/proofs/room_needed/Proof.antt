@@ -3,14 +3,10 @@ use Rattle.offsets_intersect.proofs.Answers.{room-ranges, room-range-li
 use Rattle.offsets_intersect.proofs.room_needed.Statement.{statement}
 use Rattle.offsets_intersect.proofs.room_needed.Tie as tie
 
-returns : tie.Need-returns
-returns c = room-ranges _ _ _ _ (c .before .if1 .taken) (c .if2 .taken)
-
-returns-2 : tie.Need-returns-2
-returns-2 c = room-range-list _ _ _ _ (c .before .if1 .taken) (c .if2 .left)
-
-returns-3 : tie.Need-returns-3
-returns-3 c = room-list _ _ _ _ (c .if1 .left)
-
 pub room-needed-spec : {M : Type 1} → statement M
-room-needed-spec = tie.close (tie.spec returns returns-2 returns-3)
+room-needed-spec =
+    tie.close
+    (tie.spec
+    (λ c. room-ranges _ _ _ _ (c .before .if1 .taken) (c .if2 .taken))
+    (λ c. room-range-list _ _ _ _ (c .before .if1 .taken) (c .if2 .left))
+    (λ c. room-list _ _ _ _ (c .if1 .left)))

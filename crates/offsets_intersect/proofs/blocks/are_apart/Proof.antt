@@ -1,11 +1,5 @@
 -- `offsets_intersect::blocks::are_apart` meets its contract. Assumes nothing.
-use Prim.Native.Nat.{_-_, _≤_}
-use mathlib.Core.Path.{_≡_}
-use mathlib.Core.Bool.{true}
-use native.Mathlib.Omega.{arith}
-use lib.ListN.{length}
-use borrow.Author.Needs.{needs}
-use Rattle.offsets_intersect.specs.inner.Blocks.{Apart}
+use Rattle.offsets_intersect.proofs.Prelude.{_-_, _≤_, _≡_, true, arith, length, needs, Apart}
 use Rattle.offsets_intersect.proofs.Passing.{apart-more}
 use Rattle.offsets_intersect.proofs.blocks.are_apart.Statement.{statement}
 use Rattle.offsets_intersect.proofs.blocks.are_apart.Tie as tie
@@ -19,9 +13,6 @@ abbrev μ-loop : tie.MeasureT-loop
 loop-holds : tie.Need-loop-holds Inv-loop μ-loop
 loop-holds c = (omega arith, λ e. record { each = λ j h. absurd (omega arith) })
 
-loop-again : tie.Need-loop-again Inv-loop μ-loop
-loop-again c = (search needs, apart-more _ _ _ _ _ (c .before .before .before .loop .inv .1) (c .is-none-of .ensures))
-
 returns : tie.Need-returns Inv-loop μ-loop
 returns c = λ e. record { each = λ j h. c .before .loop .inv .1 e .each j (omega (arith, c .loop-test .left)) }
 
@@ -29,5 +20,6 @@ pub are-apart-spec : {M : Type 1} → statement M
 are-apart-spec =
     tie.close
     (tie.spec
-    Inv-loop μ-loop loop-holds (λ c. search needs) (λ c. search needs) (λ c κs. search needs) (λ c. search needs)
-    (λ c. search needs) loop-again returns)
+    Inv-loop μ-loop loop-holds (λ c. search needs) (λ c. search needs) (λ c κs. search needs) (λ c. search needs) (λ c. search needs)
+    (λ c. (search needs, apart-more _ _ _ _ _ (c .before .before .before .loop .inv .1) (c .is-none-of .ensures)))
+    returns)

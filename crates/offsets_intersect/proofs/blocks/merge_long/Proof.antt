@@ -1,9 +1,5 @@
 -- `offsets_intersect::blocks::merge_long` meets its contract. Assumes nothing.
-use Prim.Native.Nat.{_+_, _-_}
-use native.Mathlib.Omega.{arith}
-use lib.ListN.{length}
-use borrow.Author.Tests.{ltb-true, ltb-false}
-use Rattle.offsets_intersect.specs.inner.Blocks.{MergedTo}
+use Rattle.offsets_intersect.proofs.Prelude.{_+_, _-_, arith, length, ltb-true, ltb-false, MergedTo}
 use Rattle.offsets_intersect.proofs.Passing.{mergedTo-none, mergedTo-on, mergedTo-passed, mergedTo-end, mergedTo-others-end}
 use Rattle.offsets_intersect.proofs.blocks.merge_long.Statement.{statement}
 use Rattle.offsets_intersect.proofs.blocks.merge_long.Tie as tie
@@ -13,9 +9,6 @@ Inv-loop ids others output₀ walk₀ output walk = MergedTo ids others output�
 
 abbrev μ-loop : tie.MeasureT-loop
 μ-loop ids others output₀ walk₀ output walk = length ids - walk .i + (length others - walk .o)
-
-loop-holds : tie.Need-loop-holds Inv-loop μ-loop
-loop-holds c = mergedTo-none _ _ _ _ _ _ (omega arith) (omega arith)
 
 merge-some-requires : tie.Need-merge-some-requires Inv-loop μ-loop
 merge-some-requires c κs =
@@ -37,21 +30,14 @@ loop-less c =
 loop-again : tie.Need-loop-again Inv-loop μ-loop
 loop-again c = rw (c .skip-apart .ensures .1) (mergedTo-passed (mergedTo-on (c .before .before .before .before .before .before .before .before .before .loop .inv) (c .before .before .before .merge-some .ensures .0)) (c .skip-apart .ensures .0))
 
-same-length : tie.Need-same-length Inv-loop μ-loop
-same-length c = c .before .before .before .before .loop .inv .same
-
-returns : tie.Need-returns Inv-loop μ-loop
-returns c = mergedTo-others-end (c .before .before .before .before .loop .inv) (c .before .before .before .before .before .before .before .before .pre .0 .fits) (ltb-false _ _ (c .if2 .left))
-
-same-length-2 : tie.Need-same-length-2 Inv-loop μ-loop
-same-length-2 c = c .before .before .loop .inv .same
-
-returns-2 : tie.Need-returns-2 Inv-loop μ-loop
-returns-2 c = mergedTo-end (c .before .before .loop .inv) (c .before .before .before .before .before .before .pre .0 .fits) (c .if1 .left)
-
 pub merge-long-spec : {M : Type 1} → statement M
 merge-long-spec =
     tie.close
     (tie.spec
-    Inv-loop μ-loop loop-holds merge-some-requires skip-apart-requires loop-less loop-again same-length returns
-    same-length-2 returns-2)
+    Inv-loop μ-loop
+    (λ c. mergedTo-none _ _ _ _ _ _ (omega arith) (omega arith))
+    merge-some-requires skip-apart-requires loop-less loop-again
+    (λ c. c .before .before .before .before .loop .inv .same)
+    (λ c. mergedTo-others-end (c .before .before .before .before .loop .inv) (c .before .before .before .before .before .before .before .before .pre .0 .fits) (ltb-false _ _ (c .if2 .left)))
+    (λ c. c .before .before .loop .inv .same)
+    (λ c. mergedTo-end (c .before .before .loop .inv) (c .before .before .before .before .before .before .pre .0 .fits) (c .if1 .left)))

@@ -1,9 +1,5 @@
 -- `offsets_intersect::blocks::merge_some` meets its contract. Assumes nothing.
-use Prim.Native.Nat.{_+_, _-_}
-use mathlib.Core.Path.{refl}
-use native.Mathlib.Omega.{arith}
-use lib.ListN.{length}
-use borrow.Author.Needs.{needs}
+use Rattle.offsets_intersect.proofs.Prelude.{_+_, _-_, refl, arith, length, needs}
 use Rattle.offsets_intersect.proofs.Passing.{Pace, mergedTo-none, past-other, past-id, past-both, pace-on, pace-end}
 use Rattle.offsets_intersect.proofs.blocks.merge_some.Statement.{statement}
 use Rattle.offsets_intersect.proofs.blocks.merge_some.Tie as tie
@@ -34,24 +30,9 @@ loop-holds c =
 same-length : tie.Need-same-length Inv-loop μ-loop
 same-length c = c .before .before .loop .inv .mergedTo .same
 
-returns : tie.Need-returns Inv-loop μ-loop
-returns c = let w = c .before .before .loop .inv in pace-end w (past-other w (c .before .if1 .taken)) (omega arith)
-
-loop-again : tie.Need-loop-again Inv-loop μ-loop
-loop-again c = let w = c .before .before .before .loop .inv in pace-on w (past-other w (c .before .before .if1 .taken)) (w .more) (c .before .if2 .left) (w .short) (w .here) refl
-
 -- past both
 same-length-2 : tie.Need-same-length-2 Inv-loop μ-loop
 same-length-2 c = past-both (c .before .before .before .loop .inv) (c .before .if3 .taken) .same
-
-returns-2 : tie.Need-returns-2 Inv-loop μ-loop
-returns-2 c = let w = c .before .before .before .loop .inv in pace-end w (past-both w (c .before .if3 .taken)) (omega arith)
-
-same-length-3 : tie.Need-same-length-3 Inv-loop μ-loop
-same-length-3 c = past-both (c .before .before .before .before .loop .inv) (c .before .before .if3 .taken) .same
-
-returns-3 : tie.Need-returns-3 Inv-loop μ-loop
-returns-3 c = let w = c .before .before .before .before .loop .inv in pace-end w (past-both w (c .before .before .if3 .taken)) (omega arith)
 
 loop-again-2 : tie.Need-loop-again-2 Inv-loop μ-loop
 loop-again-2 c =
@@ -62,9 +43,6 @@ loop-again-2 c =
 same-length-4 : tie.Need-same-length-4 Inv-loop μ-loop
 same-length-4 c = c .before .before .before .loop .inv .mergedTo .same
 
-returns-4 : tie.Need-returns-4 Inv-loop μ-loop
-returns-4 c = let w = c .before .before .before .loop .inv in pace-end w (past-id w (c .before .before .if1 .left) (c .before .if3 .left)) (omega arith)
-
 loop-again-3 : tie.Need-loop-again-3 Inv-loop μ-loop
 loop-again-3 c =
     let w = c .before .before .before .before .loop .inv in
@@ -74,7 +52,16 @@ pub merge-some-spec : {M : Type 1} → statement M
 merge-some-spec =
     tie.close
     (tie.spec
-    Inv-loop μ-loop (λ c κs. search needs) (λ c. search needs) (λ c. search needs) (λ c. search needs) (λ c. search needs)
-    loop-holds (λ c. search needs) same-length returns (λ c. search needs) (λ c. search needs) (λ c. search needs) loop-again (λ c. search needs) (λ c. search needs) (λ c. search needs) (λ c. search needs) (λ c. search needs)
-    same-length-2 returns-2 same-length-3 returns-3 (λ c κs. search needs) (λ c. search needs) (λ c. search needs) (λ c. search needs) (λ c. search needs) (λ c. search needs) loop-again-2
-    (λ c. search needs) same-length-4 returns-4 (λ c. search needs) (λ c. search needs) (λ c. search needs) loop-again-3)
+    Inv-loop μ-loop (λ c κs. search needs) (λ c. search needs) (λ c. search needs) (λ c. search needs) (λ c. search needs) loop-holds (λ c. search needs)
+    same-length
+    (λ c. let w = c .before .before .loop .inv in pace-end w (past-other w (c .before .if1 .taken)) (omega arith))
+    (λ c. search needs) (λ c. search needs) (λ c. search needs)
+    (λ c. let w = c .before .before .before .loop .inv in pace-on w (past-other w (c .before .before .if1 .taken)) (w .more) (c .before .if2 .left) (w .short) (w .here) refl)
+    (λ c. search needs) (λ c. search needs) (λ c. search needs) (λ c. search needs) (λ c. search needs) same-length-2
+    (λ c. let w = c .before .before .before .loop .inv in pace-end w (past-both w (c .before .if3 .taken)) (omega arith))
+    (λ c. past-both (c .before .before .before .before .loop .inv) (c .before .before .if3 .taken) .same)
+    (λ c. let w = c .before .before .before .before .loop .inv in pace-end w (past-both w (c .before .before .if3 .taken)) (omega arith))
+    (λ c κs. search needs) (λ c. search needs) (λ c. search needs) (λ c. search needs) (λ c. search needs) (λ c. search needs) loop-again-2
+    (λ c. search needs) same-length-4
+    (λ c. let w = c .before .before .before .loop .inv in pace-end w (past-id w (c .before .before .if1 .left) (c .before .if3 .left)) (omega arith))
+    (λ c. search needs) (λ c. search needs) (λ c. search needs) loop-again-3)

@@ -1,12 +1,5 @@
 -- `offsets_intersect::blocks::skip_apart` meets its contract. Assumes nothing.
-use Prim.Native.Nat.{_+_, _-_}
-use mathlib.Core.Path.{_≡_, refl}
-use mathlib.Core.Bool.{true}
-use native.Mathlib.Omega.{arith}
-use lib.ListN.{length}
-use borrow.Author.Needs.{needs}
-use Rattle.lists.specs.Lists.{rising}
-use Rattle.offsets_intersect.specs.inner.Blocks.{SkippedTo}
+use Rattle.offsets_intersect.proofs.Prelude.{_+_, _-_, _≡_, refl, true, arith, length, needs, rising, SkippedTo}
 use Rattle.offsets_intersect.proofs.Passing.{passed-none, passed-on, apart-turned, passed-turned, pass-block}
 use Rattle.offsets_intersect.proofs.blocks.skip_apart.Statement.{statement}
 use Rattle.offsets_intersect.proofs.blocks.skip_apart.Tie as tie
@@ -16,15 +9,6 @@ Inv-loop ids others from i₀ o₀ i o = SkippedTo ids others i₀ o₀ i o × (
 
 abbrev μ-loop : tie.MeasureT-loop
 μ-loop ids others from i₀ o₀ i o = length ids - i + (length others - o)
-
-loop-holds : tie.Need-loop-holds Inv-loop μ-loop
-loop-holds c = (passed-none (c .before .before .pre .2) (c .before .before .pre .3), c .before .before .pre .0 .up, c .before .before .pre .1 .up)
-
-shared-slice-read-if2 : tie.Need-shared-slice-read-if2 Inv-loop μ-loop
-shared-slice-read-if2 c = omega (arith, c .before .before .are-blocks-apart .ensures (c .before .if1 .taken) .room)
-
-shared-slice-read-if2-2 : tie.Need-shared-slice-read-if2-2 Inv-loop μ-loop
-shared-slice-read-if2-2 c = omega (arith, c .before .before .before .are-blocks-apart .ensures (c .before .before .if1 .taken) .others-room)
 
 -- the block of the ids, and that of the others
 loop-less : tie.Need-loop-less Inv-loop μ-loop
@@ -36,22 +20,23 @@ loop-again c =
     let apart = c .before .before .before .before .are-blocks-apart .ensures (c .before .before .before .if1 .taken) in
     (passed-on (inv .0) (pass-block (inv .1) (inv .2) apart (omega arith) (omega (arith, c .if2 .taken))), inv .1, inv .2)
 
-loop-less-2 : tie.Need-loop-less-2 Inv-loop μ-loop
-loop-less-2 c = omega (arith, c .before .before .before .before .are-blocks-apart .ensures (c .before .before .before .if1 .taken) .others-room)
-
 loop-again-2 : tie.Need-loop-again-2 Inv-loop μ-loop
 loop-again-2 c =
     let inv = c .before .before .before .before .before .loop .inv in
     let apart = c .before .before .before .before .are-blocks-apart .ensures (c .before .before .before .if1 .taken) in
     (passed-on (inv .0) (passed-turned (inv .1) (inv .2) (pass-block (inv .2) (inv .1) (apart-turned apart) (omega arith) (c .if2 .left))), inv .1, inv .2)
 
-returns : tie.Need-returns Inv-loop μ-loop
-returns c = (c .before .before .loop .inv .0, refl)
-
 pub skip-apart-spec : {M : Type 1} → statement M
 skip-apart-spec =
     tie.close
     (tie.spec
-    Inv-loop μ-loop loop-holds (λ c κs. search needs) (λ c. search needs) (λ c. search needs) (λ c. search needs)
-    shared-slice-read-if2 (λ c. search needs) (λ c. search needs) (λ c. search needs) shared-slice-read-if2-2
-    (λ c. search needs) loop-less loop-again (λ c. search needs) loop-less-2 loop-again-2 returns)
+    Inv-loop μ-loop
+    (λ c. (passed-none (c .before .before .pre .2) (c .before .before .pre .3), c .before .before .pre .0 .up, c .before .before .pre .1 .up))
+    (λ c κs. search needs) (λ c. search needs) (λ c. search needs) (λ c. search needs)
+    (λ c. omega (arith, c .before .before .are-blocks-apart .ensures (c .before .if1 .taken) .room))
+    (λ c. search needs) (λ c. search needs) (λ c. search needs)
+    (λ c. omega (arith, c .before .before .before .are-blocks-apart .ensures (c .before .before .if1 .taken) .others-room))
+    (λ c. search needs) loop-less loop-again (λ c. search needs)
+    (λ c. omega (arith, c .before .before .before .before .are-blocks-apart .ensures (c .before .before .before .if1 .taken) .others-room))
+    loop-again-2
+    (λ c. (c .before .before .loop .inv .0, refl)))
