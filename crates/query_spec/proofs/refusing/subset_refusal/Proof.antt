@@ -6,26 +6,8 @@ use Rattle.query_spec.proofs.RefusingSteps.{refused-outside, refused-ro
 use Rattle.query_spec.proofs.refusing.subset_refusal.Statement.{statement}
 use Rattle.query_spec.proofs.refusing.subset_refusal.Tie as tie
 
-is-outside-requires : tie.Need-is-outside-requires
-is-outside-requires c κs = search needs
-
-returns : tie.Need-returns
-returns c = refused-outside _ _ _ (sym (c .before .is-outside .ensures) ∙ c .if1 .taken)
-
-is-rows-short-requires : tie.Need-is-rows-short-requires
-is-rows-short-requires c κs = sym (c .before .is-outside .ensures) ∙ c .if1 .left
-
-returns-2 : tie.Need-returns-2
-returns-2 c = refused-rows _ _ _ (sym (c .before .before .before .is-outside .ensures) ∙ c .before .before .if1 .left) (sym (c .before .is-rows-short .ensures) ∙ c .if2 .taken)
-
-is-well-formed-requires : tie.Need-is-well-formed-requires
-is-well-formed-requires c κs = search needs
-
 returns-3 : tie.Need-returns-3
 returns-3 c = refused-form _ _ _ (sym (c .before .before .before .before .before .is-outside .ensures) ∙ c .before .before .before .before .if1 .left) (sym (c .before .before .before .is-rows-short .ensures) ∙ c .before .before .if2 .left) (sym (c .before .is-well-formed .ensures) ∙ not-true _ (c .if3 .taken))
-
-is-past-rows-requires : tie.Need-is-past-rows-requires
-is-past-rows-requires c κs = search needs
 
 returns-4 : tie.Need-returns-4
 returns-4 c = refused-past _ _ _ (sym (c .before .before .before .before .before .before .before .is-outside .ensures) ∙ c .before .before .before .before .before .before .if1 .left) (sym (c .before .before .before .before .before .is-rows-short .ensures) ∙ c .before .before .before .before .if2 .left) (sym (c .before .before .before .is-well-formed .ensures) ∙ not-false _ (c .before .before .if3 .left)) (sym (c .before .is-past-rows .ensures) ∙ c .if4 .taken)
@@ -37,12 +19,8 @@ pub subset-refusal-spec : {M : Type 1} → statement M
 subset-refusal-spec =
     tie.close
     (tie.spec
-    is-outside-requires
-    returns
-    is-rows-short-requires
-    returns-2
-    is-well-formed-requires
-    returns-3
-    is-past-rows-requires
-    returns-4
-    returns-5)
+    (λ c κs. search needs)
+    (λ c. refused-outside _ _ _ (sym (c .before .is-outside .ensures) ∙ c .if1 .taken))
+    (λ c κs. sym (c .before .is-outside .ensures) ∙ c .if1 .left)
+    (λ c. refused-rows _ _ _ (sym (c .before .before .before .is-outside .ensures) ∙ c .before .before .if1 .left) (sym (c .before .is-rows-short .ensures) ∙ c .if2 .taken))
+    (λ c κs. search needs) returns-3 (λ c κs. search needs) returns-4 returns-5)
