@@ -1,40 +1,15 @@
 -- The answers of the queries: refused, or by the ids that a scan has kept. Assumes nothing.
-use Prim.Native.Nat.{ℕ, _+_, _-_, _≤_, _<_, min}
-use mathlib.Core.Path.{_≡_, refl, sym, ap, _∙_}
-use mathlib.Core.Bool.{Bool, true, false, and-true, false≢true}
-use mathlib.Core.List.{List, [], _∷_}
-use mathlib.Core.Logic.{inl, inr}
-use native.Mathlib.Decide.{ℕ-discrete}
-use native.Mathlib.Omega.{arith}
-use lib.Dec.{eqb}
-use lib.ListN.{length, getD}
-use borrow.Author.Tests.{eqb-true, eq-eqb}
-use Rattle.lists.specs.Lists.{filter, all}
-use Rattle.lists.specs.Laws.Filter.{split, and-left, and-right, filter-all, filter-length-all, length-filter, count-le}
-use Rattle.refusals.specs.Refusals.{refused, accepted, reply}
-use Rattle.refusals.specs.Laws.Replies.{reply-refused, reply-accepted}
-use Rattle.offsets.specs.declared.SubsetHead.{SubsetHead}
-use Rattle.offsets_retain.specs.declared.RetainBuilder.{RetainBuilder}
+use Rattle.query_scan.proofs.Prelude.{ℕ, _+_, _-_, _≤_, _<_, min, _≡_, refl, sym, ap, _∙_, Bool, true, false, and-true, false≢true, List, [], _∷_, inl, inr, ℕ-discrete, arith, eqb, length, getD, eqb-true, eq-eqb, filter, all, split}
+use Rattle.query_scan.proofs.Prelude.{and-left, and-right, filter-all, filter-length-all, length-filter, count-le, refused, accepted, reply, reply-refused, reply-accepted, SubsetHead, RetainBuilder, Subset, range, list, members, size}
+use Rattle.query_scan.proofs.Prelude.{retain, narrowed, subsetOf, Answered, Builds, BuilderEnds, dense-is, sparse-is, formed-order, length-members, answered-range, answered-list, length-range, getD-range, narrowed-all, narrowed-some}
+use Rattle.query_scan.proofs.Prelude.{narrowed-list, Constraint, known, Header, matches, refineRefusal, visited, refineOneReply, refineListReply, RefinedOne, RefinedList, Queryable, RefineRefused, MatchRefused, PageRefused, Scan, Refine}
+use Rattle.query_scan.proofs.Prelude.{Match, Page, upTo, places, firstPlace, roomRequired, refusalOf, BeginsAt, Finished, ScanStarts, ScanAnswered, CanWrite, Writes, whole, CanClose, RefineClosed, idsVisited}
 use Rattle.offsets.specs.declared.SubsetAnswer.{SubsetAnswer}
 use Rattle.offsets.specs.declared.SubsetAnswer.the-variants.{Refused, Range, List as Ids}
-use Rattle.offsets.specs.Subsets.{Subset, range, list, members, size, retain, narrowed}
-use Rattle.offsets.specs.Answers.{subsetOf, Answered}
 use Rattle.offsets.specs.inner.Writing.{Wrote}
-use Rattle.offsets_retain.specs.inner.RetainBuilder.{Builds, BuilderEnds}
-use Rattle.offsets.specs.Laws.Subsets.{dense-is, sparse-is, formed-order, length-members, answered-range, answered-list}
-use Rattle.offsets.specs.Laws.Forms.{length-range, getD-range, narrowed-all, narrowed-some, narrowed-list}
 use Rattle.offsets.specs.Laws.Answers.{answered-refused as refused-answered}
 use Rattle.offsets_retain.specs.Laws.Retained.{grown-retains, listed-retains}
-use Rattle.constraints.specs.declared.Constraint.{Constraint}
-use Rattle.constraints.specs.Constraints.{known}
-use Rattle.table.specs.declared.Header.{Header}
-use Rattle.query_spec.specs.Queries.{matches, refineRefusal, visited, refineOneReply, refineListReply, RefinedOne, RefinedList}
-use Rattle.query_spec.specs.inner.Tests.{Queryable, RefineRefused, MatchRefused, PageRefused}
-use Rattle.query_scan.specs.declared.Scan.{Scan}
 use Rattle.query_scan.specs.declared.QueryKind.{QueryKind}
-use Rattle.query_scan.specs.declared.QueryKind.the-variants.{Refine, Match, Page}
-use Rattle.query_scan.specs.inner.Scanning.{upTo, places, firstPlace, roomRequired, refusalOf, BeginsAt, Finished, ScanStarts, ScanAnswered, CanWrite, Writes, whole, CanClose, RefineClosed}
-use Rattle.query_scan.specs.Visits.{idsVisited}
 use Rattle.query_scan.proofs.Visits.{upTo-nil, upTo-all, upTo-first, visited-none, length-visited, visited-all, visited-end}
 
 -- ---- replies

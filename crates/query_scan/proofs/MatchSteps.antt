@@ -1,24 +1,8 @@
 -- A search for a match: what it answers. Assumes nothing.
-use Prim.Native.Nat.{ℕ}
-use mathlib.Core.Path.{_≡_, refl, sym, ap, _∙_}
-use mathlib.Core.Bool.{Bool, not}
-use mathlib.Core.List.{List}
-use native.Mathlib.Decide.{ℕ-discrete}
-use lib.Dec.{eqb}
-use lib.ListN.{length}
-use Rattle.lists.specs.Lists.{any}
-use Rattle.refusals.specs.Refusals.{refused, accepted}
-use Rattle.refusals.specs.Laws.Replies.{reply-refused, reply-accepted}
-use Rattle.offsets.specs.Subsets.{Subset, members}
-use Rattle.constraints.specs.declared.Constraint.{Constraint}
-use Rattle.table.specs.declared.Header.{Header}
+use Rattle.query_scan.proofs.Prelude.{ℕ, _≡_, refl, sym, ap, _∙_, Bool, not, List, ℕ-discrete, eqb, length, any, refused, accepted, reply-refused, reply-accepted, Subset, members, Constraint, Header, Scan, Match, matches, matchRefusal}
+use Rattle.query_scan.proofs.Prelude.{matchView, Matched, refusalOf, ScanAnswered, MatchClosed, idsVisited}
 use Rattle.query_spec.specs.declared.MatchAnswer.{MatchAnswer}
 use Rattle.query_spec.specs.declared.MatchAnswer.the-variants.{Refused as MatchIsRefused, Match as Matches}
-use Rattle.query_scan.specs.declared.Scan.{Scan}
-use Rattle.query_scan.specs.declared.QueryKind.the-variants.{Match}
-use Rattle.query_spec.specs.Queries.{matches, matchRefusal, matchView, Matched}
-use Rattle.query_scan.specs.inner.Scanning.{refusalOf, ScanAnswered, MatchClosed}
-use Rattle.query_scan.specs.Visits.{idsVisited}
 use Rattle.query_scan.proofs.Visits.{first-decides}
 
 module _ (s : Scan) where

@@ -1,30 +1,12 @@
 -- A page: what its end requires, and its answer. Assumes nothing.
-use Prim.Native.Nat.{ℕ, _+_, _-_, _≤_, _<_, min}
-use mathlib.Core.Path.{_≡_, refl, sym, ap, ap₂, _∙_}
-use mathlib.Core.Bool.{Bool, false, cond}
+use Rattle.query_scan.proofs.Prelude.{ℕ, _+_, _-_, _≤_, _<_, min, _≡_, refl, sym, ap, ap₂, _∙_, Bool, false, cond, List, decLt, ℕ-discrete, arith, ltb, length, lt-ltb, le-ltb, splice, filter, refused, accepted, reply-refused, reply-accepted}
+use Rattle.query_scan.proofs.Prelude.{Subset, size, Builds, Constraint, Header, Scan, Page, matches, deadAmong, pageRefusal, visited, nextPlace, pageIds, PageReply, nextView, pageView, pageReply, PageRead, firstPlace, roomRequired}
+use Rattle.query_scan.proofs.Prelude.{refusalOf, ScanAnswered, CanWrite, Writes, nextOf, nextAt, PageClosed, idsVisited}
 use mathlib.Core.Option.{Option, none, some}
-use mathlib.Core.List.{List}
-use native.Mathlib.Decide.{decLt, ℕ-discrete}
-use native.Mathlib.Omega.{arith}
-use lib.Dec.{ltb}
-use lib.ListN.{length}
-use borrow.Author.Tests.{lt-ltb, le-ltb}
-use Rattle.lists.specs.Lists.{splice, filter}
-use Rattle.refusals.specs.Refusals.{refused, accepted}
-use Rattle.refusals.specs.Laws.Replies.{reply-refused, reply-accepted}
-use Rattle.offsets.specs.Subsets.{Subset, size}
-use Rattle.offsets_retain.specs.inner.RetainBuilder.{Builds}
-use Rattle.constraints.specs.declared.Constraint.{Constraint}
-use Rattle.table.specs.declared.Header.{Header}
 use Rattle.query_spec.specs.declared.NextPlace.{NextPlace}
 use Rattle.query_spec.specs.declared.NextPlace.the-variants.{None, At}
 use Rattle.query_spec.specs.declared.PageAnswer.{PageAnswer}
 use Rattle.query_spec.specs.declared.PageAnswer.the-variants.{Refused as PageIsRefused, Page as Paged}
-use Rattle.query_scan.specs.declared.Scan.{Scan}
-use Rattle.query_scan.specs.declared.QueryKind.the-variants.{Page}
-use Rattle.query_spec.specs.Queries.{matches, deadAmong, pageRefusal, visited, nextPlace, pageIds, PageReply, nextView, pageView, pageReply, PageRead}
-use Rattle.query_scan.specs.inner.Scanning.{firstPlace, roomRequired, refusalOf, ScanAnswered, CanWrite, Writes, nextOf, nextAt, PageClosed}
-use Rattle.query_scan.specs.Visits.{idsVisited}
 use Rattle.query_scan.proofs.Visits.{length-visited, visited-end, kept-few}
 
 -- ---- the end

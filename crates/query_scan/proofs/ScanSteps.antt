@@ -1,33 +1,12 @@
 -- A scan, place by place: ids and rows by the subset's kind, and what each step keeps. Assumes nothing.
-use Prim.Native.Nat.{ℕ, _+_, _-_, _*_, _≤_, _<_}
-use mathlib.Core.Path.{_≡_, refl, sym, ap, ap₂, subst, _∙_}
-use mathlib.Core.Logic.{inl, inr}
-use mathlib.Core.Bool.{Bool, true, false, and-true, and-false, false≢true}
-use mathlib.Core.List.{List, [], _∷_, _++_, append-assoc, append-nil}
-use native.Mathlib.Decide.{ℕ-discrete}
-use native.Mathlib.Omega.{arith}
-use lib.ListN.{length, take, drop, getD}
-use borrow.Author.Tests.{ltb-false}
-use Rattle.lists.specs.Lists.{splice, filter, count, all, iota, rising, rowAt}
-use Rattle.lists.specs.Laws.Filter.{split, filter-append}
+use Rattle.query_scan.proofs.Prelude.{ℕ, _+_, _-_, _*_, _≤_, _<_, _≡_, refl, sym, ap, ap₂, subst, _∙_, inl, inr, Bool, true, false, and-true, and-false, false≢true, List, [], _∷_, _++_, append-assoc, append-nil, ℕ-discrete, arith, length}
+use Rattle.query_scan.proofs.Prelude.{take, drop, getD, ltb-false, splice, filter, count, all, iota, rising, rowAt, split, filter-append, SubsetHead, RetainBuilder, Subset, range, list, members, size, endOf, subsetOf, NextId, dense-is}
+use Rattle.query_scan.proofs.Prelude.{sparse-is, rising-members, members-below, formed-short, size-range, end-range, getD-range, size-list, members-list, Constraint, isLive, met, meets, Header, Scan, matches, pastRows, deadAmong, visited}
+use Rattle.query_scan.proofs.Prelude.{RowInStore, upTo, places, scannedIds, CanStart, ScanInvariant, Keeps, CanMove, Moves, CanStep, ScanSteps, Finished, CanWrite, Writes, Queryable}
 use Rattle.lists.specs.Laws.Parts.{part-width}
 use Rattle.lists.specs.Laws.Rising.{rising-filter, rising-take, rising-drop}
 use Rattle.lists.specs.Laws.Rows.{row-in}
-use Rattle.offsets.specs.declared.SubsetHead.{SubsetHead}
-use Rattle.offsets_retain.specs.declared.RetainBuilder.{RetainBuilder}
-use Rattle.offsets.specs.Subsets.{Subset, range, list, members, size, endOf}
-use Rattle.offsets.specs.Answers.{subsetOf}
-use Rattle.offsets_retain.specs.inner.RetainBuilder.{NextId}
-use Rattle.offsets.specs.Laws.Subsets.{dense-is, sparse-is, rising-members, members-below, formed-short}
-use Rattle.offsets.specs.Laws.Forms.{size-range, end-range, getD-range, size-list, members-list}
-use Rattle.constraints.specs.declared.Constraint.{Constraint}
-use Rattle.constraints.specs.Constraints.{isLive, met, meets}
-use Rattle.table.specs.declared.Header.{Header}
 use Rattle.table.specs.Laws.Refusals.{rows-long-of, outside-inside}
-use Rattle.query_scan.specs.declared.Scan.{Scan}
-use Rattle.query_spec.specs.Queries.{matches, pastRows, deadAmong, visited}
-use Rattle.query_scan.specs.inner.Scanning.{RowInStore, upTo, places, scannedIds, CanStart, ScanInvariant, Keeps, CanMove, Moves, CanStep, ScanSteps, Finished, CanWrite, Writes}
-use Rattle.query_spec.specs.inner.Tests.{Queryable}
 use Rattle.query_scan.proofs.Visits.{upTo-nil, upTo-hit, upTo-miss, visited-none, length-visited, visited-more, visited-first, kept-few, dead-more, dead-few}
 
 -- ---- a place's id, by the subset's kind

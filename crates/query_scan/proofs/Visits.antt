@@ -1,23 +1,8 @@
 -- The ids that a scan visits. Assumes nothing.
-use Prim.Native.Nat.{ℕ, zero, suc, _+_, _-_, _≤_, _<_, min}
-use mathlib.Core.Path.{_≡_, refl, sym, ap, _∙_}
-use mathlib.Core.Logic.{inl, inr}
-use mathlib.Core.Bool.{Bool, true, false, not}
-use mathlib.Core.List.{List, [], _∷_, _++_}
+use Rattle.query_scan.proofs.Prelude.{ℕ, zero, suc, _+_, _-_, _≤_, _<_, min, _≡_, refl, sym, ap, _∙_, inl, inr, Bool, true, false, not, List, [], _∷_, _++_, decLt, arith, eqb, length, take, drop, getD, length-take, length-drop, filter, any}
+use Rattle.query_scan.proofs.Prelude.{split, length-filter, count-le, count-append, Subset, members, size, length-members, Header, deadAmong, visited, upToFirst, upTo}
 use native.Mathlib.Numerals.{add-one}
-use native.Mathlib.Decide.{decLt}
-use native.Mathlib.Omega.{arith}
-use lib.Dec.{eqb}
-use lib.ListN.{length, take, drop, getD, length-take, length-drop}
 use lib.Seq.{getD-drop, take-suc, take-all, drop-cons}
-use Rattle.lists.specs.Lists.{filter, any}
-use Rattle.lists.specs.Laws.Filter.{split, length-filter, count-le, count-append}
-use Rattle.offsets.specs.Subsets.{Subset, members, size}
-use Rattle.offsets.specs.Laws.Subsets.{length-members}
-use Rattle.table.specs.declared.Header.{Header}
-use Rattle.query_spec.specs.Queries.{deadAmong, visited}
-use Rattle.query_scan.specs.Visits.{upToFirst}
-use Rattle.query_scan.specs.inner.Scanning.{upTo}
 
 -- ---- up to the nth that passes
 

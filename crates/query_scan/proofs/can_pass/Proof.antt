@@ -1,11 +1,7 @@
 -- `query_scan::can_pass` meets its contract. Assumes nothing.
-use borrow.Author.Needs.{needs}
-use Rattle.query_scan.specs.inner.Scanning.{starts}
+use Rattle.query_scan.proofs.Prelude.{needs, starts}
 use Rattle.query_scan.proofs.can_pass.Statement.{statement}
 use Rattle.query_scan.proofs.can_pass.Tie as tie
-
-is-live-at-requires : tie.Need-is-live-at-requires
-is-live-at-requires c κs = rw (c .before .test .given .1) at (c .before .before .before .before .pre)
 
 returns : tie.Need-returns
 unfolding starts
@@ -18,4 +14,7 @@ returns-2 c = rw (c .before .before .test .given .1) (c .is-live-at .ensures)
 pub can-pass-spec : {M : Type 1} → statement M
 can-pass-spec =
     tie.close
-    (tie.spec (λ c. search needs) (λ c. search needs) is-live-at-requires returns returns-2)
+    (tie.spec
+    (λ c. search needs) (λ c. search needs)
+    (λ c κs. rw (c .before .test .given .1) at (c .before .before .before .before .pre))
+    returns returns-2)

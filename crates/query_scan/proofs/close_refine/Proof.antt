@@ -1,21 +1,8 @@
 -- `query_scan::close_refine` meets its contract. Assumes nothing.
-use mathlib.Core.Path.{sym, _∙_}
-use borrow.Author.Needs.{needs}
+use Rattle.query_scan.proofs.Prelude.{sym, _∙_, needs}
 use Rattle.query_scan.proofs.AnswerSteps.{closed-refused, closed-whole, closed-list}
 use Rattle.query_scan.proofs.close_refine.Statement.{statement}
 use Rattle.query_scan.proofs.close_refine.Tie as tie
-
-returns : tie.Need-returns
-returns c = closed-refused _ _ _ (c .if1 .taken)
-
-is-whole-requires : tie.Need-is-whole-requires
-is-whole-requires c κs = c .before .before .before .pre (c .if1 .left) .order
-
-returns-2 : tie.Need-returns-2
-returns-2 c = closed-whole _ _ _ (c .before .before .if1 .left) (sym (c .before .is-whole .ensures) ∙ c .if2 .taken)
-
-write-found-requires : tie.Need-write-found-requires
-write-found-requires c κs = c .before .before .before .before .before .before .pre (c .before .before .before .if1 .left) .can-write
 
 returns-3 : tie.Need-returns-3
 returns-3 c = closed-list _ _ _ _ _ (c .before .before .before .before .before .before .if1 .left) (sym (c .before .before .before .before .before .is-whole .ensures) ∙ c .before .before .before .before .if2 .left) (c .before .before .write-found .ensures)
@@ -23,4 +10,9 @@ returns-3 c = closed-list _ _ _ _ _ (c .before .before .before .before .before .
 pub close-refine-spec : {M : Type 1} → statement M
 close-refine-spec =
     tie.close
-    (tie.spec returns is-whole-requires returns-2 write-found-requires (λ c. search needs) returns-3)
+    (tie.spec
+    (λ c. closed-refused _ _ _ (c .if1 .taken))
+    (λ c κs. c .before .before .before .pre (c .if1 .left) .order)
+    (λ c. closed-whole _ _ _ (c .before .before .if1 .left) (sym (c .before .is-whole .ensures) ∙ c .if2 .taken))
+    (λ c κs. c .before .before .before .before .before .before .pre (c .before .before .before .if1 .left) .can-write)
+    (λ c. search needs) returns-3)

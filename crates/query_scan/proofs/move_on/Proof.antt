@@ -1,13 +1,8 @@
 -- `query_scan::move_on` meets its contract. Assumes nothing.
-use mathlib.Core.Path.{refl}
-use native.Mathlib.Omega.{arith}
-use borrow.Author.Needs.{needs}
+use Rattle.query_scan.proofs.Prelude.{refl, arith, needs}
 use Rattle.query_scan.proofs.ScanSteps.{next-below, next-dense}
 use Rattle.query_scan.proofs.move_on.Statement.{statement}
 use Rattle.query_scan.proofs.move_on.Tie as tie
-
-add-n-2 : tie.Need-add-n-2
-add-n-2 c = let b = c .before .before .before .before in omega (arith, next-below (b .args .head) (b .args .ids .now) (b .args .s) (c .before .if1 .taken) (b .pre))
 
 returns : tie.Need-returns
 returns c =
@@ -25,4 +20,7 @@ returns c =
 pub move-on-spec : {M : Type 1} → statement M
 move-on-spec =
     tie.close
-    (tie.spec (λ c. search needs) add-n-2 returns (λ c κs. search needs) (λ c. search needs) (λ c. search needs))
+    (tie.spec
+    (λ c. search needs)
+    (λ c. let b = c .before .before .before .before in omega (arith, next-below (b .args .head) (b .args .ids .now) (b .args .s) (c .before .if1 .taken) (b .pre)))
+    returns (λ c κs. search needs) (λ c. search needs) (λ c. search needs))

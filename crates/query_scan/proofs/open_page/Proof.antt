@@ -1,25 +1,12 @@
 -- `query_scan::open_page` meets its contract. Assumes nothing.
-use native.Mathlib.Omega.{arith}
-use borrow.Author.Needs.{needs}
+use Rattle.query_scan.proofs.Prelude.{arith, needs}
 use Rattle.query_scan.proofs.ScanSteps.{size-few}
 use Rattle.query_scan.proofs.AnswerSteps.{page-stopped, page-opened}
 use Rattle.query_scan.proofs.open_page.Statement.{statement}
 use Rattle.query_scan.proofs.open_page.Tie as tie
 
-returns : tie.Need-returns
-returns c = page-stopped _ _ _ _ _ _ _ _ _ (c .before .before .page-refusal .ensures) (c .before .if1 .taken) (c .at-place .ensures)
-
-sub-left : tie.Need-sub-left
-sub-left c = omega (arith, c .size .ensures, c .before .before .page-refusal .ensures .within (c .before .if1 .left))
-
-cast-places : tie.Need-cast-places
-cast-places c = omega (arith, c .smaller .ensures, c .before .size .ensures, size-few _ _ _ (c .before .before .before .page-refusal .ensures .queryable (c .before .before .if1 .left)))
-
 add-at-place : tie.Need-add-at-place
 add-at-place c = let r = c .before .before .before .page-refusal .ensures in omega (arith, c .smaller .ensures, c .before .size .ensures, size-few _ _ _ (r .queryable (c .before .before .if1 .left)), r .within (c .before .before .if1 .left))
-
-at-place-requires-2 : tie.Need-at-place-requires-2
-at-place-requires-2 c κs = omega (arith, c .smaller .ensures, c .before .size .ensures, c .before .before .before .page-refusal .ensures .within (c .before .before .if1 .left))
 
 returns-2 : tie.Need-returns-2
 returns-2 c = page-opened _ _ _ _ _ _ _ _ _ (c .before .before .before .before .page-refusal .ensures) (c .before .before .before .if1 .left) (rw (c .before .smaller .ensures, c .before .before .size .ensures) at (c .at-place2 .ensures))
@@ -28,5 +15,12 @@ pub open-page-spec : {M : Type 1} → statement M
 open-page-spec =
     tie.close
     (tie.spec
-    (λ c κs. search needs) (λ c κs. search needs) returns (λ c κs. search needs) sub-left (λ c κs. search needs)
-    cast-places add-at-place at-place-requires-2 returns-2)
+    (λ c κs. search needs) (λ c κs. search needs)
+    (λ c. page-stopped _ _ _ _ _ _ _ _ _ (c .before .before .page-refusal .ensures) (c .before .if1 .taken) (c .at-place .ensures))
+    (λ c κs. search needs)
+    (λ c. omega (arith, c .size .ensures, c .before .before .page-refusal .ensures .within (c .before .if1 .left)))
+    (λ c κs. search needs)
+    (λ c. omega (arith, c .smaller .ensures, c .before .size .ensures, size-few _ _ _ (c .before .before .before .page-refusal .ensures .queryable (c .before .before .if1 .left))))
+    add-at-place
+    (λ c κs. omega (arith, c .smaller .ensures, c .before .size .ensures, c .before .before .before .page-refusal .ensures .within (c .before .before .if1 .left)))
+    returns-2)

@@ -1,0 +1,36 @@
+-- The names that the proofs of this crate take from below, re-exported. It defines nothing of its own.
+pub use Prim.Native.Nat.{ℕ, _+_, _-_, _≤_, _<_, min, _*_, zero, suc}
+pub use mathlib.Core.Bool.{Bool, true, false, and-true, false≢true, and-false, not, cond}
+pub use mathlib.Core.List.{List, [], _∷_, _++_, append-assoc, append-nil}
+pub use mathlib.Core.Logic.{inl, inr}
+pub use mathlib.Core.Path.{_≡_, refl, sym, ap, _∙_, ap₂, subst}
+pub use native.Mathlib.Decide.{ℕ-discrete, decLt}
+pub use native.Mathlib.Omega.{arith}
+pub use lib.Dec.{eqb, ltb}
+pub use lib.ListN.{length, getD, take, drop, length-take, length-drop}
+pub use borrow.Author.Needs.{needs}
+pub use borrow.Author.Tests.{eqb-true, eq-eqb, ltb-false, lt-ltb, le-ltb, not-true, not-false}
+pub use Rattle.constraints.specs.Constraints.{known, isLive, met}
+unfoldable pub use Rattle.constraints.specs.Constraints.{meets}
+pub use Rattle.constraints.specs.declared.Constraint.{Constraint}
+pub use Rattle.lists.specs.Laws.Filter.{split, and-left, and-right, filter-all, filter-length-all, length-filter, count-le, filter-append, count-append}
+pub use Rattle.lists.specs.Lists.{splice, iota, rising}
+unfoldable pub use Rattle.lists.specs.Lists.{filter, all, count, rowAt, any}
+pub use Rattle.offsets.specs.Answers.{subsetOf, Answered}
+pub use Rattle.offsets.specs.Laws.Forms.{length-range, getD-range, narrowed-all, narrowed-some, narrowed-list, size-range, end-range, size-list, members-list}
+pub use Rattle.offsets.specs.Laws.Subsets.{dense-is, sparse-is, formed-order, length-members, answered-range, answered-list, rising-members, members-below, formed-short}
+pub use Rattle.offsets.specs.Subsets.{Subset, range, list, members, size, retain, narrowed, endOf}
+pub use Rattle.offsets.specs.declared.SubsetHead.{SubsetHead}
+pub use Rattle.offsets_retain.specs.declared.RetainBuilder.{RetainBuilder}
+pub use Rattle.offsets_retain.specs.inner.RetainBuilder.{Builds, BuilderEnds, NextId}
+unfoldable pub use Rattle.query_scan.specs.Visits.{idsVisited, upToFirst}
+pub use Rattle.query_scan.specs.declared.QueryKind.the-variants.{Refine, Match, Page}
+pub use Rattle.query_scan.specs.declared.Scan.{Scan}
+pub use Rattle.query_scan.specs.inner.Scanning.{BeginsAt, Finished, ScanStarts, ScanAnswered, CanWrite, Writes, CanClose, RefineClosed, RowInStore, CanStart, ScanInvariant, Keeps, CanMove, Moves, CanStep, ScanSteps, PageClosed, MatchClosed}
+unfoldable pub use Rattle.query_scan.specs.inner.Scanning.{upTo, places, firstPlace, roomRequired, refusalOf, whole, scannedIds, nextOf, nextAt, passes, starts}
+pub use Rattle.query_spec.specs.Queries.{refineRefusal, RefinedOne, RefinedList, pageRefusal, PageReply, PageRead, matchRefusal, Matched}
+unfoldable pub use Rattle.query_spec.specs.Queries.{matches, visited, refineOneReply, refineListReply, pastRows, deadAmong, nextPlace, pageIds, nextView, pageView, pageReply, matchView}
+pub use Rattle.query_spec.specs.inner.Tests.{Queryable, RefineRefused, MatchRefused, PageRefused}
+pub use Rattle.refusals.specs.Laws.Replies.{reply-refused, reply-accepted}
+pub use Rattle.refusals.specs.Refusals.{refused, accepted, reply}
+pub use Rattle.table.specs.declared.Header.{Header}
