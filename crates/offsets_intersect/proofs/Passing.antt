@@ -1,8 +1,11 @@
--- The merge of long lists, one step at a time: a block, an id, an id that is common. Assumes nothing.
+-- The intersection of two lists, one step at a time: a block, an id, an id that is common, a search by strides. Assumes nothing.
 use Rattle.offsets_intersect.proofs.Prelude.{ℕ, zero, suc, _+_, _-_, _≤_, _<_, _≡_, refl, sym, ap, _∙_, inl, inr, Bool, true, false, not, _&&_, List, [], _∷_, _++_, append-assoc, append-nil, decLt, add-one, arith, eqb, length, take, drop, getD}
 use Rattle.offsets_intersect.proofs.Prelude.{set, length-take, length-drop, length-set, take-append-drop, drop-of-length-le, length-take-le, drop-cons, drop-drop, getD-take, getD-drop, not-true, eqb-false, splice, filter, rising, elem}
 use Rattle.offsets_intersect.proofs.Prelude.{splice-alike, set-splice, front-splice, drop-splice, split, and-left, and-right, filter-append, filter-yes, rising-at, rising-drop, elem-at, elem-notBelow, filter-nothing, Wrote, common, Lacks, Apart}
-use Rattle.offsets_intersect.proofs.Prelude.{ApartAt, SkippedTo, MergedTo}
+use Rattle.offsets_intersect.proofs.Prelude.{ApartAt, SkippedTo, MergedTo, true≢false, notBelow-le, notBelow-past, notBelow-mono, elem-in-notBelow, scanPlace, scan, Scanned, Fitting, Searchable}
+use Rattle.lists.specs.inner.Searching.{firstNotBelow}
+use Rattle.lists.specs.Laws.Search.{notBelow-below}
+use Rattle.offsets_search.specs.declared.Scan.the-variants.{Hit, Next}
 use Rattle.offsets_intersect.proofs.Common.{common-comm}
 
 -- ---- ids that the others lack
@@ -312,3 +315,74 @@ module _ {ids others output₀ output : List ℕ} {i₀ o₀ n₀ i o n stop id 
 
     pub pace-end : i + o < i′ + o′ → MergedTo ids others output₀ output′ i₀ o₀ n₀ i′ o′ n′ × (i₀ + o₀ < i′ + o′)
     pace-end h = (v, omega (arith, h, w .mergedTo .on, w .mergedTo .others-on))
+
+-- ---- a search by strides
+
+-- the others before position o are below the next id
+pub record GallopInvariant (ids others output₀ output : List ℕ) (i o n : ℕ) : Type 0 where
+  pub mergedTo : MergedTo ids others output₀ output 0 0 0 i o n
+  pub past : i < length ids → o ≤ firstNotBelow (getD ids i 0) others
+
+pub gallop-begin : (ids others output : List ℕ) → GallopInvariant ids others output output 0 0 0
+gallop-begin ids others output = record { mergedTo = mergedTo-none ids others output 0 0 0 (omega arith) (omega arith); past = λ h. omega arith }
+
+module _ {ids others output₀ output : List ℕ} {i o n : ℕ} (f : Fitting ids output₀) (g : Searchable others) (w : GallopInvariant ids others output₀ output i o n) (h : i < length ids) where
+  abbrev id : ℕ
+  id = getD ids i 0
+
+  abbrev place : ℕ
+  place = firstNotBelow id others
+
+  next-larger : i + 1 < length ids → id < getD ids (i + 1) 0
+  next-larger m = rising-at ids (f .up) i (i + 1) (omega arith) m
+
+  -- past the others that are below the id
+  passed-below : MergedTo ids others output₀ output 0 0 0 i place n
+  passed-below =
+      let a = w .past h in
+      let b : o + (place - o) ≡ place = omega arith in
+      let c : SkippedTo others ids o i (o + (place - o)) i =
+      pass-ids others ids o i (place - o) (let d = notBelow-le id others in omega arith) (omega arith)
+      (λ j m p q r e. let x = notBelow-below id others (g .up) (o + j) (omega arith) in let y = rising-upto ids (f .up) i m q r in omega arith) in
+      mergedTo-passed (w .mergedTo) (passed-turned (f .up) (g .up) (rw b at c))
+
+  found : elem id others ≡ true → GallopInvariant ids others output₀ (set output n id) (i + 1) (place + 1) (n + 1)
+  found e =
+      let a = elem-in-notBelow id others (g .up) e in
+      let r : n < length output = omega (arith, w .mergedTo .few, w .mergedTo .same, f .fits) in
+      record {
+        mergedTo = mergedTo-on passed-below (mergedTo-both ids others (f .up) (g .up) i place h (a .0) (sym (a .1)) output n r);
+        past = λ m. (let b = next-larger m in let c = notBelow-past (getD ids (i + 1) 0) others (g .up) place (a .0) (omega (arith, a .1)) in omega arith);
+      }
+
+  lacking : elem id others ≡ false → GallopInvariant ids others output₀ output (i + 1) place n
+  lacking e =
+      record {
+        mergedTo = mergedTo-passed passed-below (pass-ids ids others i place 1 (omega arith) (notBelow-le id others) differ);
+        past = λ m. (let b = next-larger m in notBelow-mono id (getD ids (i + 1) 0) others (g .up) (omega arith));
+      }
+    where
+      differ : (j m : ℕ) → j < 1 → place ≤ m → m < length others → getD ids (i + j) 0 ≡ getD others m 0 → ⊥
+      differ j m a b c r =
+          let z : i + j ≡ i = omega arith in
+          let x : id ≡ getD others m 0 = rw z at r in
+          true≢false (sym (elem-notBelow id others m c (sym x)) ∙ e)
+
+  -- the two results of a scan
+  pub scan-hit : (p : ℕ) → Scanned others o id (Hit p) → GallopInvariant ids others output₀ (set output n id) (i + 1) (p + 1) (n + 1)
+  unfolding scan scanPlace
+  scan-hit p r =
+      let z : Hit p ≡ scan id others = r .finds (g .up) (w .past h) in
+      elim (split (elem id others)) [
+        | inl e ↦ let y : Hit p ≡ Hit place = rw e at z in let x : p ≡ place = ap scanPlace y in rw x (found e)
+        | inr e ↦ let y : Hit p ≡ Next place = rw e at z in absurd (let w : _≡_ {A = ℕ} 0 1 = cc in omega arith)
+      ]
+
+  pub scan-miss : (p : ℕ) → Scanned others o id (Next p) → GallopInvariant ids others output₀ output (i + 1) p n
+  unfolding scan scanPlace
+  scan-miss p r =
+      let z : Next p ≡ scan id others = r .finds (g .up) (w .past h) in
+      elim (split (elem id others)) [
+        | inl e ↦ let y : Next p ≡ Hit place = rw e at z in absurd (let w : _≡_ {A = ℕ} 0 1 = cc in omega arith)
+        | inr e ↦ let y : Next p ≡ Next place = rw e at z in let x : p ≡ place = ap scanPlace y in rw x (lacking e)
+      ]

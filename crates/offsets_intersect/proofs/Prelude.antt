@@ -8,14 +8,14 @@ pub use native.Mathlib.Decide.{decLt}
 pub use native.Mathlib.Numerals.{add-one}
 pub use native.Mathlib.Omega.{arith}
 pub use lib.Dec.{leb, eqb}
-pub use lib.ListN.{length, take, drop, getD, set, length-append, length-drop, length-set, length-take, take-append-drop, drop-of-length-le}
+pub use lib.ListN.{length, take, drop, getD, set, length-drop, length-set, length-take, take-append-drop, drop-of-length-le}
 pub use lib.Seq.{take-suc, take-all, length-take-le, drop-cons, drop-drop, getD-take, getD-drop}
 pub use borrow.Author.Needs.{needs}
 pub use borrow.Author.Tests.{le-leb, lt-leb, not-true, eqb-false, ltb-true, ltb-false, not-false}
-pub use Rattle.lists.specs.Laws.Filter.{split, filter-step, filter-skip, and-left, and-right, length-filter, count-le, filter-append, filter-yes}
+pub use Rattle.lists.specs.Laws.Filter.{split, and-left, and-right, length-filter, count-le, filter-append, filter-yes}
 pub use Rattle.lists.specs.Laws.Parts.{splice-nil, splice-alike, set-splice, front-splice, drop-splice}
 pub use Rattle.lists.specs.Laws.Rising.{rising-at, filter-elem-comm, rising-drop, elem-at}
-pub use Rattle.lists.specs.Laws.Search.{notBelow-le, notBelow-past, notBelow-upto, notBelow-mono, elem-notBelow, elem-not-notBelow, elem-in-notBelow, filter-within-places, filter-stop, put-more, filter-nothing}
+pub use Rattle.lists.specs.Laws.Search.{notBelow-le, notBelow-past, notBelow-mono, elem-notBelow, elem-in-notBelow, filter-within-places, put-more, filter-nothing}
 pub use Rattle.lists.specs.Lists.{splice, rising, within}
 unfoldable pub use Rattle.lists.specs.Lists.{filter, elem}
 pub use Rattle.offsets.specs.Answers.{subsetOf, Answered, intersectRefusal}

@@ -1,5 +1,5 @@
-// Intersects long lists of similar length: a linear merge where they have ids in common, and blocks of four ids where they have had
-// none for a while.
+// Intersects lists of similar length: a linear merge where they have ids in common, and blocks of four ids where they have had none for
+// a while.
 ghost use mathlib.Core.Path.{_≡_};
 ghost use mathlib.Core.Bool.{true};
 ghost use Prim.Native.Nat.{_+_, _≤_, _<_};
@@ -128,7 +128,7 @@ fn merge_some(ids: &[u32], others: &[u32], output: &mut [u32], from: MergeCursor
 }
 
 // Writes the ids that the other list has too. Alternates between merging in step and skipping blocks.
-pub fn merge_long(ids: &[u32], others: &[u32], output: &mut [u32]) -> usize
+pub fn merge_similar(ids: &[u32], others: &[u32], output: &mut [u32]) -> usize
     requires { ⌜ Fitting (now ids) (now output) × Searchable (now others) × (similar (length (now ids)) (length (now others)) ≡ true) ⌝ }
     ensures { λ r. ⌜ Wrote (now (output .entry)) (common (now (ids .entry)) (now (others .entry))) r (now (output .exit)) ⌝ }
 {

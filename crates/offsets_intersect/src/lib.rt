@@ -10,7 +10,7 @@ ghost use Rattle.refusals.specs.Refusals.{accepted};
 ghost use Rattle.offsets.specs.Subsets.{range, list, listOrNothing};
 ghost use Rattle.offsets.specs.Answers.{subsetOf, Answered, roomNeeded, intersectRefusal, intersectReply};
 ghost use Rattle.offsets.specs.inner.Writing.{Wrote};
-ghost use Rattle.offsets_intersect.specs.inner.Common.{Fitting, Searchable, common, similar, BothShort, MuchLonger};
+ghost use Rattle.offsets_intersect.specs.inner.Common.{Fitting, Searchable, common, similar, MuchLonger};
 use offsets::SubsetAnswer;
 use offsets::SubsetHead;
 use offsets::is_well_formed;
@@ -21,10 +21,7 @@ use offsets_search::scan_for_offset;
 use refusals::MALFORMED_SUBSET;
 use refusals::TOO_SHORT;
 
-mod blocks; // blocks.rt: long lists of similar length
-
-// Lists of at most this many ids are merged in step from start to end.
-const SHORT: usize = 16;
+mod blocks; // blocks.rt: lists of similar length
 
 // Writes the ids to the start of the output.
 fn write_ids(output: &mut [u32], ids: &[u32])
@@ -49,44 +46,6 @@ fn keep_within(ids: &[u32], start: u32, end: u32, output: &mut [u32]) -> usize
     let upto = high as usize;
     write_ids(output, &ids[from..upto]);
     upto - from
-}
-
-// Writes the ids that the other list has too, by a linear merge. Keeps the two current ids in variables and reads one id an
-// iteration. A loop that reads both again takes half as long again where its code is badly aligned.
-fn merge_in_step(ids: &[u32], others: &[u32], output: &mut [u32]) -> usize
-    requires { ⌜ Fitting (now ids) (now output) × Searchable (now others) × BothShort (length (now ids)) (length (now others)) ⌝ }
-    ensures { λ r. ⌜ Wrote (now (output .entry)) (common (now (ids .entry)) (now (others .entry))) r (now (output .exit)) ⌝ }
-{
-    if ids.len() == 0 {
-        return 0;
-    }
-    if others.len() == 0 {
-        return 0;
-    }
-    let mut i = 0;
-    let mut o = 0;
-    let mut n = 0;
-    let mut id = ids[0];
-    let mut other = others[0];
-    loop {
-        if other < id {
-            o += 1;
-            if others.len() <= o {
-                return n;
-            }
-            other = others[o];
-        } else {
-            if id == other {
-                output[n] = id;
-                n += 1;
-            }
-            i += 1;
-            if ids.len() <= i {
-                return n;
-            }
-            id = ids[i];
-        }
-    }
 }
 
 // Writes the ids that another, longer list has too. Searches that list by strides, each search from the end of the one before.
@@ -127,24 +86,13 @@ fn are_similar(a: usize, b: usize) -> bool
     (a <= 16 && b <= 16) || (a / 4 <= b && b <= a * 4)
 }
 
-// Intersects lists of similar length, short or long.
-fn merge_similar(ids: &[u32], others: &[u32], output: &mut [u32]) -> usize
-    requires { ⌜ Fitting (now ids) (now output) × Searchable (now others) × (similar (length (now ids)) (length (now others)) ≡ true) ⌝ }
-    ensures { λ r. ⌜ Wrote (now (output .entry)) (common (now (ids .entry)) (now (others .entry))) r (now (output .exit)) ⌝ }
-{
-    if ids.len() <= SHORT && others.len() <= SHORT {
-        return merge_in_step(ids, others, output);
-    }
-    blocks::merge_long(ids, others, output)
-}
-
 // Writes the ids that both lists have: by a linear merge, or by searching the longer list for the ids of the shorter one.
 fn keep_common(ids: &[u32], others: &[u32], output: &mut [u32]) -> usize
     requires { ⌜ Fitting (now ids) (now output) × Searchable (now others) ⌝ }
     ensures { λ r. ⌜ Wrote (now (output .entry)) (common (now (ids .entry)) (now (others .entry))) r (now (output .exit)) ⌝ }
 {
     if are_similar(ids.len(), others.len()) {
-        return merge_similar(ids, others, output);
+        return blocks::merge_similar(ids, others, output);
     }
     if others.len() < ids.len() {
         return gallop_along(others, ids, output);

@@ -1,4 +1,4 @@
--- Contracts of the linear merge of long lists. Assumes nothing.
+-- Contracts of the merge of lists of similar length. Assumes nothing.
 use Prim.Native.Nat.{ℕ, _+_, _≤_, _<_}
 use mathlib.Core.Path.{_≡_}
 use mathlib.Core.List.{List, _++_}

@@ -24,10 +24,6 @@ common ids others = filter (λ id. elem id others) ids
 
 -- ---- the algorithm is chosen by the lengths alone, "on the Rust's thresholds"
 
--- both lists are short: one linear merge from start to end
-abbrev pub BothShort : ℕ → ℕ → Type 0
-BothShort a b = (a ≤ 16) × (b ≤ 16)
-
 -- "Lists of like length are walked in step"
 unfoldable pub similar : ℕ → ℕ → Bool
 similar a b = (leb a 16 && leb b 16) || (leb (a / 4) b && leb b (a * 4))

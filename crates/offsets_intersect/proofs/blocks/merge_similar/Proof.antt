@@ -1,8 +1,8 @@
--- `offsets_intersect::blocks::merge_long` meets its contract. Assumes nothing.
+-- `offsets_intersect::blocks::merge_similar` meets its contract. Assumes nothing.
 use Rattle.offsets_intersect.proofs.Prelude.{_+_, _-_, arith, length, ltb-true, ltb-false, MergedTo}
 use Rattle.offsets_intersect.proofs.Passing.{mergedTo-none, mergedTo-on, mergedTo-passed, mergedTo-end, mergedTo-others-end}
-use Rattle.offsets_intersect.proofs.blocks.merge_long.Statement.{statement}
-use Rattle.offsets_intersect.proofs.blocks.merge_long.Tie as tie
+use Rattle.offsets_intersect.proofs.blocks.merge_similar.Statement.{statement}
+use Rattle.offsets_intersect.proofs.blocks.merge_similar.Tie as tie
 
 abbrev Inv-loop : tie.InvT-loop
 Inv-loop ids others output₀ walk₀ output walk = MergedTo ids others output₀ output 0 0 0 (walk .i) (walk .o) (walk .n)
@@ -30,8 +30,8 @@ loop-less c =
 loop-again : tie.Need-loop-again Inv-loop μ-loop
 loop-again c = rw (c .skip-apart .ensures .1) (mergedTo-passed (mergedTo-on (c .before .before .before .before .before .before .before .before .before .loop .inv) (c .before .before .before .merge-some .ensures .0)) (c .skip-apart .ensures .0))
 
-pub merge-long-spec : {M : Type 1} → statement M
-merge-long-spec =
+pub merge-similar-spec : {M : Type 1} → statement M
+merge-similar-spec =
     tie.close
     (tie.spec
     Inv-loop μ-loop
