@@ -14,9 +14,6 @@ Inv-loop line start value₀ at₀ value at = Digits line start value at
 abbrev μ-loop : tie.MeasureT-loop
 μ-loop line start value₀ at₀ value at = length line - at
 
-loop-holds : tie.Need-loop-holds Inv-loop μ-loop
-loop-holds c = digits-begin _ _
-
 returns : tie.Need-returns Inv-loop μ-loop
 returns c = wrong-below _ _ _ _ (c .before .before .before .before .loop .inv) (c .before .before .before .loop-test .taken) (c .before .if1 .left) (c .if2 .taken)
 
@@ -62,6 +59,6 @@ pub read-field-spec : {M : Type 1} → statement M
 read-field-spec =
     tie.close
     (tie.spec
-    Inv-loop μ-loop loop-holds (λ c. search needs) returns returns-2 returns-3 (λ c. search needs) (λ c. search needs)
-    (λ c. search needs) returns-4 (λ c. search needs) (λ c. search needs) loop-again returns-5 (λ c. search needs)
-    returns-6)
+    Inv-loop μ-loop (λ c. digits-begin _ _) (λ c. search needs) returns returns-2 returns-3 (λ c. search needs)
+    (λ c. search needs) (λ c. search needs) returns-4 (λ c. search needs) (λ c. search needs) loop-again returns-5
+    (λ c. search needs) returns-6)

@@ -17,53 +17,14 @@ Inv-loop line numbers₀ letter at₀ count₀ numbers at count = Numbers line n
 abbrev μ-loop : tie.MeasureT-loop
 μ-loop line numbers₀ letter at₀ count₀ numbers at count = length line - at
 
-returns : tie.Need-returns Inv-loop μ-loop
-returns c = read-wrong _ _ _ (too-long _ (c .if1 .taken)) (λ h. refl)
-
-returns-2 : tie.Need-returns-2 Inv-loop μ-loop
-returns-2 c = read-wrong _ _ _ (no-bytes (c .before .before .before .before .args .line .now) (c .if2 .taken)) (λ h. refl)
-
-returns-3 : tie.Need-returns-3 Inv-loop μ-loop
-returns-3 c = read-no-room _ _ (c .if3 .taken)
-
-shared-slice-read-letter : tie.Need-shared-slice-read-letter Inv-loop μ-loop
-shared-slice-read-letter c = search needs
-
 returns-4 : tie.Need-returns-4 Inv-loop μ-loop
 returns-4 c = read-wrong _ _ _ (comma-first (c .before .before .before .before .before .before .before .args .line .now) (c .before .before .before .if2 .left) (c .if4 .taken)) (λ h. refl)
 
 loop-holds : tie.Need-loop-holds Inv-loop μ-loop
 loop-holds c = numbers-begin _ _ (c .before .before .before .before .if1 .left) (c .before .before .if3 .left) (c .before .before .before .if2 .left) (c .if4 .left)
 
-shared-slice-read-if5 : tie.Need-shared-slice-read-if5 Inv-loop μ-loop
-shared-slice-read-if5 c = search needs
-
-same-length : tie.Need-same-length Inv-loop μ-loop
-same-length c = c .before .before .before .loop .inv .same
-
-returns-5 : tie.Need-returns-5 Inv-loop μ-loop
-returns-5 c = wrong-letter _ _ _ _ _ (c .before .before .before .loop .inv) (c .before .before .loop-test .taken) (c .if5 .taken)
-
-add-read-field : tie.Need-add-read-field Inv-loop μ-loop
-add-read-field c = search needs
-
-read-field-requires : tie.Need-read-field-requires Inv-loop μ-loop
-read-field-requires c κs = search needs
-
-enum-told : tie.Need-enum-told Inv-loop μ-loop
-enum-told c = search needs
-
-same-length-2 : tie.Need-same-length-2 Inv-loop μ-loop
-same-length-2 c = c .before .before .before .before .before .before .loop .inv .same
-
 returns-6 : tie.Need-returns-6 Inv-loop μ-loop
 returns-6 c = wrong-number _ _ _ _ _ (c .before .before .before .before .before .before .loop .inv) (c .before .before .before .before .before .loop-test .taken) (c .before .before .before .if5 .left) _ (c .before .before .read-field .ensures) (c .enum-told .given .1)
-
-enum-known-value : tie.Need-enum-known-value Inv-loop μ-loop
-enum-known-value c = search needs
-
-mul-numbers : tie.Need-mul-numbers Inv-loop μ-loop
-mul-numbers c = search needs
 
 slice-write-numbers : tie.Need-slice-write-numbers Inv-loop μ-loop
 slice-write-numbers c = fits _ _ _ _ _ (c .before .before .before .before .before .before .before .loop .inv) (c .before .before .before .before .before .before .loop-test .taken) (c .before .before .before .before .if5 .left) _ (c .before .before .before .read-field .ensures) _ _ (c .before .value .given .1)
@@ -77,9 +38,6 @@ loop-less c = omega (arith, next-place _ _ _ _ _ (c .before .before .before .bef
 loop-again : tie.Need-loop-again Inv-loop μ-loop
 loop-again c = numbers-more _ _ _ _ _ (c .before .before .before .before .before .before .before .loop .inv) (c .before .before .before .before .before .before .loop-test .taken) (c .before .before .before .before .if5 .left) _ (c .before .before .before .read-field .ensures) _ _ (c .before .value .given .1)
 
-same-length-3 : tie.Need-same-length-3 Inv-loop μ-loop
-same-length-3 c = c .before .loop .inv .same
-
 returns-7 : tie.Need-returns-7 Inv-loop μ-loop
 unfolding letter
 returns-7 c = line-read _ _ _ _ _ (c .before .loop .inv) (c .loop-test .left)
@@ -88,27 +46,11 @@ pub read-line-spec : {M : Type 1} → statement M
 read-line-spec =
     tie.close
     (tie.spec
-    Inv-loop
-    μ-loop
-    returns
-    returns-2
-    returns-3
-    shared-slice-read-letter
-    returns-4
-    loop-holds
-    shared-slice-read-if5
-    same-length
-    returns-5
-    add-read-field
-    read-field-requires
-    enum-told
-    same-length-2
-    returns-6
-    enum-known-value
-    mul-numbers
-    slice-write-numbers
-    add-count
-    loop-less
-    loop-again
-    same-length-3
-    returns-7)
+    Inv-loop μ-loop (λ c. read-wrong _ _ _ (too-long _ (c .if1 .taken)) (λ h. refl))
+    (λ c. read-wrong _ _ _ (no-bytes (c .before .before .before .before .args .line .now) (c .if2 .taken)) (λ h. refl))
+    (λ c. read-no-room _ _ (c .if3 .taken)) (λ c. search needs) returns-4 loop-holds (λ c. search needs)
+    (λ c. c .before .before .before .loop .inv .same)
+    (λ c. wrong-letter _ _ _ _ _ (c .before .before .before .loop .inv) (c .before .before .loop-test .taken) (c .if5 .taken))
+    (λ c. search needs) (λ c κs. search needs) (λ c. search needs)
+    (λ c. c .before .before .before .before .before .before .loop .inv .same) returns-6 (λ c. search needs)
+    (λ c. search needs) slice-write-numbers add-count loop-less loop-again (λ c. c .before .loop .inv .same) returns-7)

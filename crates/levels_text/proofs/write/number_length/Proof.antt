@@ -5,16 +5,9 @@ use borrow.Author.Needs.{needs}
 use Rattle.levels_text.proofs.write.number_length.Statement.{statement}
 use Rattle.levels_text.proofs.write.number_length.Tie as tie
 
-decimal-requires : tie.Need-decimal-requires
-decimal-requires c κs = search needs
-
-add-result : tie.Need-add-result
-add-result c = omega (arith, few-digits _ _ (search needs) (c .decimal .ensures .1 .0))
-
-returns : tie.Need-returns
-returns c =
-    let d = c .decimal .ensures in
-    omega (arith, field-length (search needs) (d .1 .0) (d .1 .1), d .0 .1)
-
 pub number-length-spec : {M : Type 1} → statement M
-number-length-spec = tie.close (tie.spec decimal-requires add-result returns)
+number-length-spec =
+    tie.close
+    (tie.spec
+    (λ c κs. search needs) (λ c. omega (arith, few-digits _ _ (search needs) (c .decimal .ensures .1 .0)))
+    (λ c. let d = c .decimal .ensures in omega (arith, field-length (search needs) (d .1 .0) (d .1 .1), d .0 .1)))

@@ -4,8 +4,6 @@ use Rattle.levels_text.specs.inner.Appending.{appended-one}
 use Rattle.levels_text.proofs.write.put.Statement.{statement}
 use Rattle.levels_text.proofs.write.put.Tie as tie
 
-returns : tie.Need-returns
-returns c = appended-one _ _ _ (search needs)
-
 pub put-spec : {M : Type 1} → statement M
-put-spec = tie.close (tie.spec (λ c. search needs) (λ c. search needs) (λ c. search needs) returns)
+put-spec =
+    tie.close (tie.spec (λ c. search needs) (λ c. search needs) (λ c. search needs) (λ c. appended-one _ _ _ (search needs)))

@@ -16,12 +16,8 @@ put-requires-2 : tie.Need-put-requires-2
 put-requires-2 c κs =
     omega (arith, c .before .before .before .put-numbers .ensures .counted, c .before .before .before .before .before .before .before .put .ensures .counted, length-line (c .before .before .before .before .before .before .before .before .before .before .before .args .letter) (c .before .before .before .before .before .before .before .before .before .before .before .args .numbers .now), c .before .before .before .before .before .before .before .before .before .before .before .pre)
 
-same-length : tie.Need-same-length
-same-length c = search needs
-
 returns : tie.Need-returns
 returns c = appended-line _ (c .before .before .before .before .before .before .before .before .before .before .put .ensures) (c .before .before .before .before .before .before .put-numbers .ensures) (c .before .before .put2 .ensures)
 
 pub put-line-spec : {M : Type 1} → statement M
-put-line-spec =
-    tie.close (tie.spec put-requires put-numbers-requires put-requires-2 same-length returns)
+put-line-spec = tie.close (tie.spec put-requires put-numbers-requires put-requires-2 (λ c. search needs) returns)

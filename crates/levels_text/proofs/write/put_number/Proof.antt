@@ -6,25 +6,10 @@ use borrow.Author.Needs.{needs}
 use Rattle.levels_text.proofs.write.put_number.Statement.{statement}
 use Rattle.levels_text.proofs.write.put_number.Tie as tie
 
-decimal-requires : tie.Need-decimal-requires
-decimal-requires c κs = search needs
-
-put-requires : tie.Need-put-requires
-put-requires c κs = omega (arith, c .before .before .before .before .pre, field-some (c .before .before .before .before .args .number))
-
-array-share-prefix-digits : tie.Need-array-share-prefix-digits
-array-share-prefix-digits c = search needs
-
-slice-aggregate-put-bytes : tie.Need-slice-aggregate-put-bytes
-slice-aggregate-put-bytes c = search needs
-
 put-bytes-requires : tie.Need-put-bytes-requires
 put-bytes-requires c κs =
     let d = c .before .before .before .before .before .before .decimal .ensures in
     omega (arith, field-length (search needs) (d .1 .0) (d .1 .1), c .before .before .before .before .put .ensures .counted)
-
-same-length : tie.Need-same-length
-same-length c = search needs
 
 returns : tie.Need-returns
 returns c =
@@ -35,10 +20,6 @@ pub put-number-spec : {M : Type 1} → statement M
 put-number-spec =
     tie.close
     (tie.spec
-    decimal-requires
-    put-requires
-    array-share-prefix-digits
-    slice-aggregate-put-bytes
-    put-bytes-requires
-    same-length
-    returns)
+    (λ c κs. search needs)
+    (λ c κs. omega (arith, c .before .before .before .before .pre, field-some (c .before .before .before .before .args .number)))
+    (λ c. search needs) (λ c. search needs) put-bytes-requires (λ c. search needs) returns)

@@ -14,46 +14,17 @@ Inv-loop text₀ used numbers end₀ i₀ text end i =
 abbrev μ-loop : tie.MeasureT-loop
 μ-loop text₀ used numbers end₀ i₀ text end i = length numbers - i
 
-loop-holds : tie.Need-loop-holds Inv-loop μ-loop
-loop-holds c = numbering-begin _ _ _
-
-mul-put-number : tie.Need-mul-put-number Inv-loop μ-loop
-mul-put-number c = search needs
-
-shared-slice-read-put-number : tie.Need-shared-slice-read-put-number Inv-loop μ-loop
-shared-slice-read-put-number c = search needs
-
 put-number-requires : tie.Need-put-number-requires Inv-loop μ-loop
 put-number-requires c κs = omega (arith, numbering-next (c .before .before .before .loop .inv) (search needs), c .before .before .before .loop .inv .same-length, c .before .before .before .before .before .before .pre)
-
-add-i : tie.Need-add-i Inv-loop μ-loop
-add-i c = search needs
-
-loop-less : tie.Need-loop-less Inv-loop μ-loop
-loop-less c = search needs
 
 loop-again : tie.Need-loop-again Inv-loop μ-loop
 loop-again c =
     numbering-again (c .before .before .before .before .before .before .loop .inv) (search needs) (search needs) (c .before .before .put-number .ensures)
 
-same-length : tie.Need-same-length Inv-loop μ-loop
-same-length c = search needs
-
-returns : tie.Need-returns Inv-loop μ-loop
-returns c = numbering-end (c .before .loop .inv) (search needs)
-
 pub put-numbers-spec : {M : Type 1} → statement M
 put-numbers-spec =
     tie.close
     (tie.spec
-    Inv-loop
-    μ-loop
-    loop-holds
-    mul-put-number
-    shared-slice-read-put-number
-    put-number-requires
-    add-i
-    loop-less
-    loop-again
-    same-length
-    returns)
+    Inv-loop μ-loop (λ c. numbering-begin _ _ _) (λ c. search needs) (λ c. search needs) put-number-requires
+    (λ c. search needs) (λ c. search needs) loop-again (λ c. search needs)
+    (λ c. numbering-end (c .before .loop .inv) (search needs)))

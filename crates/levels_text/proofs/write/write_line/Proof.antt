@@ -9,11 +9,8 @@ use Rattle.levels_text.proofs.write.write_line.Tie as tie
 put-line-requires : tie.Need-put-line-requires
 put-line-requires c κs = omega (arith, length-written (c .before .before .before .args .letter) (c .before .before .before .args .numbers .now), c .before .before .before .pre)
 
-same-length : tie.Need-same-length
-same-length c = search needs
-
-returns : tie.Need-returns
-returns c = line-wrote _ _ (search needs) (c .before .before .put-line .ensures)
-
 pub write-line-spec : {M : Type 1} → statement M
-write-line-spec = tie.close (tie.spec put-line-requires same-length returns)
+write-line-spec =
+    tie.close
+    (tie.spec
+    put-line-requires (λ c. search needs) (λ c. line-wrote _ _ (search needs) (c .before .before .put-line .ensures)))
