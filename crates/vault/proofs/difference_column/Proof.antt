@@ -12,27 +12,6 @@ Inv-loop width rows start end column cells output₀ base above₀ row₀ output
 abbrev μ-loop : tie.MeasureT-loop
 μ-loop width rows start end column cells output₀ base above₀ row₀ output above row = end - row
 
-mul-base : tie.Need-mul-base Inv-loop μ-loop
-mul-base c = let p = c .before .before .pre in omega (arith, columns-inside (p .0) (c .before .before .args .column) (p .2))
-
-cell-above-requires : tie.Need-cell-above-requires Inv-loop μ-loop
-cell-above-requires c κs = let p = c .before .before .pre in (p .2, rows-inside (p .0) _ (omega (arith, p .1 .forward, p .1 .inside)))
-
-loop-holds : tie.Need-loop-holds Inv-loop μ-loop
-loop-holds c = column-scan-begin (c .before .before .before .pre .1 .forward) (c .cell-above .ensures)
-
-mul-cell : tie.Need-mul-cell Inv-loop μ-loop
-mul-cell c = let p = c .before .before .before .before .before .pre in omega (arith, from-inside (p .0) (p .1) (c .loop-test .taken) (p .2))
-
-add-cell : tie.Need-add-cell Inv-loop μ-loop
-add-cell c = let p = c .before .before .before .before .before .pre in omega (arith, from-inside (p .0) (p .1) (c .loop-test .taken) (p .2))
-
-mul-cell-2 : tie.Need-mul-cell-2 Inv-loop μ-loop
-mul-cell-2 c = let p = c .before .before .before .before .before .pre in omega (arith, from-inside (p .0) (p .1) (c .loop-test .taken) (p .2))
-
-shared-slice-read-cell : tie.Need-shared-slice-read-cell Inv-loop μ-loop
-shared-slice-read-cell c = let p = c .before .before .before .before .before .before .pre in from-inside (p .0) (p .1) (c .before .loop-test .taken) (p .2)
-
 add-output : tie.Need-add-output Inv-loop μ-loop
 add-output c = let p = c .before .before .before .before .before .before .before .pre in omega (arith, to-inside (p .0) (p .1) (c .before .before .loop-test .taken) (p .2), p .0 .room, c .before .before .before .loop .inv .filled .same)
 
@@ -42,24 +21,21 @@ mul-output c = let p = c .before .before .before .before .before .before .before
 slice-write-output : tie.Need-slice-write-output Inv-loop μ-loop
 slice-write-output c = let p = c .before .before .before .before .before .before .before .pre in omega (arith, to-inside (p .0) (p .1) (c .before .before .loop-test .taken) (p .2), p .0 .room, c .before .before .before .loop .inv .filled .same)
 
-add-row : tie.Need-add-row Inv-loop μ-loop
-add-row c = omega (arith, c .before .before .loop-test .taken)
-
-loop-less : tie.Need-loop-less Inv-loop μ-loop
-loop-less c = omega (arith, c .before .before .loop-test .taken)
-
 loop-again : tie.Need-loop-again Inv-loop μ-loop
 loop-again c = let p = c .before .before .before .before .before .before .before .pre in difference-more (p .0) (p .1) (p .2) (λ i. omega (arith, c .before .before .before .before .before .before .shared-slice-known .given i)) (c .before .before .loop-test .taken) (c .before .before .before .loop .inv) (omega arith) (c .wrapping-sub-u32 .ensures)
-
-same-length : tie.Need-same-length Inv-loop μ-loop
-same-length c = c .before .loop .inv .filled .same
-
-returns : tie.Need-returns Inv-loop μ-loop
-returns c = column-scan-end (c .before .loop .inv) (c .loop-test .left)
 
 pub difference-column-spec : {M : Type 1} → statement M
 difference-column-spec =
     tie.close
     (tie.spec
-    Inv-loop μ-loop mul-base cell-above-requires loop-holds mul-cell add-cell mul-cell-2 shared-slice-read-cell
-    (λ c κs. search needs) add-output mul-output slice-write-output add-row loop-less loop-again same-length returns)
+    Inv-loop μ-loop
+    (λ c. let p = c .before .before .pre in omega (arith, columns-inside (p .0) (c .before .before .args .column) (p .2)))
+    (λ c κs. let p = c .before .before .pre in (p .2, rows-inside (p .0) _ (omega (arith, p .1 .forward, p .1 .inside))))
+    (λ c. column-scan-begin (c .before .before .before .pre .1 .forward) (c .cell-above .ensures))
+    (λ c. let p = c .before .before .before .before .before .pre in omega (arith, from-inside (p .0) (p .1) (c .loop-test .taken) (p .2)))
+    (λ c. let p = c .before .before .before .before .before .pre in omega (arith, from-inside (p .0) (p .1) (c .loop-test .taken) (p .2)))
+    (λ c. let p = c .before .before .before .before .before .pre in omega (arith, from-inside (p .0) (p .1) (c .loop-test .taken) (p .2)))
+    (λ c. let p = c .before .before .before .before .before .before .pre in from-inside (p .0) (p .1) (c .before .loop-test .taken) (p .2))
+    (λ c κs. search needs) add-output mul-output slice-write-output (λ c. omega (arith, c .before .before .loop-test .taken))
+    (λ c. omega (arith, c .before .before .loop-test .taken)) loop-again (λ c. c .before .loop .inv .filled .same)
+    (λ c. column-scan-end (c .before .loop .inv) (c .loop-test .left)))

@@ -6,17 +6,8 @@ use Rattle.vault.proofs.Answers.{rearranged-refused, shaped, all-writte
 use Rattle.vault.proofs.rearrange.Statement.{statement}
 use Rattle.vault.proofs.rearrange.Tie as tie
 
-returns : tie.Need-returns
-returns c = rearranged-refused _ _ _ _ _ (c .before .columns-refusal .ensures) (c .if1 .taken)
-
 div-rows : tie.Need-div-rows
 div-rows c = let a = c .before .before .before .before .args in omega (arith, shaped (a .width) (a .cells .now) (a .output .now) (sym (c .before .columns-refusal .ensures) ∙ c .if1 .left) .some)
-
-rearrange-rows-requires : tie.Need-rearrange-rows-requires
-rearrange-rows-requires c κs = shaped _ _ _ (sym (c .before .before .columns-refusal .ensures) ∙ c .before .if1 .left)
-
-same-length : tie.Need-same-length
-same-length c = c .before .before .rearrange-rows .ensures .same
 
 returns-2 : tie.Need-returns-2
 returns-2 c = all-written _ _ _ (sym (c .before .before .before .before .before .columns-refusal .ensures) ∙ c .before .before .before .before .if1 .left) (c .before .before .before .before .before .before .before .before .args .back) _ (c .before .before .rearrange-rows .ensures)
@@ -24,4 +15,7 @@ returns-2 c = all-written _ _ _ (sym (c .before .before .before .before .before 
 pub rearrange-spec : {M : Type 1} → statement M
 rearrange-spec =
     tie.close
-    (tie.spec (λ c κs. search needs) returns div-rows rearrange-rows-requires same-length returns-2)
+    (tie.spec
+    (λ c κs. search needs) (λ c. rearranged-refused _ _ _ _ _ (c .before .columns-refusal .ensures) (c .if1 .taken)) div-rows
+    (λ c κs. shaped _ _ _ (sym (c .before .before .columns-refusal .ensures) ∙ c .before .if1 .left))
+    (λ c. c .before .before .rearrange-rows .ensures .same) returns-2)

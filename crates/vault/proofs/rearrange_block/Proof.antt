@@ -12,37 +12,17 @@ Inv-loop back width rows start end cells output₀ column₀ output column = (co
 abbrev μ-loop : tie.MeasureT-loop
 μ-loop back width rows start end cells output₀ column₀ output column = width - column
 
-loop-holds : tie.Need-loop-holds Inv-loop μ-loop
-loop-holds c = (omega arith, filled-nothing)
-
 rearrange-column-requires : tie.Need-rearrange-column-requires Inv-loop μ-loop
 rearrange-column-requires c κs = let p = c .before .before .before .before .before .pre in (still-shaped (c .before .before .loop .inv .1) (p .0), p .1, c .before .loop-test .taken, λ row column h k. c .before .before .loop .inv .1 .kept _ (p .2 row column h k))
 
-add-column : tie.Need-add-column Inv-loop μ-loop
-add-column c = omega (arith, c .before .before .before .before .loop-test .taken)
-
-loop-less : tie.Need-loop-less Inv-loop μ-loop
-loop-less c = omega (arith, c .before .before .before .before .loop-test .taken)
-
 loop-again : tie.Need-loop-again Inv-loop μ-loop
 loop-again c = (omega (arith, c .before .before .before .before .loop-test .taken), filled-columns (c .before .before .before .before .before .loop .inv .1) (c .before .before .rearrange-column .ensures))
-
-same-length : tie.Need-same-length Inv-loop μ-loop
-same-length c = c .before .loop .inv .1 .same
-
-returns : tie.Need-returns Inv-loop μ-loop
-returns c = columns-end (c .before .loop .inv .1) (c .before .loop .inv .0) (c .loop-test .left)
 
 pub rearrange-block-spec : {M : Type 1} → statement M
 rearrange-block-spec =
     tie.close
     (tie.spec
-    Inv-loop
-    μ-loop
-    loop-holds
-    rearrange-column-requires
-    add-column
-    loop-less
-    loop-again
-    same-length
-    returns)
+    Inv-loop μ-loop (λ c. (omega arith, filled-nothing)) rearrange-column-requires
+    (λ c. omega (arith, c .before .before .before .before .loop-test .taken))
+    (λ c. omega (arith, c .before .before .before .before .loop-test .taken)) loop-again (λ c. c .before .loop .inv .1 .same)
+    (λ c. columns-end (c .before .loop .inv .1) (c .before .loop .inv .0) (c .loop-test .left)))

@@ -12,37 +12,17 @@ Inv-loop back width rows cells output₀ start₀ output start = (start ≤ rows
 abbrev μ-loop : tie.MeasureT-loop
 μ-loop back width rows cells output₀ start₀ output start = rows - start
 
-loop-holds : tie.Need-loop-holds Inv-loop μ-loop
-loop-holds c = (omega arith, filled-none)
-
-block-end-requires : tie.Need-block-end-requires Inv-loop μ-loop
-block-end-requires c κs = c .loop-test .taken
-
 rearrange-block-requires : tie.Need-rearrange-block-requires Inv-loop μ-loop
 rearrange-block-requires c κs = let e = c .before .block-end .ensures in (still-shaped (c .before .before .before .loop .inv .1) (c .before .before .before .before .before .before .pre), record { forward = omega (arith, e .0); inside = e .1 }, λ row column h k. c .before .before .before .loop .inv .1 .filled row column (omega arith) h (omega arith) k)
 
-loop-less : tie.Need-loop-less Inv-loop μ-loop
-loop-less c = omega (arith, c .before .before .before .before .block-end .ensures .0, c .before .before .before .before .before .loop-test .taken)
-
 loop-again : tie.Need-loop-again Inv-loop μ-loop
 loop-again c = (c .before .before .before .before .block-end .ensures .1, filled-rows (c .before .before .before .before .before .before .loop .inv .1) (c .before .before .rearrange-block .ensures))
-
-same-length : tie.Need-same-length Inv-loop μ-loop
-same-length c = c .before .loop .inv .1 .same
-
-returns : tie.Need-returns Inv-loop μ-loop
-returns c = rows-end (c .before .loop .inv .1) (c .before .loop .inv .0) (c .loop-test .left)
 
 pub rearrange-rows-spec : {M : Type 1} → statement M
 rearrange-rows-spec =
     tie.close
     (tie.spec
-    Inv-loop
-    μ-loop
-    loop-holds
-    block-end-requires
-    rearrange-block-requires
-    loop-less
-    loop-again
-    same-length
-    returns)
+    Inv-loop μ-loop (λ c. (omega arith, filled-none)) (λ c κs. c .loop-test .taken) rearrange-block-requires
+    (λ c. omega (arith, c .before .before .before .before .block-end .ensures .0, c .before .before .before .before .before .loop-test .taken))
+    loop-again (λ c. c .before .loop .inv .1 .same)
+    (λ c. rows-end (c .before .loop .inv .1) (c .before .loop .inv .0) (c .loop-test .left)))

@@ -13,20 +13,8 @@ Inv-loop width rows start end column cells output₀ base above₀ row₀ output
 abbrev μ-loop : tie.MeasureT-loop
 μ-loop width rows start end column cells output₀ base above₀ row₀ output above row = end - row
 
-mul-base : tie.Need-mul-base Inv-loop μ-loop
-mul-base c = let p = c .before .before .pre in omega (arith, columns-inside (p .0) (c .before .before .args .column) (p .2))
-
-cell-above-requires : tie.Need-cell-above-requires Inv-loop μ-loop
-cell-above-requires c κs = let p = c .before .before .before .pre in (p .2, rows-fit (p .0) _ (omega (arith, p .1 .forward, p .1 .inside)))
-
 loop-holds : tie.Need-loop-holds Inv-loop μ-loop
 loop-holds c = let p = c .before .before .before .before .pre in column-scan-begin (p .1 .forward) (c .cell-above .ensures ∙ above-summed _ (c .before .before .before .before .args .rows) _ _ _ _ (p .2) (p .3))
-
-add-wrapping-add-u32 : tie.Need-add-wrapping-add-u32 Inv-loop μ-loop
-add-wrapping-add-u32 c = let p = c .before .before .before .before .before .before .pre in omega (arith, to-inside (p .0) (p .1) (c .loop-test .taken) (p .2))
-
-mul-wrapping-add-u32 : tie.Need-mul-wrapping-add-u32 Inv-loop μ-loop
-mul-wrapping-add-u32 c = let p = c .before .before .before .before .before .before .pre in omega (arith, to-inside (p .0) (p .1) (c .loop-test .taken) (p .2))
 
 shared-slice-read-wrapping-add-u32 : tie.Need-shared-slice-read-wrapping-add-u32 Inv-loop μ-loop
 shared-slice-read-wrapping-add-u32 c = let p = c .before .before .before .before .before .before .before .pre in to-inside (p .0) (p .1) (c .before .loop-test .taken) (p .2)
@@ -43,25 +31,19 @@ mul-output-2 c = let p = c .before .before .before .before .before .before .befo
 slice-write-output : tie.Need-slice-write-output Inv-loop μ-loop
 slice-write-output c = let p = c .before .before .before .before .before .before .before .before .pre in omega (arith, from-inside (p .0) (p .1) (c .before .before .loop-test .taken) (p .2), p .0 .room, c .before .before .before .loop .inv .filled .same)
 
-add-row : tie.Need-add-row Inv-loop μ-loop
-add-row c = omega (arith, c .before .before .loop-test .taken)
-
-loop-less : tie.Need-loop-less Inv-loop μ-loop
-loop-less c = omega (arith, c .before .before .loop-test .taken)
-
 loop-again : tie.Need-loop-again Inv-loop μ-loop
 loop-again c = let p = c .before .before .before .before .before .before .before .before .pre in sum-more (p .0) (p .1) (p .2) (λ i. omega (arith, c .before .before .before .before .before .before .before .shared-slice-known .given i)) (c .before .before .loop-test .taken) (c .before .before .before .loop .inv) (c .wrapping-add-u32 .ensures)
-
-same-length : tie.Need-same-length Inv-loop μ-loop
-same-length c = c .before .loop .inv .filled .same
-
-returns : tie.Need-returns Inv-loop μ-loop
-returns c = column-scan-end (c .before .loop .inv) (c .loop-test .left)
 
 pub sum-column-spec : {M : Type 1} → statement M
 sum-column-spec =
     tie.close
     (tie.spec
-    Inv-loop μ-loop mul-base cell-above-requires loop-holds add-wrapping-add-u32 mul-wrapping-add-u32
+    Inv-loop μ-loop
+    (λ c. let p = c .before .before .pre in omega (arith, columns-inside (p .0) (c .before .before .args .column) (p .2)))
+    (λ c κs. let p = c .before .before .before .pre in (p .2, rows-fit (p .0) _ (omega (arith, p .1 .forward, p .1 .inside))))
+    loop-holds
+    (λ c. let p = c .before .before .before .before .before .before .pre in omega (arith, to-inside (p .0) (p .1) (c .loop-test .taken) (p .2)))
+    (λ c. let p = c .before .before .before .before .before .before .pre in omega (arith, to-inside (p .0) (p .1) (c .loop-test .taken) (p .2)))
     shared-slice-read-wrapping-add-u32 (λ c κs. search needs) mul-output add-output mul-output-2 slice-write-output
-    add-row loop-less loop-again same-length returns)
+    (λ c. omega (arith, c .before .before .loop-test .taken)) (λ c. omega (arith, c .before .before .loop-test .taken))
+    loop-again (λ c. c .before .loop .inv .filled .same) (λ c. column-scan-end (c .before .loop .inv) (c .loop-test .left)))
