@@ -5,10 +5,9 @@ use Rattle.crc32.specs.Laws.Register.{word-at-once}
 use Rattle.crc32.proofs.after_word.Statement.{statement}
 use Rattle.crc32.proofs.after_word.Tie as tie
 
-returns : tie.Need-returns
-returns c =
-    let s = c .before in
-    c .four-bytes .ensures ∙ sym (word-at-once (s .args .register) (s .args .word) (s .fits .word .fits))
-
 pub after-word-spec : {M : Type 1} → statement M
-after-word-spec = tie.close (tie.spec (λ c κs. search needs) returns)
+after-word-spec =
+    tie.close
+    (tie.spec
+    (λ c κs. search needs)
+    (λ c. let s = c .before in c .four-bytes .ensures ∙ sym (word-at-once (s .args .register) (s .args .word) (s .fits .word .fits))))
