@@ -17,9 +17,6 @@ Inv-loop room store₀ slots at₀ store at = (at ≤ slots) × (length store �
 abbrev μ-loop : tie.MeasureT-loop
 μ-loop room store₀ slots at₀ store at = slots - at
 
-loop-holds : tie.Need-loop-holds Inv-loop μ-loop
-loop-holds c = (search needs, refl, empty-begin _)
-
 loop-again : tie.Need-loop-again Inv-loop μ-loop
 loop-again c =
     let l = c .before in
@@ -36,5 +33,5 @@ pub empty-spec : {M : Type 1} → statement M
 empty-spec =
     tie.close
     (tie.spec
-    Inv-loop μ-loop (λ c. search needs) (λ c. search needs) loop-holds (λ c. search needs) (λ c. search needs)
-    (λ c. search needs) (λ c. search needs) loop-again (λ c. search needs) returns)
+    Inv-loop μ-loop (λ c. search needs) (λ c. search needs) (λ c. (search needs, refl, empty-begin _)) (λ c. search needs)
+    (λ c. search needs) (λ c. search needs) (λ c. search needs) loop-again (λ c. search needs) returns)

@@ -16,34 +16,11 @@ Inv-loop t rows store key hash slots at₀ passed₀ at passed = ScannedSlots sl
 abbrev μ-loop : tie.MeasureT-loop
 μ-loop t rows store key hash slots at₀ passed₀ at passed = slots - passed
 
-mul-slots : tie.Need-mul-slots Inv-loop μ-loop
-mul-slots c = search needs
-
-home-slot-requires : tie.Need-home-slot-requires Inv-loop μ-loop
-home-slot-requires c κs = search needs
-
-loop-holds : tie.Need-loop-holds Inv-loop μ-loop
-loop-holds c = begin _ _ _ _ _ (c .home-slot .ensures .0) (c .home-slot .ensures .1)
-
-cast-word : tie.Need-cast-word Inv-loop μ-loop
-cast-word c = search needs
-
-mul-word : tie.Need-mul-word Inv-loop μ-loop
-mul-word c = search needs
-
-shared-slice-read-word : tie.Need-shared-slice-read-word Inv-loop μ-loop
-shared-slice-read-word c = search needs
-
 few : (s : tie.Start Inv-loop μ-loop) → s .args .t .rows ≤ 65536
 few s = omega (arith, s .pre)
 
 returns : tie.Need-returns Inv-loop μ-loop
 returns c = let l = c .before .before .before .loop in found-free _ _ _ _ _ (few (c .before .before .before .before .before .before .before .before .before)) (l .at) (l .passed) (l .inv) (c .if1 .taken)
-
-is-hit-requires : tie.Need-is-hit-requires Inv-loop μ-loop
-is-hit-requires c κs =
-    let p = c .before .before .before .before .before .before .before .before .before .pre in
-    (rows-in _ _ _ (p .0), p .1)
 
 sub-row : tie.Need-sub-row Inv-loop μ-loop
 sub-row c = omega (arith, leads-some _ _ _ _ _ _ (few (c .before .before .before .before .before .before .before .before .before .before .before)) (c .before .is-hit .ensures .yes (c .if2 .taken)))
@@ -52,15 +29,6 @@ returns-2 : tie.Need-returns-2 Inv-loop μ-loop
 returns-2 c =
     let l = c .before .before .before .before .before .loop in
     found-row _ _ _ _ _ (few (c .before .before .before .before .before .before .before .before .before .before .before)) (l .at) (l .passed) _ (l .inv) (c .before .is-hit .ensures .yes (c .if2 .taken)) (omega arith)
-
-next-slot-requires : tie.Need-next-slot-requires Inv-loop μ-loop
-next-slot-requires c κs = search needs
-
-add-passed : tie.Need-add-passed Inv-loop μ-loop
-add-passed c = search needs
-
-loop-less : tie.Need-loop-less Inv-loop μ-loop
-loop-less c = search needs
 
 loop-again : tie.Need-loop-again Inv-loop μ-loop
 loop-again c =
@@ -75,20 +43,8 @@ pub find-spec : {M : Type 1} → statement M
 find-spec =
     tie.close
     (tie.spec
-    Inv-loop
-    μ-loop
-    mul-slots
-    home-slot-requires
-    loop-holds
-    cast-word
-    mul-word
-    shared-slice-read-word
-    returns
-    is-hit-requires
-    sub-row
-    returns-2
-    next-slot-requires
-    add-passed
-    loop-less
-    loop-again
-    returns-3)
+    Inv-loop μ-loop (λ c. search needs) (λ c κs. search needs)
+    (λ c. begin _ _ _ _ _ (c .home-slot .ensures .0) (c .home-slot .ensures .1)) (λ c. search needs) (λ c. search needs)
+    (λ c. search needs) returns
+    (λ c κs. let p = c .before .before .before .before .before .before .before .before .before .pre in (rows-in _ _ _ (p .0), p .1))
+    sub-row returns-2 (λ c κs. search needs) (λ c. search needs) (λ c. search needs) loop-again returns-3)

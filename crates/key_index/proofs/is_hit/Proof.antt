@@ -15,9 +15,6 @@ use Rattle.key_index.proofs.is_hit.Tie as tie
 few : (s : tie.Start) → s .args .t .rows ≤ 65536
 few s = omega (arith, s .pre .0)
 
-returns : tie.Need-returns
-returns c = hit-bits _ _ _ _ _ _ (few (c .before .before .before)) (c .if1 .taken)
-
 returns-2 : tie.Need-returns-2
 returns-2 c =
     hit-nameless _ _ _ _ _ _ (few (c .before .before .before .before .before)) (sym (c .before .names-row .ensures) ∙ not-true _ (c .if2 .taken))
@@ -25,20 +22,6 @@ returns-2 c =
 -- the row that the word names
 row : (c : tie.Else2) → let a = c .before .before .before .before .before .args in Named (a .t) (a .rows .now) (a .word)
 row c = named _ _ _ (c .before .before .before .before .before .pre .0) (sym (c .before .names-row .ensures) ∙ not-false _ (c .if2 .left))
-
-sub-row : tie.Need-sub-row
-sub-row c = omega (arith, row c)
-
-mul-at : tie.Need-mul-at
-mul-at c = omega (arith, row (c .before))
-
-cast-at : tie.Need-cast-at
-cast-at c = omega (arith, row (c .before))
-
-same-key-requires : tie.Need-same-key-requires
-same-key-requires c κs =
-    let p = c .before .before .before .before .before .before .pre in
-    omega (arith, row (c .before), p .0 .most-keys, p .1)
 
 returns-3 : tie.Need-returns-3
 returns-3 c =
@@ -54,4 +37,8 @@ returns-3 c =
 pub is-hit-spec : {M : Type 1} → statement M
 is-hit-spec =
     tie.close
-    (tie.spec returns (λ c κs. search needs) returns-2 sub-row mul-at cast-at same-key-requires returns-3)
+    (tie.spec
+    (λ c. hit-bits _ _ _ _ _ _ (few (c .before .before .before)) (c .if1 .taken)) (λ c κs. search needs) returns-2
+    (λ c. omega (arith, row c)) (λ c. omega (arith, row (c .before))) (λ c. omega (arith, row (c .before)))
+    (λ c κs. let p = c .before .before .before .before .before .before .pre in omega (arith, row (c .before), p .0 .most-keys, p .1))
+    returns-3)

@@ -9,26 +9,6 @@ use Rattle.key_index.proofs.FindSteps.{leads-some, found-free, passed-t
 use Rattle.key_index.proofs.look_up.Statement.{statement}
 use Rattle.key_index.proofs.look_up.Tie as tie
 
-mul-slots : tie.Need-mul-slots
-mul-slots c = search needs
-
-home-slot-requires : tie.Need-home-slot-requires
-home-slot-requires c κs = search needs
-
-cast-word : tie.Need-cast-word
-cast-word c = search needs
-
-mul-word : tie.Need-mul-word
-mul-word c = search needs
-
-shared-slice-read-word : tie.Need-shared-slice-read-word
-shared-slice-read-word c = search needs
-
-is-hit-requires : tie.Need-is-hit-requires
-is-hit-requires c κs =
-    let p = c .before .before .before .before .before .before .pre in
-    (rows-in _ _ _ (p .0), p .1)
-
 few : (s : tie.Start) → s .args .t .rows ≤ 65536
 few s = omega (arith, s .pre .0)
 
@@ -36,16 +16,10 @@ few s = omega (arith, s .pre .0)
 named : (c : tie.Then1) → 0 < getD (c .before .before .before .before .before .before .before .before .args .store .now) (c .before .before .before .home-slot .result) 0 % 2 ^ 17
 named c = leads-some _ _ _ _ _ _ (few (c .before .before .before .before .before .before .before .before)) (c .before .is-hit .ensures .yes (c .if1 .taken))
 
-sub-row : tie.Need-sub-row
-sub-row c = omega (arith, named c)
-
 returns : tie.Need-returns
 returns c =
     let h = c .before .before .before .home-slot in
     found-row _ _ _ _ _ (few (c .before .before .before .before .before .before .before .before)) (h .result) 0 _ (begin _ _ _ _ _ (h .ensures .0) (h .ensures .1)) (c .before .is-hit .ensures .yes (c .if1 .taken)) (omega (arith, named c))
-
-is-missing-requires : tie.Need-is-missing-requires
-is-missing-requires c κs = search needs
 
 returns-2 : tie.Need-returns-2
 returns-2 c =
@@ -54,9 +28,6 @@ returns-2 c =
     let f = c .before .is-missing .ensures (c .if2 .taken) in
     let w = passed-to _ _ _ _ _ (few s) (h .result) (f .0) (h .ensures .0) (c .before .before .before .is-hit .ensures .no (c .before .before .if1 .left)) (f .1 .ahead) in
     found-free _ _ _ _ _ (few s) _ _ w (f .1 .free)
-
-bits-ahead-requires : tie.Need-bits-ahead-requires
-bits-ahead-requires c κs = search needs
 
 add-slot : tie.Need-add-slot
 add-slot c = omega (arith, c .bits-ahead .ensures .below, c .before .before .before .before .before .before .before .before .before .before .before .pre .0)
@@ -79,9 +50,6 @@ is-hit-requires-2 c κs =
 named-ahead : (c : tie.Then3) → 0 < getD (c .before .before .before .before .before .before .before .before .before .before .before .before .before .before .args .store .now) (c .before .before .before .before .before .before .before .before .before .home-slot .result + c .before .before .before .bits-ahead .result) 0 % 2 ^ 17
 named-ahead c = leads-some _ _ _ _ _ _ (few (c .before .before .before .before .before .before .before .before .before .before .before .before .before .before)) (c .before .is-hit2 .ensures .yes (c .if3 .taken))
 
-sub-row-2 : tie.Need-sub-row-2
-sub-row-2 c = omega (arith, named-ahead c)
-
 returns-3 : tie.Need-returns-3
 returns-3 c =
     let s = c .before .before .before .before .before .before .before .before .before .before .before .before .before .before in
@@ -90,33 +58,12 @@ returns-3 c =
     let w = passed-to _ _ _ _ _ (few s) (h .result) (a .result) (h .ensures .0) (c .before .before .before .before .before .before .before .is-hit .ensures .no (c .before .before .before .before .before .before .if1 .left)) (a .ensures) in
     found-row _ _ _ _ _ (few s) _ _ _ w (c .before .is-hit2 .ensures .yes (c .if3 .taken)) (omega (arith, named-ahead c))
 
-find-requires : tie.Need-find-requires
-find-requires c κs = search needs
-
-returns-4 : tie.Need-returns-4
-returns-4 c = c .find .ensures
-
 pub look-up-spec : {M : Type 1} → statement M
 look-up-spec =
     tie.close
     (tie.spec
-    mul-slots
-    home-slot-requires
-    cast-word
-    mul-word
-    shared-slice-read-word
-    is-hit-requires
-    sub-row
-    returns
-    is-missing-requires
-    returns-2
-    bits-ahead-requires
-    add-slot
-    cast-next
-    mul-next
-    shared-slice-read-next
-    is-hit-requires-2
-    sub-row-2
-    returns-3
-    find-requires
-    returns-4)
+    (λ c. search needs) (λ c κs. search needs) (λ c. search needs) (λ c. search needs) (λ c. search needs)
+    (λ c κs. let p = c .before .before .before .before .before .before .pre in (rows-in _ _ _ (p .0), p .1))
+    (λ c. omega (arith, named c)) returns (λ c κs. search needs) returns-2 (λ c κs. search needs) add-slot cast-next mul-next
+    shared-slice-read-next is-hit-requires-2 (λ c. omega (arith, named-ahead c)) returns-3 (λ c κs. search needs)
+    (λ c. c .find .ensures))

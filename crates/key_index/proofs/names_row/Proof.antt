@@ -5,11 +5,6 @@ use Rattle.key_index.proofs.WordSteps.{names-some}
 use Rattle.key_index.proofs.names_row.Statement.{statement}
 use Rattle.key_index.proofs.names_row.Tie as tie
 
-returns : tie.Need-returns
-returns c = sym (names-none _ _ (c .if1 .taken))
-
-returns-2 : tie.Need-returns-2
-returns-2 c = names-some _ _ (c .before .if1 .left)
-
 pub names-row-spec : {M : Type 1} → statement M
-names-row-spec = tie.close (tie.spec returns returns-2)
+names-row-spec =
+    tie.close (tie.spec (λ c. sym (names-none _ _ (c .if1 .taken))) (λ c. names-some _ _ (c .before .if1 .left)))

@@ -6,11 +6,9 @@ use borrow.Author.Needs.{needs}
 use Rattle.key_index.proofs.next_slot.Statement.{statement}
 use Rattle.key_index.proofs.next_slot.Tie as tie
 
-returns : tie.Need-returns
-returns c = (sym (slot-low _ _ _ (c .if1 .taken)), search needs)
-
-returns-2 : tie.Need-returns-2
-returns-2 c = (sym (slot-wraps _ _ (c .before .pre) (c .if1 .left)), omega arith)
-
 pub next-slot-spec : {M : Type 1} → statement M
-next-slot-spec = tie.close (tie.spec (λ c. search needs) returns returns-2)
+next-slot-spec =
+    tie.close
+    (tie.spec
+    (λ c. search needs) (λ c. (sym (slot-low _ _ _ (c .if1 .taken)), search needs))
+    (λ c. (sym (slot-wraps _ _ (c .before .pre) (c .if1 .left)), omega arith)))

@@ -17,14 +17,6 @@ Inv-loop store₀ hash row slots home taken₀ place₀ store taken place = (len
 abbrev μ-loop : tie.MeasureT-loop
 μ-loop store₀ hash row slots home taken₀ place₀ store taken place = slots - taken
 
-loop-holds : tie.Need-loop-holds Inv-loop μ-loop
-loop-holds c =
-    let r = c .taken-run .ensures in
-    (refl, refl, begin-past _ _ _ _ _ _ (c .before .before .home-slot .ensures .0) (r .below) (r .each))
-
-same-length : tie.Need-same-length Inv-loop μ-loop
-same-length c = simp length-set (c .before .before .before .before .loop .inv .0)
-
 returns : tie.Need-returns Inv-loop μ-loop
 returns c =
     let l = c .before .before .before .before in
@@ -39,14 +31,13 @@ loop-again c =
       on _ _ _ _ (l .loop .place) (l .loop .taken) _ (l .loop .inv .2) (c .before .before .before .loop-test .taken) (rw (l .loop .inv .1) at (c .before .if1 .left)) (c .next-slot .ensures .0),
     )
 
-returns-2 : tie.Need-returns-2 Inv-loop μ-loop
-returns-2 c = let l = c .before .loop in rw (l .inv .1) (put-none _ _ _ _ (l .place) (l .taken) (l .inv .2) (c .loop-test .left))
-
 pub put-spec : {M : Type 1} → statement M
 put-spec =
     tie.close
     (tie.spec
-    Inv-loop μ-loop (λ c. search needs) (λ c κs. search needs) (λ c κs. search needs) (λ c. search needs) loop-holds
+    Inv-loop μ-loop (λ c. search needs) (λ c κs. search needs) (λ c κs. search needs) (λ c. search needs)
+    (λ c. let r = c .taken-run .ensures in (refl, refl, begin-past _ _ _ _ _ _ (c .before .before .home-slot .ensures .0) (r .below) (r .each)))
     (λ c. search needs) (λ c. search needs) (λ c. search needs) (λ c κs. search needs) (λ c. search needs)
-    (λ c. search needs) (λ c. omega arith) same-length returns (λ c κs. search needs) (λ c. search needs)
-    (λ c. search needs) loop-again (λ c. search needs) returns-2)
+    (λ c. search needs) (λ c. omega arith) (λ c. simp length-set (c .before .before .before .before .loop .inv .0)) returns
+    (λ c κs. search needs) (λ c. search needs) (λ c. search needs) loop-again (λ c. search needs)
+    (λ c. let l = c .before .loop in rw (l .inv .1) (put-none _ _ _ _ (l .place) (l .taken) (l .inv .2) (c .loop-test .left))))

@@ -5,10 +5,9 @@ use borrow.Author.Needs.{needs}
 use Rattle.key_index.proofs.replace.Statement.{statement}
 use Rattle.key_index.proofs.replace.Tie as tie
 
-returns : tie.Need-returns
-returns c = let a = c .before .before .args in ap (set (a .store .now) (a .slot)) (c .slot-word .ensures)
-
 pub replace-spec : {M : Type 1} → statement M
 replace-spec =
     tie.close
-    (tie.spec (λ c κs. search needs) (λ c. search needs) (λ c. search needs) (λ c. search needs) returns)
+    (tie.spec
+    (λ c κs. search needs) (λ c. search needs) (λ c. search needs) (λ c. search needs)
+    (λ c. let a = c .before .before .args in ap (set (a .store .now) (a .slot)) (c .slot-word .ensures)))
