@@ -11,20 +11,16 @@ add-result c =
     let args = c .before .before .before .args in
     omega (arith, head-numbered (args .h) (c .before .before .if1 .taken) (c .numbers-length .ensures), length-head (args .numbered) (args .h))
 
-returns : tie.Need-returns
-returns c = head-numbered _ (c .before .before .if1 .taken) (c .numbers-length .ensures)
-
 add-result-2 : tie.Need-add-result-2
 add-result-2 c =
     let args = c .before .before .before .args in
     omega (arith, head-plain (args .h) (c .before .before .if1 .left) (c .numbers-length2 .ensures), length-head (args .numbered) (args .h))
 
-returns-2 : tie.Need-returns-2
-returns-2 c = head-plain _ (c .before .before .if1 .left) (c .numbers-length2 .ensures)
-
 pub head-length-spec : {M : Type 1} → statement M
 head-length-spec =
     tie.close
     (tie.spec
-    (λ c. search needs) (λ c κs. search needs) add-result returns (λ c. search needs) (λ c. search needs)
-    (λ c κs. search needs) add-result-2 returns-2)
+    (λ c. search needs) (λ c κs. search needs) add-result
+    (λ c. head-numbered _ (c .before .before .if1 .taken) (c .numbers-length .ensures)) (λ c. search needs)
+    (λ c. search needs) (λ c κs. search needs) add-result-2
+    (λ c. head-plain _ (c .before .before .if1 .left) (c .numbers-length2 .ensures)))

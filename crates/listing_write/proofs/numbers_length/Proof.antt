@@ -14,23 +14,16 @@ Inv-loop numbers total₀ i₀ total i = Counting numbers total i
 abbrev μ-loop : tie.MeasureT-loop
 μ-loop numbers total₀ i₀ total i = length numbers - i
 
-loop-holds : tie.Need-loop-holds Inv-loop μ-loop
-loop-holds c = counting-begin _
-
 add-total : tie.Need-add-total Inv-loop μ-loop
 add-total c =
     let v = c .before .before .before .loop .inv in
     omega (arith, counting-few v, v .inside, c .number-length .ensures, length-field (getD (c .before .before .before .before .before .args .numbers .now) (c .before .before .before .loop .i) 0), c .before .before .before .before .before .pre)
 
-loop-again : tie.Need-loop-again Inv-loop μ-loop
-loop-again c = counting-again (c .before .before .before .loop .inv) (c .before .before .loop-test .taken) (c .number-length .ensures)
-
-returns : tie.Need-returns Inv-loop μ-loop
-returns c = counting-end (c .before .loop .inv) (search needs)
-
 pub numbers-length-spec : {M : Type 1} → statement M
 numbers-length-spec =
     tie.close
     (tie.spec
-    Inv-loop μ-loop loop-holds (λ c. search needs) (λ c. search needs) (λ c κs. search needs) add-total (λ c. search needs)
-    (λ c. search needs) loop-again returns)
+    Inv-loop μ-loop (λ c. counting-begin _) (λ c. search needs) (λ c. search needs) (λ c κs. search needs) add-total
+    (λ c. search needs) (λ c. search needs)
+    (λ c. counting-again (c .before .before .before .loop .inv) (c .before .before .loop-test .taken) (c .number-length .ensures))
+    (λ c. counting-end (c .before .loop .inv) (search needs)))

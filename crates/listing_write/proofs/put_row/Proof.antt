@@ -23,12 +23,9 @@ returns-2 c =
     let at = c .before .before .before .before .before in
     put-live-row _ _ (sym (at .before .is-live .ensures) ∙ at .if1 .taken) (c .before .before .before .before .if2 .left) (c .before .before .put-line .ensures)
 
-returns-3 : tie.Need-returns-3
-returns-3 c = put-dead-row _ _ _ (sym (c .before .is-live .ensures) ∙ c .if1 .left)
-
 pub put-row-spec : {M : Type 1} → statement M
 put-row-spec =
     tie.close
     (tie.spec
     (λ c κs. search needs) put-numbered-requires (λ c. search needs) returns put-line-requires (λ c. search needs) returns-2
-    returns-3)
+    (λ c. put-dead-row _ _ _ (sym (c .before .is-live .ensures) ∙ c .if1 .left)))

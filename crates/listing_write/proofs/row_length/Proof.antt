@@ -7,11 +7,6 @@ use borrow.Author.Needs.{needs}
 use Rattle.listing_write.proofs.row_length.Statement.{statement}
 use Rattle.listing_write.proofs.row_length.Tie as tie
 
-add-cells : tie.Need-add-cells
-add-cells c =
-    let at = c .before .before .before .before in
-    omega (arith, c .numbers-length .ensures, length-fields (at .args .row .now), at .pre)
-
 add-result : tie.Need-add-result
 add-result c =
     let at = c .before .before .before .before .before .before in
@@ -25,11 +20,11 @@ returns-2 : tie.Need-returns-2
 returns-2 c =
     bytes-live _ _ (sym (c .before .before .before .is-live .ensures) ∙ c .before .before .if1 .taken) (c .if2 .left) (c .before .numbers-length .ensures)
 
-returns-3 : tie.Need-returns-3
-returns-3 c = bytes-dead _ _ _ (sym (c .before .is-live .ensures) ∙ c .if1 .left)
-
 pub row-length-spec : {M : Type 1} → statement M
 row-length-spec =
     tie.close
     (tie.spec
-    (λ c κs. search needs) (λ c κs. search needs) add-cells (λ c κs. search needs) add-result returns returns-2 returns-3)
+    (λ c κs. search needs) (λ c κs. search needs)
+    (λ c. let at = c .before .before .before .before in omega (arith, c .numbers-length .ensures, length-fields (at .args .row .now), at .pre))
+    (λ c κs. search needs) add-result returns returns-2
+    (λ c. bytes-dead _ _ _ (sym (c .before .is-live .ensures) ∙ c .if1 .left)))

@@ -7,12 +7,6 @@ use borrow.Author.Needs.{needs}
 use Rattle.listing_write.proofs.write_listing.Statement.{statement}
 use Rattle.listing_write.proofs.write_listing.Tie as tie
 
-returns : tie.Need-returns
-returns c = refused-outside _ _ _ _ (sym (c .before .is-outside .ensures) ∙ c .if1 .taken)
-
-is-rows-short-requires : tie.Need-is-rows-short-requires
-is-rows-short-requires c κs = sym (c .before .is-outside .ensures) ∙ c .if1 .left
-
 returns-2 : tie.Need-returns-2
 returns-2 c =
     refused-rows _ _ _ _ (sym (c .before .before .before .is-outside .ensures) ∙ c .before .before .if1 .left) (sym (c .before .is-rows-short .ensures) ∙ c .if2 .taken)
@@ -42,5 +36,6 @@ pub write-listing-spec : {M : Type 1} → statement M
 write-listing-spec =
     tie.close
     (tie.spec
-    (λ c κs. search needs) returns is-rows-short-requires returns-2 text-length-requires returns-3 put-text-requires
+    (λ c κs. search needs) (λ c. refused-outside _ _ _ _ (sym (c .before .is-outside .ensures) ∙ c .if1 .taken))
+    (λ c κs. sym (c .before .is-outside .ensures) ∙ c .if1 .left) returns-2 text-length-requires returns-3 put-text-requires
     (λ c. search needs) returns-4)
