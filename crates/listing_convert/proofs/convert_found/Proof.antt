@@ -4,9 +4,6 @@ use borrow.Author.Needs.{needs}
 use Rattle.listing_convert.proofs.convert_found.Statement.{statement}
 use Rattle.listing_convert.proofs.convert_found.Tie as tie
 
-returns : tie.Need-returns
-returns c = converted-missing _ _ _ (c .before .before .before .before .pre) _ (c .before .lacks-row .ensures) (c .if1 .taken)
-
 lacks-room-requires : tie.Need-lacks-room-requires
 lacks-room-requires c κs = (search needs, fields-fit _ _ _ (c .before .before .before .before .pre) (c .before .before .before .before .args .output .now) (c .before .lacks-row .ensures) (c .if1 .left))
 
@@ -24,9 +21,5 @@ convert-found-spec =
     tie.close
     (tie.spec
     (λ c κs. search needs)
-    returns
-    lacks-room-requires
-    returns-2
-    write-converted-requires
-    (λ c. search needs)
-    returns-3)
+    (λ c. converted-missing _ _ _ (c .before .before .before .before .pre) _ (c .before .lacks-row .ensures) (c .if1 .taken))
+    lacks-room-requires returns-2 write-converted-requires (λ c. search needs) returns-3)

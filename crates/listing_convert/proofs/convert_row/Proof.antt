@@ -6,9 +6,6 @@ use borrow.Author.Needs.{needs}
 use Rattle.listing_convert.proofs.convert_row.Statement.{statement}
 use Rattle.listing_convert.proofs.convert_row.Tie as tie
 
-part-put-line-end : tie.Need-part-put-line-end
-part-put-line-end c = long-back (c .before .before .before .before .args .columns) (c .before .if1 .taken) (c .before .before .before .before .pre .1 .0)
-
 put-line-requires : tie.Need-put-line-requires
 put-line-requires c κs =
     let at = c .before .before .before .before .before in
@@ -38,5 +35,7 @@ pub convert-row-spec : {M : Type 1} → statement M
 convert-row-spec =
     tie.close
     (tie.spec
-    (λ c. search needs) (λ c. search needs) (λ c. search needs) part-put-line-end put-line-requires (λ c. search needs)
-    returns slice-aggregate-put-numbered put-numbered-requires (λ c. search needs) returns-2)
+    (λ c. search needs) (λ c. search needs) (λ c. search needs)
+    (λ c. long-back (c .before .before .before .before .args .columns) (c .before .if1 .taken) (c .before .before .before .before .pre .1 .0))
+    put-line-requires (λ c. search needs) returns slice-aggregate-put-numbered put-numbered-requires (λ c. search needs)
+    returns-2)

@@ -18,20 +18,11 @@ abbrev μ-loop : tie.MeasureT-loop
 μ-loop numbered columns text start numbers₀ output₀ used width end₀ number₀ at₀ numbers output end number at =
     length text - at
 
-row-width-requires : tie.Need-row-width-requires Inv-loop μ-loop
-row-width-requires c κs = search needs
-
 loop-holds : tie.Need-loop-holds Inv-loop μ-loop
 loop-holds c = (converting-begin _ _ _ _ _ _ _ (c .before .before .before .before .pre .1 .0) (c .before .before .before .before .pre .1 .1 .1 .0) (c .before .before .before .before .pre .1 .1 .1 .1 .1), c .row-width .ensures)
 
 line-at-requires : tie.Need-line-at-requires Inv-loop μ-loop
 line-at-requires c κs = (c .before .before .loop .inv .0 .inside, omega (arith, c .before .before .loop .inv .0 .same-numbers, c .before .before .before .before .before .before .before .pre .1 .1 .0))
-
-same-length : tie.Need-same-length Inv-loop μ-loop
-same-length c = omega (arith, c .before .before .before .before .before .before .loop .inv .0 .same-numbers, c .before .before .numbers .given)
-
-same-length-2 : tie.Need-same-length-2 Inv-loop μ-loop
-same-length-2 c = c .before .before .before .before .before .before .loop .inv .0 .same
 
 returns : tie.Need-returns Inv-loop μ-loop
 returns c = absurd (valid-rows-line _ _ _ _ (c .before .before .before .before .before .loop-test .taken) (c .before .before .before .before .before .before .loop .inv .0 .valid-rows) (rw (c .before .before .before .before .before .before .loop .inv .1) at (c .before .before .before .line-at .ensures)) (c .if1 .taken))
@@ -49,31 +40,12 @@ loop-less c = let f = c .before .before .before .before .before .before .before 
 loop-again : tie.Need-loop-again Inv-loop μ-loop
 loop-again c = (converting-more _ _ _ _ _ _ _ (c .before .before .before .before .before .before .before .before .before .before .before .loop .inv .0) (c .before .before .before .before .before .before .before .before .before .before .before .loop .inv .1) (c .before .before .before .before .before .before .before .before .line-at .ensures .found (search needs)) (search needs) (search needs) (c .before .before .convert-row .ensures), c .before .before .before .before .before .before .before .before .before .before .before .loop .inv .1)
 
-same-length-3 : tie.Need-same-length-3 Inv-loop μ-loop
-same-length-3 c = c .before .loop .inv .0 .same-numbers
-
-same-length-4 : tie.Need-same-length-4 Inv-loop μ-loop
-same-length-4 c = c .before .loop .inv .0 .same
-
-returns-2 : tie.Need-returns-2 Inv-loop μ-loop
-returns-2 c = converting-end _ _ _ _ _ _ _ (c .before .loop .inv .0) (c .loop-test .left)
-
 pub convert-rows-spec : {M : Type 1} → statement M
 convert-rows-spec =
     tie.close
     (tie.spec
-    Inv-loop
-    μ-loop
-    row-width-requires
-    loop-holds
-    line-at-requires
-    same-length
-    same-length-2
-    returns
-    convert-row-requires
-    add-number
-    loop-less
-    loop-again
-    same-length-3
-    same-length-4
-    returns-2)
+    Inv-loop μ-loop (λ c κs. search needs) loop-holds line-at-requires
+    (λ c. omega (arith, c .before .before .before .before .before .before .loop .inv .0 .same-numbers, c .before .before .numbers .given))
+    (λ c. c .before .before .before .before .before .before .loop .inv .0 .same) returns convert-row-requires add-number
+    loop-less loop-again (λ c. c .before .loop .inv .0 .same-numbers) (λ c. c .before .loop .inv .0 .same)
+    (λ c. converting-end _ _ _ _ _ _ _ (c .before .loop .inv .0) (c .loop-test .left)))

@@ -13,9 +13,6 @@ add-fields c = omega (arith, c .numbers-length .ensures, c .before .number-lengt
 sub-result : tie.Need-sub-result
 sub-result c = omega (arith, c .before .before .before .pre .1 (c .if1 .taken), fields-sum (c .before .before .before .args .rows) (c .before .before .number-length .ensures) (c .before .numbers-length .ensures))
 
-returns : tie.Need-returns
-returns c = length-back _ _ _ _ (fields-sum _ (c .before .before .number-length .ensures) (c .before .numbers-length .ensures)) (c .if1 .taken)
-
 returns-2 : tie.Need-returns-2
 returns-2 c = length-under _ _ _ _ (fields-sum _ (c .before .before .before .number-length .ensures) (c .before .before .numbers-length .ensures)) (c .before .if1 .left) (c .if2 .taken)
 
@@ -26,10 +23,6 @@ pub lacks-room-spec : {M : Type 1} → statement M
 lacks-room-spec =
     tie.close
     (tie.spec
-    (λ c κs. search needs)
-    (λ c κs. search needs)
-    add-fields
-    sub-result
-    returns
-    returns-2
-    returns-3)
+    (λ c κs. search needs) (λ c κs. search needs) add-fields sub-result
+    (λ c. length-back _ _ _ _ (fields-sum _ (c .before .before .number-length .ensures) (c .before .numbers-length .ensures)) (c .if1 .taken))
+    returns-2 returns-3)

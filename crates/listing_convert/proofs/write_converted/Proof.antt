@@ -8,9 +8,6 @@ use Rattle.listing_convert.proofs.write_converted.Tie as tie
 convert-head-requires : tie.Need-convert-head-requires
 convert-head-requires c κs = head-room _ _ _ (c .before .before .before .pre .0) (c .before .before .before .args .output .now) (c .before .before .before .pre .1)
 
-cast-convert-rows : tie.Need-cast-convert-rows
-cast-convert-rows c = omega (arith, c .before .before .before .before .before .before .before .pre .0 .narrow .1)
-
 convert-rows-requires : tie.Need-convert-rows-requires
 convert-rows-requires c κs = let l = c .before .before .before .before .before .before .before .before .before .pre .0 in
     (l .narrow .1, (l .inside, (search needs, (valid-rows _ _ _ l (c .before .before .before .before .before .before .before .before .before .args .output .now), (rows-few _ _ _ l (c .before .before .before .before .before .before .before .before .before .args .output .now), rows-room _ _ _ l _ (c .before .before .before .before .before .before .before .before .before .pre .1) (c .before .before .before .before .before .convert-head .ensures) (search needs))))))
@@ -22,9 +19,5 @@ pub write-converted-spec : {M : Type 1} → statement M
 write-converted-spec =
     tie.close
     (tie.spec
-    convert-head-requires
-    cast-convert-rows
-    (λ c. search needs)
-    convert-rows-requires
-    (λ c. search needs)
-    returns)
+    convert-head-requires (λ c. omega (arith, c .before .before .before .before .before .before .before .pre .0 .narrow .1))
+    (λ c. search needs) convert-rows-requires (λ c. search needs) returns)
