@@ -3,18 +3,6 @@ use Rattle.listing_parse.proofs.Heads.{no-column, too-many, no-key, key
 use Rattle.listing_parse.proofs.keeps_bounds.Statement.{statement}
 use Rattle.listing_parse.proofs.keeps_bounds.Tie as tie
 
-returns : tie.Need-returns
-returns c = no-column _ _ _ _ (c .if1 .taken)
-
-returns-2 : tie.Need-returns-2
-returns-2 c = too-many _ _ _ _ (c .before .if1 .left) (c .if2 .taken)
-
-returns-3 : tie.Need-returns-3
-returns-3 c = no-key _ _ _ _ (c .before .before .if1 .left) (c .before .if2 .left) (c .if3 .taken)
-
-returns-4 : tie.Need-returns-4
-returns-4 c = keys-above _ _ _ _ (c .before .before .before .if1 .left) (c .before .before .if2 .left) (c .before .if3 .left) (c .if4 .taken)
-
 returns-5 : tie.Need-returns-5
 returns-5 c = no-sort _ _ _ _ (c .before .before .before .before .if1 .left) (c .before .before .before .if2 .left) (c .before .before .if3 .left) (c .before .if4 .left) (c .if5 .taken)
 
@@ -22,4 +10,10 @@ returns-6 : tie.Need-returns-6
 returns-6 c = by-rule _ _ _ _ (c .before .before .before .before .if1 .left) (c .before .before .before .if2 .left) (c .before .before .if3 .left) (c .before .if4 .left) (c .if5 .left)
 
 pub keeps-bounds-spec : {M : Type 1} → statement M
-keeps-bounds-spec = tie.close (tie.spec returns returns-2 returns-3 returns-4 returns-5 returns-6)
+keeps-bounds-spec =
+    tie.close
+    (tie.spec
+    (λ c. no-column _ _ _ _ (c .if1 .taken)) (λ c. too-many _ _ _ _ (c .before .if1 .left) (c .if2 .taken))
+    (λ c. no-key _ _ _ _ (c .before .before .if1 .left) (c .before .if2 .left) (c .if3 .taken))
+    (λ c. keys-above _ _ _ _ (c .before .before .before .if1 .left) (c .before .before .if2 .left) (c .before .if3 .left) (c .if4 .taken))
+    returns-5 returns-6)

@@ -6,35 +6,14 @@ use borrow.Author.Needs.{needs}
 use Rattle.listing_parse.proofs.row_at.Statement.{statement}
 use Rattle.listing_parse.proofs.row_at.Tie as tie
 
-row-width-requires : tie.Need-row-width-requires
-row-width-requires c κs = search needs
-
-line-at-requires : tie.Need-line-at-requires
-line-at-requires c κs = search needs
-
-same-length : tie.Need-same-length
-same-length c = search needs
-
 returns : tie.Need-returns
 returns c = row-no-line _ _ _ _ _ _ (c .before .before .before .before .before .before .before .before .pre .1 .0) (rw (c .before .before .before .before .before .row-width .ensures) at (c .before .before .before .line-at .ensures)) (c .if1 .taken)
-
-slice-reshare-prefix-row-fits : tie.Need-slice-reshare-prefix-row-fits
-slice-reshare-prefix-row-fits c = c .before .before .before .line-at .ensures .found (search needs) .wide
-
-slice-aggregate-row-fits : tie.Need-slice-aggregate-row-fits
-slice-aggregate-row-fits c = simp length-take (omega (arith, c .before .before .before .before .line-at .ensures .found (search needs) .wide))
 
 row-fits-requires : tie.Need-row-fits-requires
 row-fits-requires c κs = simp length-take (omega (arith, c .before .before .before .before .line-at .ensures .found (search needs) .wide, lead-below _ _ _ (c .before .before .before .before .before .before .row-width .ensures) (c .before .before .before .before .before .before .before .before .before .pre .0 .0)))
 
-same-length-2 : tie.Need-same-length-2
-same-length-2 c = search needs
-
 returns-2 : tie.Need-returns-2
 returns-2 c = row-found _ _ _ _ _ _ (c .before .before .before .before .before .before .before .before .before .before .before .pre .1 .0) (rw (c .before .before .before .before .before .before .before .before .row-width .ensures) at (c .before .before .before .before .before .before .line-at .ensures .found (search needs))) (c .before .before .before .before .before .before .before .before .before .before .before .pre .0 .0) (rw (c .before .before .before .before .before .before .before .before .row-width .ensures) at (c .before .row-fits .ensures)) (c .if2 .taken)
-
-same-length-3 : tie.Need-same-length-3
-same-length-3 c = search needs
 
 returns-3 : tie.Need-returns-3
 returns-3 c = row-unfit _ _ _ _ _ _ (c .before .before .before .before .before .before .before .before .before .before .before .pre .1 .0) (rw (c .before .before .before .before .before .before .before .before .row-width .ensures) at (c .before .before .before .before .before .before .line-at .ensures .found (search needs))) (rw (c .before .before .before .before .before .before .before .before .row-width .ensures) at (c .before .row-fits .ensures)) (c .if2 .left)
@@ -43,14 +22,7 @@ pub row-at-spec : {M : Type 1} → statement M
 row-at-spec =
     tie.close
     (tie.spec
-    row-width-requires
-    line-at-requires
-    same-length
-    returns
-    slice-reshare-prefix-row-fits
-    slice-aggregate-row-fits
-    row-fits-requires
-    same-length-2
-    returns-2
-    same-length-3
-    returns-3)
+    (λ c κs. search needs) (λ c κs. search needs) (λ c. search needs) returns
+    (λ c. c .before .before .before .line-at .ensures .found (search needs) .wide)
+    (λ c. simp length-take (omega (arith, c .before .before .before .before .line-at .ensures .found (search needs) .wide)))
+    row-fits-requires (λ c. search needs) returns-2 (λ c. search needs) returns-3)

@@ -4,9 +4,6 @@ use borrow.Author.Needs.{needs}
 use Rattle.listing_parse.proofs.row_width.Statement.{statement}
 use Rattle.listing_parse.proofs.row_width.Tie as tie
 
-add-result : tie.Need-add-result
-add-result c = search needs
-
 returns : tie.Need-returns
 unfolding prefixWidth
 returns c = rw (c .if1 .taken)
@@ -16,4 +13,4 @@ unfolding prefixWidth
 returns-2 c = rw (c .if1 .left) (search needs)
 
 pub row-width-spec : {M : Type 1} → statement M
-row-width-spec = tie.close (tie.spec add-result returns returns-2)
+row-width-spec = tie.close (tie.spec (λ c. search needs) returns returns-2)
