@@ -9,9 +9,6 @@ use Rattle.listing_read.proofs.read_found.Tie as tie
 mul-if1 : tie.Need-mul-if1
 mul-if1 c = omega (arith, cells-few (c .before .before .before .before .before .args .s .rows) (c .row-width .result) (c .before .before .before .before .before .pre .few) (omega (arith, c .row-width .ensures, lead-few (c .before .before .before .before .before .args .numbered), c .before .before .before .before .before .pre .narrow .1)))
 
-returns : tie.Need-returns
-returns c = read-short _ _ _ (c .before .before .before .before .before .before .pre) (c .before .row-width .ensures) _ (c .if1 .taken)
-
 write-rows-requires : tie.Need-write-rows-requires
 write-rows-requires c κs = let l = c .before .before .before .before .before .before .before .before .pre in
     (l .narrow .1, (l .inside, (search needs, (valid-rows _ _ _ l, omega (arith, cells-count _ _ _ l (c .before .before .before .row-width .ensures), c .before .before .if1 .left)))))
@@ -23,12 +20,6 @@ pub read-found-spec : {M : Type 1} → statement M
 read-found-spec =
     tie.close
     (tie.spec
-    (λ c. search needs)
-    (λ c. search needs)
-    (λ c κs. search needs)
-    mul-if1
-    returns
-    (λ c. search needs)
-    write-rows-requires
-    (λ c. search needs)
-    returns-2)
+    (λ c. search needs) (λ c. search needs) (λ c κs. search needs) mul-if1
+    (λ c. read-short _ _ _ (c .before .before .before .before .before .before .pre) (c .before .row-width .ensures) _ (c .if1 .taken))
+    (λ c. search needs) write-rows-requires (λ c. search needs) returns-2)

@@ -4,20 +4,11 @@ use borrow.Author.Needs.{needs}
 use Rattle.listing_read.proofs.read_numbered.Statement.{statement}
 use Rattle.listing_read.proofs.read_numbered.Tie as tie
 
-returns : tie.Need-returns
-returns c = numbered-refused _ (c .before .number .given .1) (c .before .before .before .before .before .read .ensures)
-
-returns-2 : tie.Need-returns-2
-returns-2 c = numbered-found _ (c .before .s .given .1) (c .before .before .before .before .before .read .ensures)
-
 pub read-numbered-spec : {M : Type 1} → statement M
 read-numbered-spec =
     tie.close
     (tie.spec
-    (λ c κs. search needs)
+    (λ c κs. search needs) (λ c. search needs) (λ c. search needs) (λ c. search needs)
+    (λ c. numbered-refused _ (c .before .number .given .1) (c .before .before .before .before .before .read .ensures))
     (λ c. search needs)
-    (λ c. search needs)
-    (λ c. search needs)
-    returns
-    (λ c. search needs)
-    returns-2)
+    (λ c. numbered-found _ (c .before .s .given .1) (c .before .before .before .before .before .read .ensures)))

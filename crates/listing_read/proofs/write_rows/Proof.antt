@@ -17,29 +17,14 @@ Inv-loop numbered columns text start numbers₀ output₀ width at₀ used₀ nu
 abbrev μ-loop : tie.MeasureT-loop
 μ-loop numbered columns text start numbers₀ output₀ width at₀ used₀ numbers output at used = length text - at
 
-row-width-requires : tie.Need-row-width-requires Inv-loop μ-loop
-row-width-requires c κs = search needs
-
 loop-holds : tie.Need-loop-holds Inv-loop μ-loop
 loop-holds c = (writing-begin _ _ _ _ _ _ (c .before .before .before .before .pre .1 .0) (c .before .before .before .before .pre .1 .1 .1 .0) (c .before .before .before .before .pre .1 .1 .1 .1), c .row-width .ensures)
 
 line-at-requires : tie.Need-line-at-requires Inv-loop μ-loop
 line-at-requires c κs = (c .before .before .loop .inv .0 .inside, omega (arith, c .before .before .loop .inv .0 .same-numbers, c .before .before .before .before .before .before .before .pre .1 .1 .0))
 
-same-length : tie.Need-same-length Inv-loop μ-loop
-same-length c = search needs
-
-same-length-2 : tie.Need-same-length-2 Inv-loop μ-loop
-same-length-2 c = c .before .before .before .before .before .before .loop .inv .0 .same
-
 returns : tie.Need-returns Inv-loop μ-loop
 returns c = absurd (valid-rows-line _ _ _ _ (c .before .before .before .before .before .loop-test .taken) (c .before .before .before .before .before .before .loop .inv .0 .valid-rows) (rw (c .before .before .before .before .before .before .loop .inv .1) at (c .before .before .before .line-at .ensures)) (c .if1 .taken))
-
-slice-reshare-prefix-write-row : tie.Need-slice-reshare-prefix-write-row Inv-loop μ-loop
-slice-reshare-prefix-write-row c = c .before .before .before .before .line-at .ensures .found (search needs) .wide
-
-slice-aggregate-write-row : tie.Need-slice-aggregate-write-row Inv-loop μ-loop
-slice-aggregate-write-row c = simp length-take (omega (arith, c .before .before .before .before .before .line-at .ensures .found (search needs) .wide))
 
 write-row-requires : tie.Need-write-row-requires Inv-loop μ-loop
 write-row-requires c κs = simp length-take (omega (arith, c .before .before .before .before .before .line-at .ensures .found (search needs) .wide, writing-room _ _ _ _ _ _ (c .before .before .before .before .before .before .before .before .loop .inv .0) (c .before .before .before .before .before .before .before .before .loop .inv .1) (c .before .before .before .before .before .line-at .ensures .found (search needs))))
@@ -53,33 +38,13 @@ loop-less c = let f = c .before .before .before .before .before .before .before 
 loop-again : tie.Need-loop-again Inv-loop μ-loop
 loop-again c = (writing-more _ _ _ _ _ _ (c .before .before .before .before .before .before .before .before .before .before .before .loop .inv .0) (c .before .before .before .before .before .before .before .before .before .before .before .loop .inv .1) (c .before .before .before .before .before .before .before .before .line-at .ensures .found (search needs)) (search needs) (c .before .before .write-row .ensures), c .before .before .before .before .before .before .before .before .before .before .before .loop .inv .1)
 
-same-length-3 : tie.Need-same-length-3 Inv-loop μ-loop
-same-length-3 c = c .before .loop .inv .0 .same-numbers
-
-same-length-4 : tie.Need-same-length-4 Inv-loop μ-loop
-same-length-4 c = c .before .loop .inv .0 .same
-
-returns-2 : tie.Need-returns-2 Inv-loop μ-loop
-returns-2 c = writing-end _ _ _ _ _ _ (c .before .loop .inv .0) (c .loop-test .left)
-
 pub write-rows-spec : {M : Type 1} → statement M
 write-rows-spec =
     tie.close
     (tie.spec
-    Inv-loop
-    μ-loop
-    row-width-requires
-    loop-holds
-    line-at-requires
-    same-length
-    same-length-2
-    returns
-    slice-reshare-prefix-write-row
-    slice-aggregate-write-row
-    write-row-requires
-    add-used
-    loop-less
-    loop-again
-    same-length-3
-    same-length-4
-    returns-2)
+    Inv-loop μ-loop (λ c κs. search needs) loop-holds line-at-requires (λ c. search needs)
+    (λ c. c .before .before .before .before .before .before .loop .inv .0 .same) returns
+    (λ c. c .before .before .before .before .line-at .ensures .found (search needs) .wide)
+    (λ c. simp length-take (omega (arith, c .before .before .before .before .before .line-at .ensures .found (search needs) .wide)))
+    write-row-requires add-used loop-less loop-again (λ c. c .before .loop .inv .0 .same-numbers)
+    (λ c. c .before .loop .inv .0 .same) (λ c. writing-end _ _ _ _ _ _ (c .before .loop .inv .0) (c .loop-test .left)))
