@@ -20,29 +20,8 @@ abbrev μ-loop : tie.MeasureT-loop
 accepts : (c : tie.Else1 Inv-loop μ-loop) → let a = c .before .before .before .before .before .args in Accepted (a .h) (a .rows .now) (a .keys .now) (a .column) (length (a .pairs .now))
 accepts c = passed-accepted _ _ _ _ _ _ (c .before .precedence-refusal .ensures) (c .if1 .left)
 
-precedence-refusal-requires : tie.Need-precedence-refusal-requires Inv-loop μ-loop
-precedence-refusal-requires c κs = search needs
-
-returns : tie.Need-returns Inv-loop μ-loop
-returns c = check-refused _ _ _ _ _ _ (c .before .precedence-refusal .ensures) (c .if1 .taken)
-
-loop-holds : tie.Need-loop-holds Inv-loop μ-loop
-loop-holds c = (omega arith, λ sound differ. refl)
-
-failing-pair-requires : tie.Need-failing-pair-requires Inv-loop μ-loop
-failing-pair-requires c κs = let a = accepts (c .before .before .before) in (a .tested, a .column-key, c .if2 .taken)
-
-cast-t15 : tie.Need-cast-t15 Inv-loop μ-loop
-cast-t15 c = omega (arith, accepts (c .before .before .before .before .before))
-
 returns-2 : tie.Need-returns-2 Inv-loop μ-loop
 returns-2 c = check-fails _ _ _ _ _ _ (c .before .before .before .before .before .before .precedence-refusal .ensures) (c .before .before .before .before .before .if1 .left) _ _ (λ sound differ. sym (row-fails _ _ _ _ _ (c .before .before .if2 .taken) _ (c .before .failing-pair .ensures sound differ .fails (c .if3 .taken))) ∙ c .before .before .before .before .loop .inv .1 sound differ ∙ rows-begin _ _ _ _)
-
-add-row : tie.Need-add-row Inv-loop μ-loop
-add-row c = omega (arith, accepts (c .before .before .before .before .before))
-
-loop-less : tie.Need-loop-less Inv-loop μ-loop
-loop-less c = omega arith
 
 loop-again : tie.Need-loop-again Inv-loop μ-loop
 loop-again c = (omega arith, λ sound differ. sym (row-meets _ _ _ _ _ (c .before .before .if2 .taken) (c .before .failing-pair .ensures sound differ .meets (c .if3 .left))) ∙ c .before .before .before .before .loop .inv .1 sound differ)
@@ -54,15 +33,9 @@ pub check-precedence-spec : {M : Type 1} → statement M
 check-precedence-spec =
     tie.close
     (tie.spec
-    Inv-loop
-    μ-loop
-    precedence-refusal-requires
-    returns
-    loop-holds
-    failing-pair-requires
-    cast-t15
-    returns-2
-    add-row
-    loop-less
-    loop-again
-    returns-3)
+    Inv-loop μ-loop (λ c κs. search needs)
+    (λ c. check-refused _ _ _ _ _ _ (c .before .precedence-refusal .ensures) (c .if1 .taken))
+    (λ c. (omega arith, λ sound differ. refl))
+    (λ c κs. let a = accepts (c .before .before .before) in (a .tested, a .column-key, c .if2 .taken))
+    (λ c. omega (arith, accepts (c .before .before .before .before .before))) returns-2
+    (λ c. omega (arith, accepts (c .before .before .before .before .before))) (λ c. omega arith) loop-again returns-3)

@@ -12,21 +12,6 @@ lies c = found-in-store _ _ _ _ _ _ _ (c .before .before .before .before .before
 look-up-requires : tie.Need-look-up-requires
 look-up-requires c κs = let s = c .before .before .before .before .before in lookup-pre _ _ _ (s .args .key .now) _ (c .before .index-shape .ensures) (s .pre .0) (s .pre .1)
 
-mul-at : tie.Need-mul-at
-mul-at c = omega (arith, lies c)
-
-add-at : tie.Need-add-at
-add-at c = omega (arith, lies (c .before))
-
-cast-at : tie.Need-cast-at
-cast-at c = omega (arith, lies (c .before))
-
-mul-result : tie.Need-mul-result
-mul-result c = omega (arith, lies (c .before))
-
-shared-slice-read-result : tie.Need-shared-slice-read-result
-shared-slice-read-result c = omega (arith, lies (c .before .before))
-
 returns : tie.Need-returns
 returns c = found-none _ _ _ _ _ _ _ (c .before .before .before .before .index-shape .ensures) (c .before .before .look-up .ensures) (c .before .before .before .compact-hash .ensures) _ (c .enum-told .given .1)
 
@@ -37,13 +22,6 @@ pub is-filed-by-spec : {M : Type 1} → statement M
 is-filed-by-spec =
     tie.close
     (tie.spec
-    (λ c κs. search needs) (λ c κs. search needs)
-    look-up-requires
-    (λ c. search needs) (λ c. search needs)
-    mul-at
-    add-at
-    cast-at
-    mul-result
-    shared-slice-read-result
-    returns
-    returns-2)
+    (λ c κs. search needs) (λ c κs. search needs) look-up-requires (λ c. search needs) (λ c. search needs)
+    (λ c. omega (arith, lies c)) (λ c. omega (arith, lies (c .before))) (λ c. omega (arith, lies (c .before)))
+    (λ c. omega (arith, lies (c .before))) (λ c. omega (arith, lies (c .before .before))) returns returns-2)

@@ -9,21 +9,6 @@ use Rattle.precedence.proofs.meets_pair.Tie as tie
 lies : (s : tie.Start) → RowInStore (s .args .h) (s .args .rows .now) (s .args .row)
 lies s = row-in-store _ _ _ (s .pre .0) _ (s .pre .2)
 
-mul-at : tie.Need-mul-at
-mul-at c = omega (arith, lies (c .before .before .before))
-
-add-at : tie.Need-add-at
-add-at c = omega (arith, lies (c .before .before .before), c .before .before .before .pre .1)
-
-cast-at : tie.Need-cast-at
-cast-at c = omega (arith, lies (c .before .before .before), c .before .before .before .pre .1)
-
-mul-if1 : tie.Need-mul-if1
-mul-if1 c = omega (arith, lies (c .before .before .before), c .before .before .before .pre .1)
-
-shared-slice-read-if1 : tie.Need-shared-slice-read-if1
-shared-slice-read-if1 c = omega (arith, lies (c .before .before .before .before), c .before .before .before .before .pre .1)
-
 returns : tie.Need-returns
 returns c = λ sound differ. let s = c .before .before .before .before .before in not-named _ _ _ (s .pre .0) _ _ 0 (s .pre .1) (s .pre .2) _ _ (c .if1 .taken)
 
@@ -34,11 +19,9 @@ pub meets-pair-spec : {M : Type 1} → statement M
 meets-pair-spec =
     tie.close
     (tie.spec
-    mul-at
-    add-at
-    cast-at
-    mul-if1
-    shared-slice-read-if1
-    returns
-    (λ c κs. search needs)
-    returns-2)
+    (λ c. omega (arith, lies (c .before .before .before)))
+    (λ c. omega (arith, lies (c .before .before .before), c .before .before .before .pre .1))
+    (λ c. omega (arith, lies (c .before .before .before), c .before .before .before .pre .1))
+    (λ c. omega (arith, lies (c .before .before .before), c .before .before .before .pre .1))
+    (λ c. omega (arith, lies (c .before .before .before .before), c .before .before .before .before .pre .1)) returns
+    (λ c κs. search needs) returns-2)

@@ -5,12 +5,6 @@ use Rattle.precedence.proofs.Checks.{lookup-refused, no-key-column, odd
 use Rattle.precedence.proofs.precedence_refusal.Statement.{statement}
 use Rattle.precedence.proofs.precedence_refusal.Tie as tie
 
-returns : tie.Need-returns
-returns c = let e = c .before .lookup-refusal .ensures in e ∙ lookup-refused _ _ _ _ _ (λ z. c .if1 .taken (e ∙ z))
-
-returns-2 : tie.Need-returns-2
-returns-2 c = no-key-column _ _ _ _ _ (sym (c .before .before .before .lookup-refusal .ensures) ∙ c .before .before .if1 .left) (c .if2 .taken)
-
 returns-3 : tie.Need-returns-3
 returns-3 c = odd-words _ _ _ _ _ (sym (c .before .before .before .before .lookup-refusal .ensures) ∙ c .before .before .before .if1 .left) (c .before .if2 .left) (c .if3 .taken)
 
@@ -28,9 +22,6 @@ precedence-refusal-spec =
     tie.close
     (tie.spec
     (λ c. search needs) (λ c κs. search needs)
-    returns
-    returns-2
-    returns-3
-    returns-4
-    returns-5
-    returns-6)
+    (λ c. let e = c .before .lookup-refusal .ensures in e ∙ lookup-refused _ _ _ _ _ (λ z. c .if1 .taken (e ∙ z)))
+    (λ c. no-key-column _ _ _ _ _ (sym (c .before .before .before .lookup-refusal .ensures) ∙ c .before .before .if1 .left) (c .if2 .taken))
+    returns-3 returns-4 returns-5 returns-6)
