@@ -16,29 +16,11 @@ Inv-loop sequence position₀ i₀ position i = (i ≤ length sequence) × (posi
 abbrev μ-loop : tie.MeasureT-loop
 μ-loop sequence position₀ i₀ position i = length sequence - i
 
-loop-holds : tie.Need-loop-holds Inv-loop μ-loop
-loop-holds c = (omega arith, sym position-nothing)
-
-mul-position : tie.Need-mul-position Inv-loop μ-loop
-mul-position c = omega (arith, c .before .loop .inv .1, prefix-below _ (c .before .before .pre) (c .before .loop .i))
-
-mul-position-2 : tie.Need-mul-position-2 Inv-loop μ-loop
-mul-position-2 c = search needs
-
-shared-slice-read-position : tie.Need-shared-slice-read-position Inv-loop μ-loop
-shared-slice-read-position c = c .before .loop-test .taken
-
 add-position : tie.Need-add-position Inv-loop μ-loop
 add-position c = omega (arith, c .before .before .loop .inv .1, position-on _ (c .before .before .before .pre) _ (c .before .loop-test .taken), prefix-below _ (c .before .before .before .pre) (c .before .before .loop .i + 1))
 
 add-position-2 : tie.Need-add-position-2 Inv-loop μ-loop
 add-position-2 c = omega (arith, c .before .before .loop .inv .1, position-on _ (c .before .before .before .pre) _ (c .before .loop-test .taken), prefix-below _ (c .before .before .before .pre) (c .before .before .loop .i + 1))
-
-add-i : tie.Need-add-i Inv-loop μ-loop
-add-i c = search needs
-
-loop-less : tie.Need-loop-less Inv-loop μ-loop
-loop-less c = omega (arith, c .before .loop-test .taken)
 
 loop-again : tie.Need-loop-again Inv-loop μ-loop
 loop-again c = (omega (arith, c .before .loop-test .taken), omega (arith, c .before .before .loop .inv .1, position-on _ (c .before .before .before .pre) _ (c .before .loop-test .taken)))
@@ -50,15 +32,7 @@ pub known-position-spec : {M : Type 1} → statement M
 known-position-spec =
     tie.close
     (tie.spec
-    Inv-loop
-    μ-loop
-    loop-holds
-    mul-position
-    mul-position-2
-    shared-slice-read-position
-    add-position
-    add-position-2
-    add-i
-    loop-less
-    loop-again
-    returns)
+    Inv-loop μ-loop (λ c. (omega arith, sym position-nothing))
+    (λ c. omega (arith, c .before .loop .inv .1, prefix-below _ (c .before .before .pre) (c .before .loop .i)))
+    (λ c. search needs) (λ c. c .before .loop-test .taken) add-position add-position-2 (λ c. search needs)
+    (λ c. omega (arith, c .before .loop-test .taken)) loop-again returns)

@@ -6,12 +6,6 @@ use Rattle.short_histories.specs.Laws.Refusals.{next-unknown, next-none,
 use Rattle.short_histories.proofs.next_sequence.Statement.{statement}
 use Rattle.short_histories.proofs.next_sequence.Tie as tie
 
-returns : tie.Need-returns
-returns c = next-unknown _ _ (sym (c .before .is-known .ensures) ∙ not-true _ (c .if1 .taken))
-
-known-position-requires : tie.Need-known-position-requires
-known-position-requires c κs = sym (c .before .is-known .ensures) ∙ not-false _ (c .if1 .left)
-
 returns-2 : tie.Need-returns-2
 returns-2 c = next-none _ _ (sym (c .before .before .before .is-known .ensures) ∙ not-false _ (c .before .before .if1 .left)) _ (c .before .known-position .ensures .0) (c .if2 .taken)
 
@@ -22,10 +16,6 @@ pub next-sequence-spec : {M : Type 1} → statement M
 next-sequence-spec =
     tie.close
     (tie.spec
-    (λ c κs. search needs)
-    returns
-    known-position-requires
-    (λ c. search needs)
-    returns-2
-    (λ c κs. search needs) (λ c. search needs)
-    returns-3)
+    (λ c κs. search needs) (λ c. next-unknown _ _ (sym (c .before .is-known .ensures) ∙ not-true _ (c .if1 .taken)))
+    (λ c κs. sym (c .before .is-known .ensures) ∙ not-false _ (c .if1 .left)) (λ c. search needs) returns-2
+    (λ c κs. search needs) (λ c. search needs) returns-3)

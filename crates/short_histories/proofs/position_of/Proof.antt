@@ -6,18 +6,12 @@ use Rattle.short_histories.specs.Laws.Refusals.{position-refused, positi
 use Rattle.short_histories.proofs.position_of.Statement.{statement}
 use Rattle.short_histories.proofs.position_of.Tie as tie
 
-returns : tie.Need-returns
-returns c = position-refused _ (sym (c .before .is-known .ensures) ∙ not-true _ (c .if1 .taken))
-
-known-position-requires : tie.Need-known-position-requires
-known-position-requires c κs = sym (c .before .is-known .ensures) ∙ not-false _ (c .if1 .left)
-
 returns-2 : tie.Need-returns-2
 returns-2 c = position-answered _ (sym (c .before .before .is-known .ensures) ∙ not-false _ (c .before .if1 .left)) _ (c .known-position .ensures .0)
 
 pub position-of-spec : {M : Type 1} → statement M
-position-of-spec = tie.close (tie.spec
-    (λ c κs. search needs)
-    returns
-    known-position-requires
-    returns-2)
+position-of-spec =
+    tie.close
+    (tie.spec
+    (λ c κs. search needs) (λ c. position-refused _ (sym (c .before .is-known .ensures) ∙ not-true _ (c .if1 .taken)))
+    (λ c κs. sym (c .before .is-known .ensures) ∙ not-false _ (c .if1 .left)) returns-2)

@@ -4,12 +4,6 @@ use Rattle.short_histories.specs.Laws.Refusals.{sequence-past-last, sequ
 use Rattle.short_histories.proofs.sequence_at.Statement.{statement}
 use Rattle.short_histories.proofs.sequence_at.Tie as tie
 
-returns : tie.Need-returns
-returns c = sequence-past-last _ _ (c .if1 .taken)
-
-returns-2 : tie.Need-returns-2
-returns-2 c = sequence-no-room _ _ (c .before .before .if1 .left) _ (c .before .length-at .ensures .0) (c .if2 .taken)
-
 returns-3 : tie.Need-returns-3
 returns-3 c = sequence-written _ _ (c .before .before .before .before .before .before .if1 .left) _ (c .before .before .before .before .before .length-at .ensures .0) (c .before .before .before .before .if2 .left) _ (c .before .before .write-sequence .ensures)
 
@@ -17,8 +11,6 @@ pub sequence-at-spec : {M : Type 1} → statement M
 sequence-at-spec =
     tie.close
     (tie.spec
-    returns
-    (λ c κs. search needs)
-    returns-2
-    (λ c κs. search needs) (λ c. search needs) (λ c. search needs)
-    returns-3)
+    (λ c. sequence-past-last _ _ (c .if1 .taken)) (λ c κs. search needs)
+    (λ c. sequence-no-room _ _ (c .before .before .if1 .left) _ (c .before .length-at .ensures .0) (c .if2 .taken))
+    (λ c κs. search needs) (λ c. search needs) (λ c. search needs) returns-3)

@@ -11,49 +11,13 @@ Inv-loop position steps output₀ at₀ rest₀ output at rest = Writing positio
 abbrev μ-loop : tie.MeasureT-loop
 μ-loop position steps output₀ at₀ rest₀ output at rest = rest
 
-loop-holds : tie.Need-loop-holds Inv-loop μ-loop
-loop-holds c = let p = c .pre in writing-begun _ _ _ (p .0) (p .1) (p .2)
-
-sub-at : tie.Need-sub-at Inv-loop μ-loop
-sub-at c = some-left (c .before .loop .inv) (c .loop-test .taken)
-
-sub-output : tie.Need-sub-output Inv-loop μ-loop
-sub-output c = search needs
-
-mul-output : tie.Need-mul-output Inv-loop μ-loop
-mul-output c = omega (arith, writing-inside (c .before .loop .inv) (c .loop-test .taken))
-
-slice-write-output : tie.Need-slice-write-output Inv-loop μ-loop
-slice-write-output c = writing-inside (c .before .loop .inv) (c .loop-test .taken)
-
-sub-rest : tie.Need-sub-rest Inv-loop μ-loop
-sub-rest c = search needs
-
-loop-less : tie.Need-loop-less Inv-loop μ-loop
-loop-less c = omega (arith, c .loop-test .taken)
-
-loop-again : tie.Need-loop-again Inv-loop μ-loop
-loop-again c = writing-on (c .before .loop .inv) (c .loop-test .taken)
-
-same-length : tie.Need-same-length Inv-loop μ-loop
-same-length c = c .before .loop .inv .same
-
-returns : tie.Need-returns Inv-loop μ-loop
-returns c = writing-ended (c .before .loop .inv) (c .loop-test .left)
-
 pub write-sequence-spec : {M : Type 1} → statement M
 write-sequence-spec =
     tie.close
     (tie.spec
-    Inv-loop
-    μ-loop
-    loop-holds
-    sub-at
-    sub-output
-    mul-output
-    slice-write-output
-    sub-rest
-    loop-less
-    loop-again
-    same-length
-    returns)
+    Inv-loop μ-loop (λ c. let p = c .pre in writing-begun _ _ _ (p .0) (p .1) (p .2))
+    (λ c. some-left (c .before .loop .inv) (c .loop-test .taken)) (λ c. search needs)
+    (λ c. omega (arith, writing-inside (c .before .loop .inv) (c .loop-test .taken)))
+    (λ c. writing-inside (c .before .loop .inv) (c .loop-test .taken)) (λ c. search needs)
+    (λ c. omega (arith, c .loop-test .taken)) (λ c. writing-on (c .before .loop .inv) (c .loop-test .taken))
+    (λ c. c .before .loop .inv .same) (λ c. writing-ended (c .before .loop .inv) (c .loop-test .left)))
