@@ -10,12 +10,6 @@ use Rattle.key_remove.proofs.ShiftSteps.{home-hash}
 use Rattle.key_remove.proofs.home_away.Statement.{statement}
 use Rattle.key_remove.proofs.home_away.Tie as tie
 
-sub-row-hash : tie.Need-sub-row-hash
-sub-row-hash c = omega (arith, names-number _ _ (c .before .pre .1))
-
-row-hash-requires : tie.Need-row-hash-requires
-row-hash-requires c κs = (c .before .pre .0, omega (arith, names-number _ _ (c .before .pre .1)))
-
 returns : tie.Need-returns
 returns c =
     let a = c .before .before .before .before .before .args in
@@ -25,4 +19,7 @@ returns c =
 pub home-away-spec : {M : Type 1} → statement M
 home-away-spec =
     tie.close
-    (tie.spec sub-row-hash row-hash-requires (λ c. search needs) (λ c κs. search needs) (λ c κs. search needs) returns)
+    (tie.spec
+    (λ c. omega (arith, names-number _ _ (c .before .pre .1)))
+    (λ c κs. (c .before .pre .0, omega (arith, names-number _ _ (c .before .pre .1)))) (λ c. search needs)
+    (λ c κs. search needs) (λ c κs. search needs) returns)

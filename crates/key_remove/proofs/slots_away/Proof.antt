@@ -4,11 +4,9 @@ use Rattle.key_remove.proofs.ShiftSteps.{away-ahead, away-behind}
 use Rattle.key_remove.proofs.slots_away.Statement.{statement}
 use Rattle.key_remove.proofs.slots_away.Tie as tie
 
-returns : tie.Need-returns
-returns c = away-ahead _ _ _ (c .before .pre .1) (c .if1 .taken)
-
-returns-2 : tie.Need-returns-2
-returns-2 c = away-behind _ _ _ (c .before .pre .0) (c .if1 .left)
-
 pub slots-away-spec : {M : Type 1} → statement M
-slots-away-spec = tie.close (tie.spec returns (λ c. search needs) (λ c. search needs) returns-2)
+slots-away-spec =
+    tie.close
+    (tie.spec
+    (λ c. away-ahead _ _ _ (c .before .pre .1) (c .if1 .taken)) (λ c. search needs) (λ c. search needs)
+    (λ c. away-behind _ _ _ (c .before .pre .0) (c .if1 .left)))
