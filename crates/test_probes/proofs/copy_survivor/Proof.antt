@@ -26,10 +26,9 @@ write-row-requires c κs =
     let w = s .pre .2 in
     rw (c .before .surviving-row .ensures) (omega arith)
 
-returns : tie.Need-returns
-returns c = rw (← c .before .before .before .before .surviving-row .ensures) (c .before .before .write-row .ensures)
-
 pub copy-survivor-spec : {M : Type 1} → statement M
 copy-survivor-spec =
     tie.close
-    (tie.spec (λ c κs. search needs) write-row-requires (λ c. search needs) returns)
+    (tie.spec
+    (λ c κs. search needs) write-row-requires (λ c. search needs)
+    (λ c. rw (← c .before .before .before .before .surviving-row .ensures) (c .before .before .write-row .ensures)))

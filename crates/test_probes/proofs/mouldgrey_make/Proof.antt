@@ -5,12 +5,6 @@ use Rattle.test_probes.specs.inner.Parts.{made-nothing, made-done}
 use Rattle.test_probes.proofs.mouldgrey_make.Statement.{statement}
 use Rattle.test_probes.proofs.mouldgrey_make.Tie as tie
 
-returns : tie.Need-returns
-returns c = made-nothing _ _ _ _ _ _ (λ f. c .if1 .taken (f .0))
-
-returns-2 : tie.Need-returns-2
-returns-2 c = made-nothing _ _ _ _ _ _ (λ f. let h = f .1 in omega arith)
-
 returns-3 : tie.Need-returns-3
 returns-3 c =
     let m = c .before .before .make in
@@ -20,4 +14,6 @@ returns-3 c =
 pub mouldgrey-make-spec : {M : Type 1} → statement M
 mouldgrey-make-spec =
     tie.close
-    (tie.spec returns returns-2 (λ c κs. search needs) (λ c. search needs) returns-3)
+    (tie.spec
+    (λ c. made-nothing _ _ _ _ _ _ (λ f. c .if1 .taken (f .0)))
+    (λ c. made-nothing _ _ _ _ _ _ (λ f. let h = f .1 in omega arith)) (λ c κs. search needs) (λ c. search needs) returns-3)

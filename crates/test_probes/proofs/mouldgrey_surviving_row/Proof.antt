@@ -5,24 +5,6 @@ use Rattle.test_probes.specs.inner.Parts.{survives-nothing, survives-don
 use Rattle.test_probes.proofs.mouldgrey_surviving_row.Statement.{statement}
 use Rattle.test_probes.proofs.mouldgrey_surviving_row.Tie as tie
 
-returns : tie.Need-returns
-returns c = survives-nothing _ _ _ _ _ _ _ _ _ (λ f. let h = f .0 in omega arith)
-
-returns-2 : tie.Need-returns-2
-returns-2 c = survives-nothing _ _ _ _ _ _ _ _ _ (λ f. let h = f .1 in omega arith)
-
-returns-3 : tie.Need-returns-3
-returns-3 c = survives-nothing _ _ _ _ _ _ _ _ _ (λ f. let h = f .1 in omega arith)
-
-returns-4 : tie.Need-returns-4
-returns-4 c = survives-nothing _ _ _ _ _ _ _ _ _ (λ f. let h = f .2 in omega arith)
-
-returns-5 : tie.Need-returns-5
-returns-5 c = survives-nothing _ _ _ _ _ _ _ _ _ (λ f. let h = f .2 in omega arith)
-
-returns-6 : tie.Need-returns-6
-returns-6 c = survives-nothing _ _ _ _ _ _ _ _ _ (λ f. let h = f .3 in omega arith)
-
 returns-7 : tie.Need-returns-7
 returns-7 c =
     let q = c .before .before .before .before .before .before .before .before .before .if1 .left in
@@ -32,5 +14,10 @@ pub mouldgrey-surviving-row-spec : {M : Type 1} → statement M
 mouldgrey-surviving-row-spec =
     tie.close
     (tie.spec
-    returns returns-2 (λ c. search needs) returns-3 returns-4 (λ c. search needs) returns-5 returns-6
-    (λ c κs. search needs) (λ c. search needs) returns-7)
+    (λ c. survives-nothing _ _ _ _ _ _ _ _ _ (λ f. let h = f .0 in omega arith))
+    (λ c. survives-nothing _ _ _ _ _ _ _ _ _ (λ f. let h = f .1 in omega arith)) (λ c. search needs)
+    (λ c. survives-nothing _ _ _ _ _ _ _ _ _ (λ f. let h = f .1 in omega arith))
+    (λ c. survives-nothing _ _ _ _ _ _ _ _ _ (λ f. let h = f .2 in omega arith)) (λ c. search needs)
+    (λ c. survives-nothing _ _ _ _ _ _ _ _ _ (λ f. let h = f .2 in omega arith))
+    (λ c. survives-nothing _ _ _ _ _ _ _ _ _ (λ f. let h = f .3 in omega arith)) (λ c κs. search needs) (λ c. search needs)
+    returns-7)
