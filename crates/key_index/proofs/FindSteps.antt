@@ -1,12 +1,7 @@
 -- The answers of `find` and `look_up`, one law for each return path: at a free slot, after a full round, and at a slot that leads
 -- to the row; and how `look_up` reaches a slot. Assumes nothing.
-use Prim.Native.Nat.{ℕ, _+_, _/_, _%_, _^_, _≤_, _<_}
-use mathlib.Core.Path.{_≡_, sym, ap, _∙_}
-use mathlib.Core.List.{List}
+use Rattle.key_index.proofs.Prelude.{ℕ, _+_, _/_, _%_, _^_, _≤_, _<_, _≡_, sym, ap, _∙_, List, add-zero, arith, getD}
 use native.Mathlib.Decide.{decLt, ℕ-discrete}
-use native.Mathlib.Nat.{add-zero}
-use native.Mathlib.Omega.{arith}
-use lib.ListN.{getD}
 use Rattle.cells.specs.Cells.{compactHash, keyHash}
 use Rattle.key_index.specs.declared.IndexShape.{IndexShape}
 use Rattle.key_index.specs.declared.Found.the-variants.{None, At}

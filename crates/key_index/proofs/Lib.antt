@@ -1,3 +1,4 @@
+mod Prelude
 pub mod FindSteps
 pub mod PutSteps
 pub mod ScanSteps

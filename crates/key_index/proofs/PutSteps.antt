@@ -1,11 +1,6 @@
 -- The answers of `put`, one law for each return path, and the loop iterations of `empty`, each of which frees one slot. Assumes
 -- nothing.
-use Prim.Native.Nat.{ℕ, _+_, _*_, _≤_, _<_}
-use mathlib.Core.Path.{_≡_, refl, sym, ap, _∙_}
-use mathlib.Core.Bool.{true, false, false≢true}
-use mathlib.Core.List.{List, [], _∷_}
-use native.Mathlib.Omega.{arith}
-use lib.ListN.{length, getD, set, drop, length-replicate, replicate-append-replicate}
+use Rattle.key_index.proofs.Prelude.{ℕ, _+_, _*_, _≤_, _<_, _≡_, refl, sym, ap, _∙_, true, false, false≢true, List, [], _∷_, arith, length, getD, set, drop, length-replicate, replicate-append-replicate}
 use lib.Seq.{drop-set-lt}
 use Rattle.lists.specs.Lists.{splice}
 use Rattle.lists.specs.Laws.Parts.{drop-splice, length-splice, splice-nil, splice-then, set-splice}

@@ -1,9 +1,5 @@
 -- The scan of the loops of `find` and `put` round the slots: its start, and one step. Assumes nothing.
-use Prim.Native.Nat.{ℕ, _+_, _≤_, _<_}
-use mathlib.Core.Path.{_≡_, sym, ap, _∙_}
-use mathlib.Core.List.{List}
-use native.Mathlib.Omega.{arith}
-use lib.ListN.{getD}
+use Rattle.key_index.proofs.Prelude.{ℕ, _+_, _≤_, _<_, _≡_, sym, ap, _∙_, List, arith, getD}
 use borrow.Author.Count.{below-more}
 use Rattle.key_index.specs.Slots.{slotFrom}
 use Rattle.key_index.specs.Laws.Ring.{slot-below, slot-low, slot-zero, slot-then}

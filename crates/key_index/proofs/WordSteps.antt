@@ -1,13 +1,7 @@
 -- Decoding a slot's word: whether it has a row's number, the position of that row, and whether the row has a key. One law for each
 -- return path of `names_row` and `is_hit`. Assumes nothing.
-use Prim.Native.Nat.{ℕ, _+_, _-_, _*_, _/_, _%_, _^_, _≤_, _<_}
-use mathlib.Core.Path.{_≡_, sym, ap, _∙_}
-use mathlib.Core.Bool.{Bool, true, false, false≢true}
-use mathlib.Core.List.{List}
-use native.Mathlib.Omega.{arith}
+use Rattle.key_index.proofs.Prelude.{ℕ, _+_, _-_, _*_, _/_, _%_, _^_, _≤_, _<_, _≡_, sym, ap, _∙_, Bool, true, false, false≢true, List, arith, length, lt-ltb}
 use lib.Dec.{leb}
-use lib.ListN.{length}
-use borrow.Author.Tests.{lt-ltb}
 use Rattle.lists.specs.Lists.{same}
 use Rattle.lists.specs.Laws.Rising.{same-refl, same-eq}
 use Rattle.key_index.specs.declared.IndexShape.{IndexShape}

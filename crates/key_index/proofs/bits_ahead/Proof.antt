@@ -1,7 +1,6 @@
 -- `key_index::bits_ahead` meets its contract. The loop's invariant: of the slots looked at, those before the one ahead have other
 -- bits. Assumes nothing.
-use native.Mathlib.Omega.{arith}
-use borrow.Author.Needs.{needs}
+use Rattle.key_index.proofs.Prelude.{arith, needs}
 use Rattle.key_index.proofs.WindowSteps.{Other, Run, run-begin, run-ends, run-on, ahead-none, ahead-end}
 use Rattle.key_index.proofs.bits_ahead.Statement.{statement}
 use Rattle.key_index.proofs.bits_ahead.Tie as tie

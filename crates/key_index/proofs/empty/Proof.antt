@@ -1,13 +1,8 @@
 -- `key_index::empty` meets its contract. The loop's invariant: the slots passed are free, the others as they were. Assumes nothing.
-use Prim.Native.Nat.{ℕ, _-_, _*_, _≤_}
-use mathlib.Core.Path.{_≡_, refl, ap, _∙_}
-use mathlib.Core.List.{List}
-use native.Mathlib.Omega.{arith}
-use lib.ListN.{length, set}
+use Rattle.key_index.proofs.Prelude.{ℕ, _-_, _*_, _≤_, _≡_, refl, ap, _∙_, List, arith, length, set, needs}
 use Rattle.lists.specs.Lists.{splice}
 use Rattle.key_index.specs.inner.Index.{zeros}
 use Rattle.key_index.proofs.PutSteps.{empty-begin, empty-step, empty-end}
-use borrow.Author.Needs.{needs}
 use Rattle.key_index.proofs.empty.Statement.{statement}
 use Rattle.key_index.proofs.empty.Tie as tie
 

@@ -1,11 +1,7 @@
 -- `key_index::home_slot` meets its contract. Assumes nothing.
-use Prim.Native.Nat.{_≤_}
-use mathlib.Core.Path.{refl}
-use native.Mathlib.Nat.{mul-le-mul}
-use native.Mathlib.Omega.{arith}
+use Rattle.key_index.proofs.Prelude.{_≤_, refl, mul-le-mul, arith, needs}
 use Rattle.key_index.specs.Laws.Ring.{spread-below}
 use Rattle.key_index.specs.inner.Ring.{spread}
-use borrow.Author.Needs.{needs}
 use Rattle.key_index.proofs.home_slot.Statement.{statement}
 use Rattle.key_index.proofs.home_slot.Tie as tie
 

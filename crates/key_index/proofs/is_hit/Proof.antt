@@ -1,11 +1,5 @@
 -- `key_index::is_hit` meets its contract. Assumes nothing.
-use Prim.Native.Nat.{ℕ, _-_, _*_, _%_, _^_, _≤_}
-use mathlib.Core.Path.{refl, sym, ap, _∙_}
-use mathlib.Core.List.{List}
-use native.Mathlib.Omega.{arith}
-use lib.ListN.{take, drop}
-use borrow.Author.Needs.{needs}
-use borrow.Author.Tests.{not-true, not-false}
+use Rattle.key_index.proofs.Prelude.{ℕ, _-_, _*_, _%_, _^_, _≤_, refl, sym, ap, _∙_, List, arith, take, drop, not-true, not-false, needs}
 use Rattle.lists.specs.Lists.{same}
 use Rattle.row_buffer.specs.Laws.Rows.{key-row}
 use Rattle.key_index.proofs.WordSteps.{Named, named, hit-bits, hit-nameless, hit-cells}

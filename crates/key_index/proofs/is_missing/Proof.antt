@@ -1,9 +1,5 @@
 -- `key_index::is_missing` meets its contract. Assumes nothing.
-use mathlib.Core.Path.{sym, _∙_}
-use mathlib.Core.Bool.{false≢true}
-use native.Mathlib.Omega.{arith}
-use borrow.Author.Needs.{needs}
-use borrow.Author.Tests.{eqb-true}
+use Rattle.key_index.proofs.Prelude.{sym, _∙_, false≢true, arith, eqb-true, needs}
 use Rattle.key_index.proofs.WindowSteps.{soon-home, soon-window}
 use Rattle.key_index.proofs.is_missing.Statement.{statement}
 use Rattle.key_index.proofs.is_missing.Tie as tie

@@ -1,8 +1,6 @@
 -- `key_index::next_slot` meets its contract. Assumes nothing.
-use mathlib.Core.Path.{sym}
-use native.Mathlib.Omega.{arith}
+use Rattle.key_index.proofs.Prelude.{sym, arith, needs}
 use Rattle.key_index.specs.Laws.Ring.{slot-low, slot-wraps}
-use borrow.Author.Needs.{needs}
 use Rattle.key_index.proofs.next_slot.Statement.{statement}
 use Rattle.key_index.proofs.next_slot.Tie as tie
 

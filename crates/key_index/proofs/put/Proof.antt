@@ -1,13 +1,9 @@
 -- `key_index::put` meets its contract. The loop's invariant: nothing is written, and no slot passed is free. Assumes nothing.
-use Prim.Native.Nat.{_-_}
-use mathlib.Core.Path.{_≡_, refl}
-use native.Mathlib.Omega.{arith}
-use lib.ListN.{length, length-set}
+use Rattle.key_index.proofs.Prelude.{_-_, _≡_, refl, arith, length, length-set, needs}
 use Rattle.key_index.specs.inner.Ring.{spread}
 use Rattle.key_index.proofs.ScanSteps.{ScannedSlots, begin-past, on}
 use Rattle.key_index.proofs.PutSteps.{put-here, put-none}
 use Rattle.key_index.proofs.WindowSteps.{Taken}
-use borrow.Author.Needs.{needs}
 use Rattle.key_index.proofs.put.Statement.{statement}
 use Rattle.key_index.proofs.put.Tie as tie
 

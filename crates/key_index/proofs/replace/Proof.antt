@@ -1,7 +1,5 @@
 -- `key_index::replace` meets its contract. Assumes nothing.
-use mathlib.Core.Path.{ap}
-use lib.ListN.{set}
-use borrow.Author.Needs.{needs}
+use Rattle.key_index.proofs.Prelude.{ap, set, needs}
 use Rattle.key_index.proofs.replace.Statement.{statement}
 use Rattle.key_index.proofs.replace.Tie as tie
 

@@ -1,9 +1,5 @@
 -- `key_index::row_hash` meets its contract. Assumes nothing.
-use mathlib.Core.Path.{ap, _∙_}
-use mathlib.Core.List.{List}
-use Prim.Native.Nat.{ℕ}
-use native.Mathlib.Omega.{arith}
-use borrow.Author.Needs.{needs}
+use Rattle.key_index.proofs.Prelude.{ℕ, ap, _∙_, List, arith, needs}
 use Rattle.cells.specs.Cells.{compactHash, keyHash}
 use Rattle.key_index.specs.Laws.Places.{Inside, row-inside, key-part}
 use Rattle.key_index.proofs.row_hash.Statement.{statement}

@@ -1,7 +1,6 @@
 -- `key_index::slot_word` meets its contract. Assumes nothing.
-use mathlib.Core.Path.{refl}
+use Rattle.key_index.proofs.Prelude.{refl, needs}
 use Rattle.key_index.specs.inner.Ring.{tagged}
-use borrow.Author.Needs.{needs}
 use Rattle.key_index.proofs.slot_word.Statement.{statement}
 use Rattle.key_index.proofs.slot_word.Tie as tie
 

@@ -1,7 +1,6 @@
 -- `key_index::taken_run` meets its contract. The loop's invariant: of the slots looked at, those before the run's end are taken.
 -- Assumes nothing.
-use native.Mathlib.Omega.{arith}
-use borrow.Author.Needs.{needs}
+use Rattle.key_index.proofs.Prelude.{arith, needs}
 use Rattle.key_index.proofs.WindowSteps.{Taken, Run, run-begin, run-ends, run-on, taken-none, taken-end}
 use Rattle.key_index.proofs.taken_run.Statement.{statement}
 use Rattle.key_index.proofs.taken_run.Tie as tie
