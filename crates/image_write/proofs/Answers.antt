@@ -1,9 +1,5 @@
 -- The ways out of the entry points: refused, or accepted. Assumes nothing.
-use Prim.Native.Nat.{ℕ}
-use mathlib.Core.Path.{_≡_, refl, ap, _∙_}
-use mathlib.Core.List.{List}
-use native.Mathlib.Omega.{arith}
-use lib.ListN.{length}
+use Rattle.image_write.proofs.Prelude.{ℕ, _≡_, refl, ap, _∙_, List, arith, length}
 use Rattle.lists.specs.Lists.{splice}
 use Rattle.refusals.specs.Laws.Replies.{reply-refused, reply-accepted}
 use Rattle.table.specs.declared.Header.{Header}

@@ -1,14 +1,10 @@
 -- `image_write::write_image` meets its contract. Assumes nothing.
-use Prim.Native.Nat.{_+_, _-_}
-use mathlib.Core.Path.{_≡_, sym, _∙_}
-use native.Mathlib.Omega.{arith}
-use lib.ListN.{length}
+use Rattle.image_write.proofs.Prelude.{_+_, _-_, _≡_, sym, _∙_, arith, length, needs}
 use Rattle.image_spec.specs.Image.{imageLength}
 use Rattle.image_spec.specs.Contracts.{writeRefusal}
 use Rattle.image_write.specs.Laws.Bodies.{image-written}
 use Rattle.image_write.specs.Laws.Checks.{length-is, Accepted, write-accepted, accepted-holds}
 use Rattle.image_write.proofs.Answers.{written-refused, written-accepted}
-use borrow.Author.Needs.{needs}
 use Rattle.image_write.proofs.write_image.Statement.{statement}
 use Rattle.image_write.proofs.write_image.Tie as tie
 
@@ -25,9 +21,6 @@ returns : tie.Need-returns
 returns c =
     let a = c .before .before .before .before .before .before .before .args in
     written-refused (a .h) (a .rows .now) (a .sorts .now) (a .pending .now) (a .text .now) (a .output .now) _ (c .before .write-refusal .ensures) (c .if1 .taken)
-
-image-length-requires : tie.Need-image-length-requires
-image-length-requires c κs = let k = accepted c in (k .inside, k .text-short)
 
 write-body-requires : tie.Need-write-body-requires
 write-body-requires c κs =
@@ -65,5 +58,5 @@ pub write-image-spec : {M : Type 1} → statement M
 write-image-spec =
     tie.close
     (tie.spec
-    (λ c κs. search needs) returns image-length-requires write-body-requires sub-write-checksum write-checksum-requires
-    (λ c. search needs) returns-2)
+    (λ c κs. search needs) returns (λ c κs. let k = accepted c in (k .inside, k .text-short)) write-body-requires
+    sub-write-checksum write-checksum-requires (λ c. search needs) returns-2)

@@ -1,9 +1,8 @@
 -- `image_write::write_refusal` meets its contract. Assumes nothing.
-use mathlib.Core.Path.{_≡_, sym, _∙_}
+use Rattle.image_write.proofs.Prelude.{_≡_, sym, _∙_, needs}
 use mathlib.Core.Bool.{false}
 use Rattle.table.specs.Refusing.{pendingOutside, rowsShort}
 use Rattle.image_write.specs.Laws.Checks.{pending-outside-no, write-outside, write-rows, write-sorts, write-long, write-short, write-none}
-use borrow.Author.Needs.{needs}
 use Rattle.image_write.proofs.write_refusal.Statement.{statement}
 use Rattle.image_write.proofs.write_refusal.Tie as tie
 
@@ -15,25 +14,10 @@ inside c = sym (c .before .is-pending-outside .ensures) ∙ c .if1 .left
 rows-long : (c : tie.Else2) → rowsShort (c .before .before .before .before .args .h) (c .before .before .before .before .args .rows) ≡ false
 rows-long c = sym (c .before .is-rows-short .ensures) ∙ c .if2 .left
 
-returns : tie.Need-returns
-returns c = write-outside _ _ _ _ _ _ (sym (c .before .is-pending-outside .ensures) ∙ c .if1 .taken)
-
-is-rows-short-requires : tie.Need-is-rows-short-requires
-is-rows-short-requires c κs = pending-outside-no _ _ (inside c)
-
-returns-2 : tie.Need-returns-2
-returns-2 c = write-rows _ _ _ _ _ _ (inside (c .before .before)) (sym (c .before .is-rows-short .ensures) ∙ c .if2 .taken)
-
-returns-3 : tie.Need-returns-3
-returns-3 c = let d = c .before .before in write-sorts _ _ _ _ _ _ (inside (d .before .before)) (rows-long d) (c .if3 .taken)
-
 returns-4 : tie.Need-returns-4
 returns-4 c =
     let d = c .before .before .before in
     write-long _ _ _ _ _ _ (inside (d .before .before)) (rows-long d) (c .before .if3 .left) (c .if4 .taken)
-
-image-length-requires : tie.Need-image-length-requires
-image-length-requires c κs = (pending-outside-no _ _ (inside (c .before .before .before .before .before)), c .if4 .left)
 
 returns-5 : tie.Need-returns-5
 returns-5 c =
@@ -53,5 +37,10 @@ pub write-refusal-spec : {M : Type 1} → statement M
 write-refusal-spec =
     tie.close
     (tie.spec
-    (λ c κs. search needs) returns is-rows-short-requires returns-2 (λ c. search needs) (λ c. search needs) returns-3 returns-4
-    image-length-requires returns-5 returns-6)
+    (λ c κs. search needs) (λ c. write-outside _ _ _ _ _ _ (sym (c .before .is-pending-outside .ensures) ∙ c .if1 .taken))
+    (λ c κs. pending-outside-no _ _ (inside c))
+    (λ c. write-rows _ _ _ _ _ _ (inside (c .before .before)) (sym (c .before .is-rows-short .ensures) ∙ c .if2 .taken))
+    (λ c. search needs) (λ c. search needs)
+    (λ c. let d = c .before .before in write-sorts _ _ _ _ _ _ (inside (d .before .before)) (rows-long d) (c .if3 .taken))
+    returns-4 (λ c κs. (pending-outside-no _ _ (inside (c .before .before .before .before .before)), c .if4 .left)) returns-5
+    returns-6)

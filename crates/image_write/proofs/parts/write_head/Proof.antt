@@ -1,26 +1,15 @@
 -- `image_write::parts::write_head` meets its contract. Assumes nothing.
-use Prim.Native.Nat.{ℕ}
-use mathlib.Core.Path.{_≡_, ap, _∙_}
-use mathlib.Core.List.{List}
-use native.Mathlib.Omega.{arith}
-use lib.ListN.{length, set, length-set}
+use Rattle.image_write.proofs.Prelude.{ℕ, _≡_, ap, _∙_, List, arith, length, set, length-set, needs}
 use Rattle.lists.specs.Lists.{splice}
 use Rattle.image_write.specs.Laws.Bodies.{length-header, head-written}
-use borrow.Author.Needs.{needs}
 use Rattle.image_write.proofs.parts.write_head.Statement.{statement}
 use Rattle.image_write.proofs.parts.write_head.Tie as tie
-
-slice-write-output-2 : tie.Need-slice-write-output-2
-slice-write-output-2 c = simp length-set (omega arith)
 
 write-row-requires : tie.Need-write-row-requires
 write-row-requires c κs =
     let e = c .before .before in
     let n : length (e .encode-header .result) ≡ 12 = ap length (e .encode-header .ensures) ∙ length-header (e .before .before .args .h) in
     simp length-set (omega (arith, n, e .before .before .pre .1))
-
-same-length : tie.Need-same-length
-same-length c = simp length-set (c .before .before .write-row .kept .0 ∙ simp length-set)
 
 returns : tie.Need-returns
 returns c =
@@ -35,5 +24,6 @@ pub write-head-spec : {M : Type 1} → statement M
 write-head-spec =
     tie.close
     (tie.spec
-    (λ c κs. search needs) (λ c. search needs) slice-write-output-2 (λ c. search needs) write-row-requires (λ c. search needs)
-    (λ c. search needs) same-length returns)
+    (λ c κs. search needs) (λ c. search needs) (λ c. simp length-set (omega arith)) (λ c. search needs) write-row-requires
+    (λ c. search needs) (λ c. search needs) (λ c. simp length-set (c .before .before .write-row .kept .0 ∙ simp length-set))
+    returns)

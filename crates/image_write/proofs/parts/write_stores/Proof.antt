@@ -1,12 +1,8 @@
 -- `image_write::parts::write_stores` meets its contract. Assumes nothing.
-use native.Mathlib.Omega.{arith}
+use Rattle.image_write.proofs.Prelude.{arith, needs}
 use Rattle.image_write.specs.Laws.Bodies.{stores-written}
-use borrow.Author.Needs.{needs}
 use Rattle.image_write.proofs.parts.write_stores.Statement.{statement}
 use Rattle.image_write.proofs.parts.write_stores.Tie as tie
-
-add-write-words : tie.Need-add-write-words
-add-write-words c = omega (arith, c .before .before .before .before .before .before .before .before .before .before .before .before)
 
 add-write-words-2 : tie.Need-add-write-words-2
 add-write-words-2 c = omega (arith, c .before .before .before .before .before .before .before .before .before .before .before .before .before .before .before .before .before)
@@ -29,5 +25,7 @@ write-stores-spec =
     tie.close
     (tie.spec
     (λ c. search needs) (λ c. search needs) (λ c. search needs) (λ c. search needs) (λ c. search needs)
-    (λ c κs. search needs) add-write-words (λ c κs. search needs) (λ c. search needs) add-write-words-2 add-write-words-3
-    (λ c κs. search needs) (λ c. search needs) returns)
+    (λ c κs. search needs)
+    (λ c. omega (arith, c .before .before .before .before .before .before .before .before .before .before .before .before))
+    (λ c κs. search needs) (λ c. search needs) add-write-words-2 add-write-words-3 (λ c κs. search needs) (λ c. search needs)
+    returns)

@@ -1,17 +1,11 @@
 -- `image_write::parts::write_text` meets its contract. The loop's invariant: the first i words of the text are in the output, which is
 -- otherwise as it was. Assumes nothing.
-use Prim.Native.Nat.{ℕ, _+_, _-_, _≤_}
-use mathlib.Core.Path.{_≡_, refl, sym, ap₂, _∙_}
-use mathlib.Core.List.{List}
-use native.Mathlib.Omega.{arith}
-use lib.ListN.{length, take, set, length-set}
-use lib.Seq.{take-length}
+use Rattle.image_write.proofs.Prelude.{ℕ, _+_, _-_, _≤_, _≡_, refl, sym, ap₂, _∙_, List, arith, length, take, set, length-set, needs, take-length}
 use Rattle.lists.specs.Lists.{splice}
 use Rattle.lists.specs.Laws.Parts.{splice-nil}
 use Rattle.image_spec.specs.Image.{packed}
 use Rattle.image_spec.specs.Laws.Unique.{length-packed}
 use Rattle.image_write.specs.Laws.Bodies.{write-step}
-use borrow.Author.Needs.{needs}
 use Rattle.image_write.proofs.parts.write_text.Statement.{statement}
 use Rattle.image_write.proofs.parts.write_text.Tie as tie
 
@@ -20,9 +14,6 @@ Inv-loop text output₀ at words i₀ output i = (i ≤ words) × (length output
 
 abbrev μ-loop : tie.MeasureT-loop
 μ-loop text output₀ at words i₀ output i = words - i
-
-loop-holds : tie.Need-loop-holds Inv-loop μ-loop
-loop-holds c = (search needs, refl, sym (splice-nil _ _))
 
 loop-again : tie.Need-loop-again Inv-loop μ-loop
 loop-again c =
@@ -46,5 +37,6 @@ pub write-text-spec : {M : Type 1} → statement M
 write-text-spec =
     tie.close
     (tie.spec
-    Inv-loop μ-loop (λ c κs. search needs) loop-holds (λ c κs. search needs) (λ c. search needs) (λ c. search needs)
-    (λ c. search needs) (λ c. search needs) (λ c. search needs) loop-again (λ c. search needs) returns)
+    Inv-loop μ-loop (λ c κs. search needs) (λ c. (search needs, refl, sym (splice-nil _ _))) (λ c κs. search needs)
+    (λ c. search needs) (λ c. search needs) (λ c. search needs) (λ c. search needs) (λ c. search needs) loop-again
+    (λ c. search needs) returns)

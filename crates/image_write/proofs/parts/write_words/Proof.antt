@@ -1,14 +1,7 @@
 -- `image_write::parts::write_words` meets its contract. Assumes nothing.
-use mathlib.Core.Path.{_≡_, sym}
-use native.Mathlib.Omega.{arith}
-use lib.ListN.{length, take}
-use lib.Seq.{length-take-le}
-use borrow.Author.Needs.{needs}
+use Rattle.image_write.proofs.Prelude.{_≡_, sym, arith, length, take, needs, length-take-le}
 use Rattle.image_write.proofs.parts.write_words.Statement.{statement}
 use Rattle.image_write.proofs.parts.write_words.Tie as tie
-
-slice-aggregate-write-row : tie.Need-slice-aggregate-write-row
-slice-aggregate-write-row c = sym (length-take-le _ _ (omega arith))
 
 write-row-requires : tie.Need-write-row-requires
 write-row-requires c κs =
@@ -17,4 +10,7 @@ write-row-requires c κs =
     omega (arith, s .pre .1)
 
 pub write-words-spec : {M : Type 1} → statement M
-write-words-spec = tie.close (tie.spec slice-aggregate-write-row write-row-requires (λ c. search needs) (λ c. search needs))
+write-words-spec =
+    tie.close
+    (tie.spec
+    (λ c. sym (length-take-le _ _ (omega arith))) write-row-requires (λ c. search needs) (λ c. search needs))
