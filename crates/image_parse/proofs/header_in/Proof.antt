@@ -5,11 +5,10 @@ use Rattle.image_parse.proofs.ParsingSteps.{header-of}
 use Rattle.image_parse.proofs.header_in.Statement.{statement}
 use Rattle.image_parse.proofs.header_in.Tie as tie
 
-returns : tie.Need-returns
-returns c = c .decode-header .ensures ∙ header-of _
-
 pub header-in-spec : {M : Type 1} → statement M
 header-in-spec =
     tie.close
     (tie.spec
-    (λ c. search needs) (λ c. search needs) (λ c. search needs) (λ c. search needs) (λ c. search needs) (λ c. search needs) (λ c. search needs) (λ c. search needs) (λ c. search needs) (λ c. search needs) (λ c. search needs) (λ c. search needs) (λ c κs. search needs) returns)
+    (λ c. search needs) (λ c. search needs) (λ c. search needs) (λ c. search needs) (λ c. search needs) (λ c. search needs)
+    (λ c. search needs) (λ c. search needs) (λ c. search needs) (λ c. search needs) (λ c. search needs) (λ c. search needs)
+    (λ c κs. search needs) (λ c. c .decode-header .ensures ∙ header-of _))

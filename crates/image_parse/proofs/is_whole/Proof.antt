@@ -6,9 +6,6 @@ use Rattle.image_parse.proofs.ParsingSteps.{whole-other-count, whole-un
 use Rattle.image_parse.proofs.is_whole.Statement.{statement}
 use Rattle.image_parse.proofs.is_whole.Tie as tie
 
-returns : tie.Need-returns
-returns c = let s = c .before .before in whole-other-count _ _ (s .pre .0) (s .pre .1) (c .if1 .taken)
-
 is-filled-requires : tie.Need-is-filled-requires
 is-filled-requires c κs =
     let s = c .before .before in
@@ -29,4 +26,6 @@ pub is-whole-spec : {M : Type 1} → statement M
 is-whole-spec =
     tie.close
     (tie.spec
-    (λ c. search needs) returns is-filled-requires returns-2 slice-aggregate-crc-words (λ c κs. search needs) (λ c. search needs) (λ c. search needs) returns-3)
+    (λ c. search needs) (λ c. let s = c .before .before in whole-other-count _ _ (s .pre .0) (s .pre .1) (c .if1 .taken))
+    is-filled-requires returns-2 slice-aggregate-crc-words (λ c κs. search needs) (λ c. search needs) (λ c. search needs)
+    returns-3)

@@ -8,21 +8,6 @@ use Rattle.image_parse.proofs.ParsingSteps.{parsed-none, parsed-outside
 use Rattle.image_parse.proofs.parse.Statement.{statement}
 use Rattle.image_parse.proofs.parse.Tie as tie
 
-returns : tie.Need-returns
-returns c = parsed-none _ (λ t. omega (arith, t .long, c .if1 .taken))
-
-returns-2 : tie.Need-returns-2
-returns-2 c = parsed-none _ (λ t. c .before .is-marked .ensures .no (not-true _ (c .if2 .taken)) (t .marked))
-
-returns-3 : tie.Need-returns-3
-returns-3 c = parsed-outside _ _ (c .before .before .header-in .ensures) (sym (c .before .is-outside .ensures) ∙ c .if3 .taken)
-
-returns-4 : tie.Need-returns-4
-returns-4 c = parsed-none _ (λ t. omega (arith, t .few, c .if4 .taken))
-
-layout-for-requires : tie.Need-layout-for-requires
-layout-for-requires c κs = (sym (c .before .before .before .is-outside .ensures) ∙ c .before .before .if3 .left, c .if4 .left)
-
 is-whole-requires : tie.Need-is-whole-requires
 is-whole-requires c κs =
     (c .before .before .before .before .before .before .before .before .if1 .left, rw (c .layout-for .ensures) (placed-of _ _ (sym (c .before .before .before .before .is-outside .ensures) ∙ c .before .before .before .if3 .left) (c .before .if4 .left)))
@@ -40,4 +25,10 @@ pub parse-spec : {M : Type 1} → statement M
 parse-spec =
     tie.close
     (tie.spec
-    returns (λ c κs. search needs) returns-2 (λ c κs. search needs) (λ c κs. search needs) returns-3 (λ c. search needs) returns-4 layout-for-requires is-whole-requires returns-5 returns-6)
+    (λ c. parsed-none _ (λ t. omega (arith, t .long, c .if1 .taken))) (λ c κs. search needs)
+    (λ c. parsed-none _ (λ t. c .before .is-marked .ensures .no (not-true _ (c .if2 .taken)) (t .marked)))
+    (λ c κs. search needs) (λ c κs. search needs)
+    (λ c. parsed-outside _ _ (c .before .before .header-in .ensures) (sym (c .before .is-outside .ensures) ∙ c .if3 .taken))
+    (λ c. search needs) (λ c. parsed-none _ (λ t. omega (arith, t .few, c .if4 .taken)))
+    (λ c κs. (sym (c .before .before .before .is-outside .ensures) ∙ c .before .before .if3 .left, c .if4 .left))
+    is-whole-requires returns-5 returns-6)
