@@ -12,7 +12,7 @@ use Rattle.constraints.specs.Encoding.{conditionIn}
 use Rattle.sort_entries.specs.Entries.{entryWords}
 use Rattle.plain_table.specs.Staged.{Opening, insert, removeKey, removeRow}
 use Rattle.plain_table.specs.Refusing.{Lengths, openRefusal}
-use Rattle.plain_table.specs.Plain.{Plain, opened, merged}
+use Rattle.plain_table.specs.Plain.{Plain, opened, added, merged}
 use Rattle.plain_table.specs.Calls.{Call, staging, merging, compacting, clearing, refusal, after}
 use Rattle.table.specs.Stores.{entries, headerOf}
 use Rattle.table.specs.Contracts.{fastSubset}
@@ -52,7 +52,7 @@ queries p number text = printing (replied number text) (some p)
 
 -- "M prints M,status,added,place, stopped or not" (M is 77)
 unfoldable pub mergeText : Plain → List ℕ
-mergeText p = textLine 77 (merged p .status ∷ cond (merged p .added) 1 0 ∷ merged p .place ∷ [])
+mergeText p = textLine 77 (merged p .status ∷ cond (added p) 1 0 ∷ merged p .place ∷ [])
 
 -- "F,0,2 (start, end; or F,none)" (F is 70); the answer is never a list
 unfoldable pub rangeText : Option Subset → List ℕ

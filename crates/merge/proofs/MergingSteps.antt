@@ -120,9 +120,9 @@ pub lendable-emptied : {h : Header} {rows keys sorts live base : List ℕ} → L
 lendable-emptied l =
     record { fits = l .fits; sort-column = l .sort-column; sorts-long = l .sorts-long; live-long = l .live-long; base-long = l .base-long }
 
-module _ (m : MergeProgress) (rows keys sorts live base : List ℕ) where
+module _ (m : MergeProgress) (before : ℕ) (rows keys sorts live base : List ℕ) where
   finish-same : ((pending : List ℕ) (p : Plain) → Represents p (stores (m .header) rows keys sorts pending) → compactsAfter (m .status) p ≡ false)
-      → Finishing m rows keys sorts live base (finishedAs m (withPending (m .header) 0) 0 0) rows keys sorts live base
+      → Finishing m before rows keys sorts live base (finishedAs m before (withPending (m .header) 0) 0 0) rows keys sorts live base
   finish-same same =
       record {
         past = refl;
@@ -132,7 +132,7 @@ module _ (m : MergeProgress) (rows keys sorts live base : List ℕ) where
             let e = same pending p r in
             let z = steps-refl u in
             record {
-              answer = rw e (ap (λ (h : Header). finishedAs m h 0 0) (u .shown .header));
+              answer = rw e (ap (λ (h : Header). finishedAs m before h 0 0) (u .shown .header));
               rows-after = rw e (z .rows-after);
               sorts-after = rw e (z .sorts-after);
               represents = rw e u;
@@ -141,18 +141,18 @@ module _ (m : MergeProgress) (rows keys sorts live base : List ℕ) where
       }
 
   -- the merge stopped
-  pub finish-stopped : (m .status ≡ 0 → ⊥) → Finishing m rows keys sorts live base (finishedAs m (withPending (m .header) 0) 0 0) rows keys sorts live base
+  pub finish-stopped : (m .status ≡ 0 → ⊥) → Finishing m before rows keys sorts live base (finishedAs m before (withPending (m .header) 0) 0 0) rows keys sorts live base
   finish-stopped stopped = finish-same (λ pending p r. stopped-not (m .status) p stopped)
 
   -- no compaction is due
   pub finish-kept : m .status ≡ 0 → compactionDue (m .header .dead) (m .header .rows) (m .header .generation) ≡ false
-      → Finishing m rows keys sorts live base (finishedAs m (withPending (m .header) 0) 0 0) rows keys sorts live base
+      → Finishing m before rows keys sorts live base (finishedAs m before (withPending (m .header) 0) 0 0) rows keys sorts live base
   finish-kept went d = finish-same (λ pending p r. due-not (m .status) p went (rw (r .shown .header) at d))
 
   -- one is
   pub finish-compacted : m .status ≡ 0 → compactionDue (m .header .dead) (m .header .rows) (m .header .generation) ≡ true
       → (h′ : Header) (rows′ keys′ sorts′ live′ base′ : List ℕ) → Compaction (withPending (m .header) 0) rows keys sorts live base h′ rows′ keys′ sorts′ live′ base′
-      → Finishing m rows keys sorts live base (finishedAs m h′ (h′ .rows) (m .header .dead)) rows′ keys′ sorts′ live′ base′
+      → Finishing m before rows keys sorts live base (finishedAs m before h′ (h′ .rows) (m .header .dead)) rows′ keys′ sorts′ live′ base′
   finish-compacted went d h′ rows′ keys′ sorts′ live′ base′ c =
       record {
         past = c .past;
@@ -163,7 +163,7 @@ module _ (m : MergeProgress) (rows keys sorts live base : List ℕ) where
             let x : h′ .rows ≡ liveCount p = ap (λ (h : Header). h .rows) (k .header) ∙ compacted-rows p in
             let y : m .header .dead ≡ dead p = ap (λ (h : Header). h .dead) (r .shown .header) in
             record {
-              answer = rw e (λ i. finishedAs m (k .header i) (x i) (y i));
+              answer = rw e (λ i. finishedAs m before (k .header i) (x i) (y i));
               rows-after = rw e (k .rows-after ∙ compacted-store (unstaged p) _ rows);
               sorts-after = rw e (k .sorts-after);
               represents = rw e (k .represents);
@@ -234,7 +234,7 @@ module _ (h : Header) (rows keys sorts pending live base : List ℕ) where
           })
 
       -- a merge is done
-      pub merge-done : (r : Merge) (rows′ keys′ sorts′ live′ base′ : List ℕ) → Finishing m rows₁ keys₁ sorts₁ live base r rows′ keys′ sorts′ live′ base′
+      pub merge-done : (r : Merge) (rows′ keys′ sorts′ live′ base′ : List ℕ) → Finishing m (h .rows) rows₁ keys₁ sorts₁ live base r rows′ keys′ sorts′ live′ base′
           → Merging (stores h rows keys sorts pending) (compactionWords live base) (Merged r) (body rows′ keys′ sorts′) (compactionWords live′ base′)
       unfolding mergeView
       merge-done r rows′ keys′ sorts′ live′ base′ f =

@@ -49,10 +49,11 @@ fn apply_pending(
     insert_all(without_rows, rows, keys, sorts, pending)
 }
 
-// Empties pending and, unless the merge stopped, drops dead rows if that is due. The rows that a compaction keeps were live, and
-// those that it drops were dead.
+// Empties pending and, unless the merge stopped, drops dead rows if that is due. `before` is the row count before the inserts: a
+// row was appended if there are more rows now. The rows that a compaction keeps were live, and those that it drops were dead.
 fn finish(
     m: MergeProgress,
+    before: u32,
     rows: &mut [u32],
     keys: &mut [u32],
     sorts: &mut [u32],
@@ -60,7 +61,7 @@ fn finish(
     base: &mut [u32],
 ) -> Merge
     requires { ⌜ Lendable (m .header) (now rows) (now keys) (now sorts) (now live) (now base) ⌝ }
-    ensures { λ r. ⌜ Finishing m (now (rows .entry)) (now (keys .entry)) (now (sorts .entry)) (now (live .entry)) (now (base .entry)) r (now (rows .exit)) (now (keys .exit)) (now (sorts .exit)) (now (live .exit)) (now (base .exit)) ⌝ }
+    ensures { λ r. ⌜ Finishing m before (now (rows .entry)) (now (keys .entry)) (now (sorts .entry)) (now (live .entry)) (now (base .entry)) r (now (rows .exit)) (now (keys .exit)) (now (sorts .exit)) (now (live .exit)) (now (base .exit)) ⌝ }
 {
     let mut n = m.header;
     n.pending = 0;
@@ -68,7 +69,7 @@ fn finish(
         header: n,
         status: m.status,
         place: m.place,
-        added: m.added == 1,
+        added: before < m.header.rows,
         kept: 0,
         dropped: 0,
     };
@@ -109,5 +110,5 @@ pub fn merge(
         return MergeAnswer::Refused(refusal);
     }
     let m = apply_pending(h, rows, keys, sorts, pending);
-    MergeAnswer::Merged(finish(m, rows, keys, sorts, live, base))
+    MergeAnswer::Merged(finish(m, h.rows, rows, keys, sorts, live, base))
 }

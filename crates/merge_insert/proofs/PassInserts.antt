@@ -2,9 +2,7 @@
 -- pending records. Assumes nothing.
 use Prim.Native.Nat.{ℕ, _+_, _≤_}
 use mathlib.Core.Path.{_≡_, refl, sym, ap, _∙_}
-use mathlib.Core.Bool.{Bool, true, false}
 use mathlib.Core.List.{List, [], _∷_}
-use mathlib.Core.Option.{none, some}
 use native.Mathlib.Numerals.{add-one}
 use native.Mathlib.Omega.{arith}
 use lib.ListN.{length, take, drop, getD}
@@ -13,6 +11,7 @@ use Rattle.lists.specs.Lists.{filter}
 use Rattle.refusals.specs.Refusals.{refused, accepted}
 use Rattle.plain_table.specs.Staged.{Staged, insert, removeKey, removeRow, wordsOf, inserts}
 use Rattle.plain_table.specs.Plain.{Inserted, inserted, insertAll, Plain, insertion}
+use Rattle.plain_table.specs.Laws.Counts.{insertAll-accepted, insertAll-refused}
 use Rattle.table.specs.declared.Header.{Header}
 use Rattle.merge_insert.specs.declared.MergeProgress.{MergeProgress}
 use Rattle.merge_append.specs.declared.Insertion.{Insertion}
@@ -20,31 +19,26 @@ use Rattle.merge_append.specs.declared.Insertion.the-variants.{Unchanged, Appen
 use Rattle.table.specs.Numbers.{openingOf}
 use Rattle.table.specs.Contracts.{Stores, stores, Represents, SlotsPast}
 use Rattle.merge_pending.specs.inner.Becoming.{Becomes, Recounted, Ready, Waiting, kindOf, RecordLength, ofKind, Remaining, NextRecord}
-use Rattle.merge_insert.specs.inner.Insertions.{hasAdded, InsertedTable, Insertions, FirstInsert, InsertNext, InsertGoes, InsertedNext}
+use Rattle.merge_insert.specs.inner.Insertions.{InsertedTable, Insertions, FirstInsert, InsertNext, InsertGoes, InsertedNext}
 use Rattle.merge_insert.specs.inner.Inserting.{InsertAgrees, Inserting}
 use Rattle.merge_pending.specs.Laws.Steps.{steps-refl, steps-then, waiting-start, words-some, waiting-next, waiting-kind, waiting-hash, waiting-cells, recounted-refl, recounted-capacity, recounted-then, recounted-waiting}
 use Rattle.merge_pending.proofs.PassRecords.{Next, record-long}
 
 -- ---- one insert
 
--- the result of the inserts continues after one that is kept or appended, and ends at one that stops
-goes-kept : (cells : List ℕ) (rest : List Staged) (place : ℕ) (added : Bool) (p : Plain) → insertion cells p ≡ accepted none
-    → insertAll (inserts (insert cells ∷ rest)) place added p ≡ insertAll (inserts rest) (place + 1) added p
-unfolding insertAll inserts
-goes-kept cells rest place added p e = rw (e, add-one place)
+-- the result of the inserts continues after an accepted one, and ends at one that stops
+goes-accepted : (cells : List ℕ) (rest : List Staged) (place : ℕ) (p p′ : Plain) → insertion cells p ≡ accepted p′
+    → insertAll (inserts (insert cells ∷ rest)) place p ≡ insertAll (inserts rest) (place + 1) p′
+unfolding inserts
+goes-accepted cells rest place p p′ e = rw (add-one place) (insertAll-accepted cells (inserts rest) place p p′ e)
 
-goes-appended : (cells : List ℕ) (rest : List Staged) (place : ℕ) (added : Bool) (p p′ : Plain) → insertion cells p ≡ accepted (some p′)
-    → insertAll (inserts (insert cells ∷ rest)) place added p ≡ insertAll (inserts rest) (place + 1) true p′
-unfolding insertAll inserts
-goes-appended cells rest place added p p′ e = rw (e, add-one place)
+goes-stopped : (cells : List ℕ) (rest : List Staged) (place : ℕ) (p : Plain) (n : ℕ) → insertion cells p ≡ refused n
+    → insertAll (inserts (insert cells ∷ rest)) place p ≡ inserted p n place
+unfolding inserts
+goes-stopped cells rest place p n e = insertAll-refused cells (inserts rest) place p n e
 
-goes-stopped : (cells : List ℕ) (rest : List Staged) (place : ℕ) (added : Bool) (p : Plain) (n : ℕ) → insertion cells p ≡ refused n
-    → insertAll (inserts (insert cells ∷ rest)) place added p ≡ inserted p n place added
-unfolding insertAll inserts
-goes-stopped cells rest place added p n e = rw e
-
-abbrev passed : Header → ℕ → ℕ → ℕ → MergeProgress
-passed h status place added = record { header = h; status = status; place = place; added = added }
+abbrev passed : Header → ℕ → ℕ → MergeProgress
+passed h status place = record { header = h; status = status; place = place }
 
 module _ {m : MergeProgress} {rows keys sorts pending : List ℕ} {at : ℕ} (a : InsertNext m rows keys sorts pending at) where
   abbrev Before : Stores
@@ -86,65 +80,65 @@ module _ {m : MergeProgress} {rows keys sorts pending : List ℕ} {at : ℕ} (a 
     same-steps f p t = let u = i .unchanged f in rw (u .0, u .1, u .2) (steps-refl t)
 
     -- it is kept
-    pub inserted-kept : one ≡ Unchanged → InsertedNext m rows keys sorts pending at (passed (m .header) 0 (m .place + 1) (m .added)) rows′ keys′ sorts′
+    pub inserted-kept : one ≡ Unchanged → InsertedNext m rows keys sorts pending at (passed (m .header) 0 (m .place + 1)) rows′ keys′ sorts′
     inserted-kept e =
         record {
           past = i .past;
           header = header-same;
           place-fits = omega arith;
-          table = λ z. an-insert (passed (m .header) 0 (m .place + 1) (m .added)) goes;
+          table = λ z. an-insert (passed (m .header) 0 (m .place + 1)) goes;
         }
       where
         goes : (cells : List ℕ) (rest : List Staged) → Next (m .header) pending at (insert cells) rest → (p : Plain) → Represents p Before
-            → Goes (passed (m .header) 0 (m .place + 1) (m .added)) (insert cells) rest p
+            → Goes (passed (m .header) 0 (m .place + 1)) (insert cells) rest p
         goes cells rest w p t =
             record {
               next = p;
               steps = same-steps (λ h′ q. let z : _≡_ {A = ℕ} 0 1 = cc in omega arith) p t;
-              goes-on = λ z. goes-kept cells rest (m .place) (hasAdded m) p (rw e at (comes w p t));
+              goes-on = λ z. goes-accepted cells rest (m .place) p p (rw e at (comes w p t));
               stops = λ f. absurd (f refl);
             }
 
     -- it is appended
-    pub inserted-appended : (h′ : Header) → one ≡ Appended h′ → InsertedNext m rows keys sorts pending at (passed h′ 0 (m .place + 1) 1) rows′ keys′ sorts′
+    pub inserted-appended : (h′ : Header) → one ≡ Appended h′ → InsertedNext m rows keys sorts pending at (passed h′ 0 (m .place + 1)) rows′ keys′ sorts′
     inserted-appended h′ e =
         record {
           past = i .past;
           header = i .header h′ e;
           place-fits = omega arith;
-          table = λ z. an-insert (passed h′ 0 (m .place + 1) 1) goes;
+          table = λ z. an-insert (passed h′ 0 (m .place + 1)) goes;
         }
       where
         goes : (cells : List ℕ) (rest : List Staged) → Next (m .header) pending at (insert cells) rest → (p : Plain) → Represents p Before
-            → Goes (passed h′ 0 (m .place + 1) 1) (insert cells) rest p
+            → Goes (passed h′ 0 (m .place + 1)) (insert cells) rest p
         goes cells rest w p t =
             let x = rw e at (comes w p t) in
             record {
               next = x .0;
               steps = x .2;
-              goes-on = λ z. goes-appended cells rest (m .place) (hasAdded m) p (x .0) (x .1);
+              goes-on = λ z. goes-accepted cells rest (m .place) p (x .0) (x .1);
               stops = λ f. absurd (f refl);
             }
 
     -- it stops the merge
-    pub inserted-stopped : (n : ℕ) → one ≡ Stopped n → InsertedNext m rows keys sorts pending at (passed (m .header) n (m .place) (m .added)) rows′ keys′ sorts′
+    pub inserted-stopped : (n : ℕ) → one ≡ Stopped n → InsertedNext m rows keys sorts pending at (passed (m .header) n (m .place)) rows′ keys′ sorts′
     inserted-stopped n e =
         record {
           past = i .past;
           header = header-same;
           place-fits = omega arith;
-          table = λ z. an-insert (passed (m .header) n (m .place) (m .added)) goes;
+          table = λ z. an-insert (passed (m .header) n (m .place)) goes;
         }
       where
         goes : (cells : List ℕ) (rest : List Staged) → Next (m .header) pending at (insert cells) rest → (p : Plain) → Represents p Before
-            → Goes (passed (m .header) n (m .place) (m .added)) (insert cells) rest p
+            → Goes (passed (m .header) n (m .place)) (insert cells) rest p
         goes cells rest w p t =
             let x = rw e at (comes w p t) in
             record {
               next = p;
               steps = same-steps (λ h′ q. let z : _≡_ {A = ℕ} 0 1 = cc in omega arith) p t;
               goes-on = λ z. absurd (omega (arith, x .1));
-              stops = λ f. goes-stopped cells rest (m .place) (hasAdded m) p n (x .0);
+              stops = λ f. goes-stopped cells rest (m .place) p n (x .0);
             }
 
 -- ---- where the pass begins
@@ -187,7 +181,7 @@ pub record Inserts (at : ℕ) (m : MergeProgress) (p : Plain) (s s′ : Stores) 
   pub now : Plain
   pub rest : List Staged
   pub waiting : Waiting (openingOf (s .header)) (s .pending) (s .header .pending) at rest
-  pub same : insertAll (inserts (p .staged)) 0 false p ≡ insertAll (inserts rest) (m .place) (hasAdded m) now
+  pub same : insertAll (inserts (p .staged)) 0 p ≡ insertAll (inserts rest) (m .place) now
   pub steps : Becomes p now s s′
 
 -- the loop's invariant
@@ -224,7 +218,7 @@ module _ {h : Header} {rows keys sorts pending : List ℕ} (a : Ready h rows key
   abbrev Start : Stores
   Start = stores h rows keys sorts pending
 
-  pub filling-begin : {at words : ℕ} → FirstInsert h pending at → RecordLength h pending at words → Filling h rows keys sorts pending rows keys sorts (passed h 0 0 0) at words
+  pub filling-begin : {at words : ℕ} → FirstInsert h pending at → RecordLength h pending at words → Filling h rows keys sorts pending rows keys sorts (passed h 0 0) at words
   filling-begin f l =
       record {
         here = l;
@@ -239,7 +233,7 @@ module _ {h : Header} {rows keys sorts pending : List ℕ} (a : Ready h rows key
         past = refl;
         table = λ p t.
             let x = f .left (p .staged) (waiting-start t) in
-            let same = ap (λ (cells : List (List ℕ)). insertAll cells 0 false p) (inserts-left x) in
+            let same = ap (λ (cells : List (List ℕ)). insertAll cells 0 p) (inserts-left x) in
             record { now = p; rest = x .left; waiting = x .waiting; same = same; steps = steps-refl t };
       }
 
@@ -280,8 +274,8 @@ module _ {h : Header} {rows keys sorts pending : List ℕ} (a : Ready h rows key
           pub next : Plain
           pub waiting : Waiting (openingOf h) pending (h .pending) (at + words) rest
           pub steps : Becomes p next Start (stores (r .header) rows″ keys″ sorts″ pending)
-          pub goes-on : r .status ≡ 0 → insertAll (inserts (p .staged)) 0 false p ≡ insertAll (inserts rest) (r .place) (hasAdded r) next
-          pub stops : (r .status ≡ 0 → ⊥) → insertAll (inserts (p .staged)) 0 false p ≡ inserted next (r .status) (r .place) (hasAdded r)
+          pub goes-on : r .status ≡ 0 → insertAll (inserts (p .staged)) 0 p ≡ insertAll (inserts rest) (r .place) next
+          pub stops : (r .status ≡ 0 → ⊥) → insertAll (inserts (p .staged)) 0 p ≡ inserted next (r .status) (r .place)
 
         iteration : (p : Plain) → Represents p Start → Iteration p
         iteration p t = go (v .table p t .rest) refl
@@ -293,7 +287,7 @@ module _ {h : Header} {rows keys sorts pending : List ℕ} (a : Ready h rows key
                 let w : Next h pending at first rest = rw e at (g .waiting) in
                 let n : words ≡ wordsOf (openingOf h) first = v .here .next first rest w in
                 let x = one .table (v .going) first rest (recounted-waiting (v .header) w) (g .now) (g .steps .represents) in
-                let q : insertAll (inserts (p .staged)) 0 false p ≡ insertAll (inserts (first ∷ rest)) (m .place) (hasAdded m) (g .now) = rw (← e) (g .same) in
+                let q : insertAll (inserts (p .staged)) 0 p ≡ insertAll (inserts (first ∷ rest)) (m .place) (g .now) = rw (← e) (g .same) in
                 record {
                   rest = rest;
                   next = x .next;
@@ -336,24 +330,22 @@ module _ {h : Header} {rows keys sorts pending : List ℕ} (a : Ready h rows key
                     steps = rw q (x .steps);
                     status = sym (ap (λ (y : Inserted). y .status) q);
                     place = sym (ap (λ (y : Inserted). y .place) q);
-                    added = sym (ap (λ (y : Inserted). y .added) q);
                   };
             }
 
     -- no record is left
-    pub filling-end : words ≡ 0 → Insertions h rows keys sorts pending (passed (m .header) (m .status) 0 (m .added)) rows′ keys′ sorts′
+    pub filling-end : words ≡ 0 → Insertions h rows keys sorts pending (passed (m .header) (m .status) 0) rows′ keys′ sorts′
     filling-end z = record { past = v .past; header = v .header; table = λ p t. done p t (v .table p t .rest) refl }
       where
         done : (p : Plain) (t : Represents p Start) (l : List Staged) → v .table p t .rest ≡ l
-            → InsertedTable p Start (stores (m .header) rows′ keys′ sorts′ pending) (passed (m .header) (m .status) 0 (m .added))
+            → InsertedTable p Start (stores (m .header) rows′ keys′ sorts′ pending) (passed (m .header) (m .status) 0)
         done p t [] e =
             let g = v .table p t in
-            let q : insertAll (inserts (p .staged)) 0 false p ≡ inserted (g .now) 0 0 (hasAdded m) = g .same ∙ rw e (unfold inserts insertAll in refl) in
+            let q : insertAll (inserts (p .staged)) 0 p ≡ inserted (g .now) 0 0 = g .same ∙ rw e (unfold inserts insertAll in refl) in
             record {
               steps = rw q (g .steps);
               status = v .going ∙ sym (ap (λ (y : Inserted). y .status) q);
               place = sym (ap (λ (y : Inserted). y .place) q);
-              added = sym (ap (λ (y : Inserted). y .added) q);
             }
         done p t (first ∷ rest) e =
             let w : Next h pending at first rest = rw e at (v .table p t .waiting) in

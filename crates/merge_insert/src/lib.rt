@@ -12,14 +12,11 @@ use table::INSERT;
 
 mod row; // row.rt: one insert
 
-// The result of the passes over the pending records: the answer of a merge, before the compaction that may follow. `added` is 1 if
-// a row was appended. It is not a bool, because a struct with a bool is copied byte by byte, and this one is copied in each
-// iteration of a loop.
+// The result of the passes over the pending records, before the compaction that may follow.
 pub struct MergeProgress {
     pub header: Header,
     pub status: u32,
     pub place: u32,
-    pub added: u32,
 }
 
 // The place where a pass over the inserts starts: the first record or, if that is a removal, behind all records of its kind that
@@ -69,7 +66,6 @@ fn insert_next(
             r.header = next;
             r.status = 0;
             r.place = m.place + 1;
-            r.added = 1;
             r
         }
         Insertion::Stopped(number) => {
@@ -94,7 +90,6 @@ pub fn insert_all(
         header: h,
         status: 0,
         place: 0,
-        added: 0,
     };
     let mut at = first_place(h, pending);
     let mut words = record_length(h, pending, at);

@@ -15,7 +15,7 @@ use Rattle.constraints.specs.declared.Constraint.{Constraint}
 use Rattle.row_buffer.specs.Ranks.{setBelow, liveWord, newNumber}
 use Rattle.sort_entries.specs.Entries.{entry, fastRange}
 use Rattle.plain_table.specs.Staged.{insert}
-use Rattle.plain_table.specs.Plain.{Inserted, Plain, opened, stage, merged, compacted}
+use Rattle.plain_table.specs.Plain.{Plain, opened, stage, added, merged, compacted}
 use Rattle.table.specs.Stores.{headerOf}
 use Rattle.query_spec.specs.Queries.{refineOneReply, refineListReply, pageIds, pageReply}
 
@@ -48,19 +48,20 @@ rowsAfter dead count = length (merged (tableOf count (leb dead)) .table .rows)
 abbrev pub threeLive : Plain
 threeLive = tableOf 6 (λ i. elem i (0 ∷ 2 ∷ 5 ∷ []))
 
--- a merge of one insert (columns: key, level, stamp; rule 1) into a table with the row 1, 5, 12
-abbrev pub secondMerge : List ℕ → Inserted
-secondMerge cells =
+-- a table with the row 1, 5, 12 and this insert staged (columns: key, level, stamp; rule 1)
+abbrev pub oneStaged : List ℕ → Plain
+oneStaged cells =
     let empty = opened (record { columns = 3; keys = 1; sort = 2; rule = 1; capacity = 100 }) 0 in
-    merged (stage (merged (stage empty (insert (1 ∷ 5 ∷ 12 ∷ []))) .table) (insert cells))
+    stage (merged (stage empty (insert (1 ∷ 5 ∷ 12 ∷ []))) .table) (insert cells)
 
--- its status, *added*, and the rows after it, all of them live
+-- the status of its merge, *added*, and the rows after it, all of them live
 abbrev pub Merges : List ℕ → ℕ → Bool → List (List ℕ) → Type 0
-Merges cells status added rows =
-    (secondMerge cells .status ≡ status)
-    × (secondMerge cells .place ≡ 0)
-    × (secondMerge cells .added ≡ added)
-    × (secondMerge cells .table .rows ≡ map (λ cells. record { live = true; cells = cells }) rows)
+Merges cells status more rows =
+    let p = oneStaged cells in
+    (merged p .status ≡ status)
+    × (merged p .place ≡ 0)
+    × (added p ≡ more)
+    × (merged p .table .rows ≡ map (λ cells. record { live = true; cells = cells }) rows)
 
 pub record PaperExamples : Type 0 where
   -- "Hash 144115188075855872 compacts to 33554432"

@@ -121,50 +121,49 @@ abbrev pub withRow : Plain → List Row → List ℕ → Plain
 withRow p rows cells =
     with p (p .generation) (rows ++ (record { live = true; cells = cells } ∷ [])) (p .staged) (some (raised (getD cells (p .opening .sort) 0) (p .largest)))
 
--- The result of an insert: `refused` with the number that stops the merge, or `accepted` with the table that has one more row, or
--- with none if nothing changes.
+-- The result of an insert: `refused` with the number that stops the merge, or `accepted` with the table after it.
 
 -- appends a row to these rows, unless that stops
-unfoldable pub append : List ℕ → Plain → List Row → Reply (Option Plain)
-append cells p rows = reply (stop cells p) (some (withRow p rows cells))
+unfoldable pub append : List ℕ → Plain → List Row → Reply Plain
+append cells p rows = reply (stop cells p) (withRow p rows cells)
 
 -- "A new key is appended. A known key goes through the rule; a row so made is appended and the old row dies"
-unfoldable pub upsert : List ℕ → Option Numbered → Plain → Reply (Option Plain)
+unfoldable pub upsert : List ℕ → Option Numbered → Plain → Reply Plain
 upsert cells none p = append cells p (p .rows)
 upsert cells (some old) p =
     elim (ruled (p .opening .rule) (p .opening .keys) (p .opening .sort) (old .cells) cells) [
-      | none ↦ accepted none
+      | none ↦ accepted p
       | some row ↦ append row p (killIf (liveWithKey (p .opening .keys) (take (p .opening .keys) cells)) (p .rows))
     ]
 
-unfoldable pub insertion : List ℕ → Plain → Reply (Option Plain)
-insertion cells p = cond (skipped cells) (accepted none) (upsert cells (lookup p (take (p .opening .keys) cells)) p)
+unfoldable pub insertion : List ℕ → Plain → Reply Plain
+insertion cells p = cond (skipped cells) (accepted p) (upsert cells (lookup p (take (p .opening .keys) cells)) p)
 
--- the result of a merge's inserts: the table, the stop's number and place ("both 0 if not stopped"), and "*added*: a row was
--- appended"
+-- the result of a merge's inserts: the table, and the stop's number and place ("both 0 if not stopped")
 pub record Inserted : Type 0 where
   pub table : Plain
   pub status : ℕ
   pub place : ℕ
-  pub added : Bool
 
-abbrev pub inserted : Plain → ℕ → ℕ → Bool → Inserted
-inserted p status place added = record { table = p; status = status; place = place; added = added }
-
--- continues with the remaining inserts, or stops the merge at this place
-abbrev pub continueInserts : Reply (Option Plain) → ℕ → Bool → Plain → (Bool → Plain → Inserted) → Inserted
-continueInserts (refused number) place added p rest = inserted p number place added
-continueInserts (accepted none) place added p rest = rest added p
-continueInserts (accepted (some p′)) place added p rest = rest true p′
+abbrev pub inserted : Plain → ℕ → ℕ → Inserted
+inserted p status place = record { table = p; status = status; place = place }
 
 -- the inserts from this place on, counted "among all staged inserts from 0", until one must be appended and cannot be
-unfoldable pub insertAll : List (List ℕ) → ℕ → Bool → Plain → Inserted
-insertAll [] place added p = inserted p 0 0 added
-insertAll (cells ∷ rest) place added p = continueInserts (insertion cells p) place added p (insertAll rest (suc place))
+unfoldable pub insertAll : List (List ℕ) → ℕ → Plain → Inserted
+insertAll [] place p = inserted p 0 0
+insertAll (cells ∷ rest) place p =
+    elim (insertion cells p) [
+      | refused number ↦ inserted p number place
+      | accepted p′ ↦ insertAll rest (suc place) p′
+    ]
 
 -- ".. then inserts"
 unfoldable pub applied : Plain → Inserted
-applied p = insertAll (inserts (p .staged)) 0 false (removed p)
+applied p = insertAll (inserts (p .staged)) 0 (removed p)
+
+-- "*added*: a row was appended": there are more rows than before
+unfoldable pub added : Plain → Bool
+added p = ltb (length (p .rows)) (length (applied p .table .rows))
 
 -- Compaction: "drops them and the others close up in order", "the generation rises by one"
 unfoldable pub compacted : Plain → Plain
@@ -181,7 +180,7 @@ compactsAfter status p = eqb status 0 && compactionDue (dead p) (length (p .rows
 unfoldable pub merged : Plain → Inserted
 merged p =
     let m = applied p in
-    inserted (cond (compactsAfter (m .status) (m .table)) (compacted (unstaged (m .table))) (unstaged (m .table))) (m .status) (m .place) (m .added)
+    inserted (cond (compactsAfter (m .status) (m .table)) (compacted (unstaged (m .table))) (unstaged (m .table))) (m .status) (m .place)
 
 -- (change 9) "how many rows its own compaction kept, 0 if there was none, and how many it dropped": the live and the dead rows
 -- before that compaction

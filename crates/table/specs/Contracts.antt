@@ -16,7 +16,7 @@ use Rattle.sort_entries.specs.Entries.{entriesOf, entriesSound, fastRange}
 use Rattle.key_index.specs.Slots.{KeysSound}
 use Rattle.plain_table.specs.Staged.{Opening, Staged, wordsOf}
 use Rattle.plain_table.specs.Refusing.{Lengths, storesShort, openRefusal}
-use Rattle.plain_table.specs.Plain.{Plain, lookup, opened, applied, merged, mergeKeeps, mergeDrops, compacted, cleared}
+use Rattle.plain_table.specs.Plain.{Plain, lookup, opened, applied, added, merged, mergeKeeps, mergeDrops, compacted, cleared}
 use Rattle.plain_table.specs.Proper.{Proper}
 use Rattle.table.specs.declared.Header.{Header}
 use Rattle.table.specs.declared.TableAnswer.{TableAnswer}
@@ -133,7 +133,7 @@ mergeOf p =
       header = headerOf (merged p .table);
       status = merged p .status;
       place = merged p .place;
-      added = merged p .added;
+      added = added p;
       kept = mergeKeeps p;
       dropped = mergeDrops p;
     }

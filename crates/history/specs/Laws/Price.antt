@@ -11,7 +11,7 @@ use Rattle.refusals.specs.Laws.Replies.{some-number, ruled-refused}
 use Rattle.plain_table.specs.Plain.{Plain, opened, stage, dead, mergeKeeps, mergeDrops}
 use Rattle.plain_table.specs.Refusing.{storesShort, wordsShort, compactChecks}
 use Rattle.plain_table.specs.Calls.{merging, compacting, clearing, stageAll, refusal, done, after, LentCall, afterAll}
-use Rattle.plain_table.specs.Appending.{mergeCount, acceptedMergeCount, sumOverMerges, mergeAdds}
+use Rattle.plain_table.specs.Appending.{byKind, byCall, mergeCount, sumOverMerges, mergeAdds}
 use Rattle.plain_table.specs.Laws.Calls.{refused-nothing, accepted-done}
 use Rattle.plain_table.specs.Laws.Price.{live-dead, compacted-live, merged-rows, merged-price}
 use Rattle.table.specs.declared.Header.{Header}
@@ -34,25 +34,25 @@ use Rattle.history.specs.Laws.Calls.{step-represents, opened-represents,
 
 -- its counts are those of the definition, and each row that existed before it or was appended by it is left, dropped or emptied
 record Balanced (p : Plain) (c : LentCall) (w : Wear) : Type 0 where
-  kept : w .kept ≡ acceptedMergeCount mergeKeeps p c
-  dropped : w .dropped ≡ acceptedMergeCount mergeDrops p c
+  kept : w .kept ≡ mergeCount mergeKeeps p c
+  dropped : w .dropped ≡ mergeCount mergeDrops p c
   fewer : w .kept ≤ w .dropped
-  rows : length (p .rows) + acceptedMergeCount mergeAdds p c ≡ length (after p (c .lengths) (c .call) .rows) + (w .dropped + w .compacted) + w .emptied
+  rows : length (p .rows) + mergeCount mergeAdds p c ≡ length (after p (c .lengths) (c .call) .rows) + (w .dropped + w .compacted) + w .emptied
 
 -- a refused call counts nothing
 refused-balanced : (p : Plain) (c : LentCall) → 0 < refusal p (c .lengths) (c .call) → Balanced p c (wear 0 0 0 0)
-unfolding acceptedMergeCount
+unfolding mergeCount byCall
 refused-balanced p c h =
     let e = ne-eqb (refusal p (c .lengths) (c .call)) 0 (λ q. omega arith) in
     record { kept = rw e; dropped = rw e; fewer = omega arith; rows = rw (refused-nothing p (c .lengths) (c .call) h, e) (omega arith) }
 
 module _ (p : Plain) (c : LentCall) (z : refusal p (c .lengths) (c .call) ≡ 0) where
-  accepted-of : (number : Plain → ℕ) → acceptedMergeCount number p c ≡ mergeCount number p (c .call)
-  unfolding acceptedMergeCount
+  accepted-of : (number : Plain → ℕ) → mergeCount number p c ≡ byKind (c .call) (number p) 0 0
+  unfolding mergeCount byCall
   accepted-of number = rw (eq-eqb (refusal p (c .lengths) (c .call)) 0 z)
 
-  done-balanced : (w : Wear) → w .kept ≡ mergeCount mergeKeeps p (c .call) → w .dropped ≡ mergeCount mergeDrops p (c .call) → w .kept ≤ w .dropped
-      → length (p .rows) + mergeCount mergeAdds p (c .call) ≡ length (done p (c .call) .rows) + (w .dropped + w .compacted) + w .emptied → Balanced p c w
+  done-balanced : (w : Wear) → w .kept ≡ byKind (c .call) (mergeKeeps p) 0 0 → w .dropped ≡ byKind (c .call) (mergeDrops p) 0 0 → w .kept ≤ w .dropped
+      → length (p .rows) + byKind (c .call) (mergeAdds p) 0 0 ≡ length (done p (c .call) .rows) + (w .dropped + w .compacted) + w .emptied → Balanced p c w
   done-balanced w k d f q =
       record {
         kept = rw (accepted-of mergeKeeps) k;
@@ -62,7 +62,7 @@ module _ (p : Plain) (c : LentCall) (z : refusal p (c .lengths) (c .call) ≡ 0)
       }
 
 -- a call that is no merge and leaves the row count unchanged counts nothing
-staged-balanced : (p : Plain) (c : LentCall) → ((number : Plain → ℕ) → mergeCount number p (c .call) ≡ 0) → length (done p (c .call) .rows) ≡ length (p .rows)
+staged-balanced : (p : Plain) (c : LentCall) → ((number : Plain → ℕ) → byKind (c .call) (number p) 0 0 ≡ 0) → length (done p (c .call) .rows) ≡ length (p .rows)
     → Balanced p c (wear 0 0 0 0)
 staged-balanced p c none e =
     elim (some-number (refusal p (c .lengths) (c .call))) [
@@ -92,7 +92,7 @@ clearing-wears s h = wear 0 0 0 (s .header .rows)
 module _ {p : Plain} (s : Stores) (rest : Body) (more : List ℕ) (r : Represents p (behind s rest more)) where
   merged-balanced : (w : CompactionWords) (answer : MergeAnswer) (b′ : Body) (w′ : CompactionWords) → Merging s w answer b′ w′
       → Balanced p (record { call = merging; lengths = lengthsLent s w }) (counted (mergeView answer) merging-wears)
-  unfolding done mergeCount
+  unfolding done byKind
   merged-balanced w answer b′ w′ m =
       let c : LentCall = record { call = merging; lengths = lengthsLent s w } in
       let n : ℕ = mergeRefusal (s .header) (lengthsLent s w) in
@@ -108,7 +108,7 @@ module _ {p : Plain} (s : Stores) (rest : Body) (more : List ℕ) (r : Represent
 
   compacted-balanced : (w : CompactionWords) (answer : TableAnswer) (b′ : Body) (w′ : CompactionWords) → Compacting (s .header) (bodyOf s) w answer b′ w′
       → Balanced p (record { call = compacting; lengths = lengthsLent s w }) (counted (tableView answer) (compacting-wears s))
-  unfolding done mergeCount
+  unfolding done byKind
   compacted-balanced w answer b′ w′ m =
       let c : LentCall = record { call = compacting; lengths = lengthsLent s w } in
       -- the pending store is not lent, and the checks do not read it
@@ -125,7 +125,7 @@ module _ {p : Plain} (s : Stores) (rest : Body) (more : List ℕ) (r : Represent
 
   cleared-balanced : (answer : TableAnswer) (keys′ : List ℕ) → Clearing (s .header) (s .keys) answer keys′
       → Balanced p (record { call = clearing; lengths = lengthsLent s (compactionWords [] []) }) (counted (tableView answer) (clearing-wears s))
-  unfolding done mergeCount
+  unfolding done byKind
   cleared-balanced answer keys′ m =
       let l = lengthsLent s (compactionWords [] []) in
       let c : LentCall = record { call = clearing; lengths = l } in
@@ -141,7 +141,7 @@ module _ {p : Plain} (s : Stores) (rest : Body) (more : List ℕ) (r : Represent
       ]
 
   called-balanced : {c : LentCall} {t : Stores} (call : Called s c t) → Balanced p c (wearOfCall call)
-  unfolding wearOfCall done mergeCount stage stageAll
+  unfolding wearOfCall done byKind stage stageAll
   called-balanced (stages q answer pending′ m) = staged-balanced p _ (λ number. refl) refl
   called-balanced (merges w answer b′ w′ m) = merged-balanced w answer b′ w′ m
   called-balanced (compacts w answer b′ w′ m) = compacted-balanced w answer b′ w′ m

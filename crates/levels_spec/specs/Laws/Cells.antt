@@ -19,7 +19,7 @@ use Rattle.plain_table.specs.Calls.{Call, refusal, done, after}
 use Rattle.plain_table.specs.Proper.{rowOf}
 use Rattle.plain_table.specs.Laws.Lookup.{lookup-at}
 use Rattle.plain_table.specs.Laws.Rows.{noRow, Thinned, killIf-thinned, dies-thinned, filter-thinned, thinned-all}
-use Rattle.plain_table.specs.Laws.Counts.{Appended, new, again, insertion-appended, removed-keeps, insertAll-keeps}
+use Rattle.plain_table.specs.Laws.Counts.{Appended, new, again, removed-keeps, insertAll-keeps}
 use Rattle.listing_spec.specs.Listings.{areNumbers}
 use Rattle.listing_write.specs.Laws.Listed.{liveFits}
 
@@ -86,7 +86,7 @@ removed-fits p h =
 applied-fits : {p : Plain} → Fits p → Fits (applied p .table)
 unfolding applied
 applied-fits {p} h =
-    insertAll-keeps Fits areNumbers (λ cells t t′ f k q. appended-fits k f (insertion-appended cells t t′ q)) (inserts (p .staged)) (h .staged) 0 false (removed p) (removed-fits p h)
+    insertAll-keeps Fits areNumbers (λ cells t t′ f k a. appended-fits k f a) (inserts (p .staged)) (h .staged) 0 (removed p) (removed-fits p h)
 
 none-staged : all areNumbers (inserts []) ≡ true
 unfolding inserts all

@@ -10,7 +10,7 @@ use Rattle.constraints.specs.Constraints.{known}
 use Rattle.sort_entries.specs.Entries.{entriesOf, entryWords, lastPasses, push, pushAll, rebuilt, firstRow, fastRange}
 use Rattle.plain_table.specs.Staged.{openable, wordsOf, wordsAll, inserts, hasKey, skipped, compactionDue}
 use Rattle.plain_table.specs.Refusing.{storesShort, wordsShort, wrongWidth, noSuchRow, overfull, openRefusal, stageChecks, mergeChecks}
-use Rattle.plain_table.specs.Plain.{liveFrom, liveRows, lookup, dead, opened, stage, liveWithKey, killIf, withoutKey, withoutRow, removed, below, stop, raised, append, upsert, insertion, insertAll, applied, compacted, unstaged, compactsAfter, merged}
+use Rattle.plain_table.specs.Plain.{liveFrom, liveRows, lookup, dead, opened, stage, liveWithKey, killIf, withoutKey, withoutRow, removed, below, stop, raised, append, upsert, insertion, insertAll, applied, added, compacted, unstaged, compactsAfter, merged}
 use Rattle.plain_table.specs.Calls.{refusal, done, after}
 use Rattle.table.specs.Stores.{entries}
 use Rattle.table.specs.Contracts.{fastSubset}
@@ -48,5 +48,5 @@ output =
     ∷ []
 
 pub example : printed input ≡ output
-unfolding printed session linesIn prependToFirst input output flatten all same count filter iota find firstRefusal reply isDead ruledColumn signed smaller larger taken madeCell madeFrom changesFrom ruled known lastPasses push pushAll rebuilt any firstRow fastRange entriesOf entryWords openable wordsOf wordsAll inserts hasKey skipped compactionDue storesShort wordsShort wrongWidth noSuchRow overfull openRefusal stageChecks mergeChecks liveFrom liveRows lookup dead opened stage liveWithKey killIf withoutKey withoutRow removed below stop raised append upsert insertion insertAll applied compacted unstaged compactsAfter merged refusal done after entries fields valueFrom isDecimal isLine letter numbers isBare isForm ofForms digitsIn decimal field textLine replied openNumber opens calls queries mergeText fastSubset rangeText versionText listText listingText headLetter headNumbers rowFields tableListing served onTable result lineResult
+unfolding printed session linesIn prependToFirst input output flatten all same count filter iota find firstRefusal reply isDead ruledColumn signed smaller larger taken madeCell madeFrom changesFrom ruled known lastPasses push pushAll rebuilt any firstRow fastRange entriesOf entryWords openable wordsOf wordsAll inserts hasKey skipped compactionDue storesShort wordsShort wrongWidth noSuchRow overfull openRefusal stageChecks mergeChecks liveFrom liveRows lookup dead opened stage liveWithKey killIf withoutKey withoutRow removed below stop raised append upsert insertion insertAll applied added compacted unstaged compactsAfter merged refusal done after entries fields valueFrom isDecimal isLine letter numbers isBare isForm ofForms digitsIn decimal field textLine replied openNumber opens calls queries mergeText fastSubset rangeText versionText listText listingText headLetter headNumbers rowFields tableListing served onTable result lineResult
 example = refl

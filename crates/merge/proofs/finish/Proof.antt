@@ -8,10 +8,10 @@ use Rattle.merge.proofs.finish.Statement.{statement}
 use Rattle.merge.proofs.finish.Tie as tie
 
 returns : tie.Need-returns
-returns c = finish-stopped _ _ _ _ _ _ (c .if1 .taken)
+returns c = finish-stopped _ _ _ _ _ _ _ (c .if1 .taken)
 
 returns-2 : tie.Need-returns-2
-returns-2 c = finish-kept _ _ _ _ _ _ (c .before .before .if1 .left) (sym (c .before .is-due .ensures) ∙ not-true _ (c .if2 .taken))
+returns-2 c = finish-kept _ _ _ _ _ _ _ (c .before .before .if1 .left) (sym (c .before .is-due .ensures) ∙ not-true _ (c .if2 .taken))
 
 compact-rows-requires : tie.Need-compact-rows-requires
 compact-rows-requires c κs =
@@ -20,7 +20,7 @@ compact-rows-requires c κs =
 
 returns-3 : tie.Need-returns-3
 returns-3 c =
-    finish-compacted _ _ _ _ _ _ (c .before .before .before .before .before .before .before .before .before .before .before .before .before .before .before .before .before .before .if1 .left) (sym (c .before .before .before .before .before .before .before .before .before .before .before .before .before .before .before .before .before .is-due .ensures) ∙ not-false _ (c .before .before .before .before .before .before .before .before .before .before .before .before .before .before .before .before .if2 .left)) _ _ _ _ _ _ (c .before .before .before .before .before .before .before .before .before .before .compact-rows .ensures)
+    finish-compacted _ _ _ _ _ _ _ (c .before .before .before .before .before .before .before .before .before .before .before .before .before .before .before .before .before .before .if1 .left) (sym (c .before .before .before .before .before .before .before .before .before .before .before .before .before .before .before .before .before .is-due .ensures) ∙ not-false _ (c .before .before .before .before .before .before .before .before .before .before .before .before .before .before .before .before .if2 .left)) _ _ _ _ _ _ (c .before .before .before .before .before .before .before .before .before .before .compact-rows .ensures)
 
 pub finish-spec : {M : Type 1} → statement M
 finish-spec =

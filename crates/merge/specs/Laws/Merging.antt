@@ -5,13 +5,14 @@ use mathlib.Core.Path.{_≡_, sym, ap, ap₂, _∙_}
 use mathlib.Core.Bool.{true, false, cond}
 use mathlib.Core.List.{List, [], foldl}
 use native.Mathlib.Omega.{arith}
+use lib.Dec.{ltb}
 use lib.ListN.{length}
 use borrow.Author.Tests.{eq-eqb, ne-eqb}
 use Rattle.refusals.specs.Refusals.{accepted}
 use Rattle.lists.specs.Lists.{splice, flatten}
 use Rattle.lists.specs.Laws.Filter.{all-filter}
 use Rattle.plain_table.specs.Staged.{Staged, compactionDue, inserts}
-use Rattle.plain_table.specs.Plain.{Inserted, insertAll, Plain, dead, withoutRow, removed, applied, live as liveCount, compacted, unstaged, compactsAfter, merged, mergeKeeps, mergeDrops}
+use Rattle.plain_table.specs.Plain.{Inserted, insertAll, Plain, dead, withoutRow, removed, applied, added, live as liveCount, compacted, unstaged, compactsAfter, merged, mergeKeeps, mergeDrops}
 use Rattle.table.specs.declared.Header.{Header}
 use Rattle.plain_table.specs.Laws.Price.{compacted-live}
 use Rattle.table.specs.declared.Merge.{Merge}
@@ -25,6 +26,7 @@ use Rattle.merge_insert.specs.inner.Insertions.{InsertedTable}
 use Rattle.merge_remove.specs.inner.Removals.{removedAll}
 use Rattle.merge.specs.inner.Parts.{AppliedTable, finished, FinishedTable}
 use Rattle.table.specs.Laws.Stored.{stored-live}
+use Rattle.table.specs.Laws.Shown.{rows-counted}
 use Rattle.merge_pending.specs.Laws.Steps.{steps-refl, first-stored, steps-then}
 use Rattle.merge_remove.specs.Laws.Removals.{removedAll-keys, removedAll-rows}
 
@@ -32,10 +34,10 @@ use Rattle.merge_remove.specs.Laws.Removals.{removedAll-keys, removedAll-rows}
 
 -- removals by key, then removals by row, then inserts
 pub passes-applied : (p p₁ p₂ : Plain) → p₁ ≡ removedAll 1 (p .staged) p → p₁ .staged ≡ p .staged
-    → p₂ ≡ removedAll 2 (p₁ .staged) p₁ → p₂ .staged ≡ p₁ .staged → insertAll (inserts (p₂ .staged)) 0 false p₂ ≡ applied p
+    → p₂ ≡ removedAll 2 (p₁ .staged) p₁ → p₂ .staged ≡ p₁ .staged → insertAll (inserts (p₂ .staged)) 0 p₂ ≡ applied p
 unfolding applied removed
 passes-applied p p₁ p₂ a b c d =
-    ap₂ (λ (staged : List Staged) (q : Plain). insertAll (inserts staged) 0 false q) (d ∙ b)
+    ap₂ (λ (staged : List Staged) (q : Plain). insertAll (inserts staged) 0 q) (d ∙ b)
     (c
     ∙ removedAll-rows (p₁ .staged) p₁
     ∙ ap₂ (λ (staged : List Staged) (q : Plain). foldl withoutRow q staged) b (a ∙ removedAll-keys (p .staged) p))
@@ -51,7 +53,6 @@ passes-table {p} {p₁} {p₂} {s} {s₁} {s₂} {s₃} {m} r a f b g i =
       steps = rw e at t;
       status = i .status ∙ ap (λ (x : Inserted). x .status) e;
       place = i .place ∙ ap (λ (x : Inserted). x .place) e;
-      added = i .added ∙ ap (λ (x : Inserted). x .added) e;
     }
 
 -- ---- after the passes
@@ -93,20 +94,21 @@ compacted-generation p e = omega arith
 module _ {h : Header} {rows keys sorts pending live base : List ℕ} {m : MergeProgress} {rows₁ keys₁ sorts₁ : List ℕ} {r : Merge} {rows′ keys′ sorts′ live′ base′ : List ℕ} {p : Plain}
     (shown : Represents p (stores h rows keys sorts pending))
     (a : AppliedTable p (stores h rows keys sorts pending) (stores (m .header) rows₁ keys₁ sorts₁ pending) m)
-    (f : FinishedTable m rows₁ keys₁ sorts₁ live base r rows′ keys′ sorts′ live′ base′ pending (applied p .table)) where
+    (f : FinishedTable m (h .rows) rows₁ keys₁ sorts₁ live base r rows′ keys′ sorts′ live′ base′ pending (applied p .table)) where
   -- the result is the merged table
   merged-finished : finished (m .status) (applied p .table) ≡ merged p .table
   unfolding merged
   merged-finished = ap (λ (status : ℕ). finished status (applied p .table)) (a .status)
 
   merged-answer : r ≡ mergeOf p
-  unfolding merged mergeKeeps mergeDrops
+  unfolding added merged mergeKeeps mergeDrops
   merged-answer =
       let q : Plain = applied p .table in
+      let x = ap₂ ltb (rows-counted shown) (rows-counted (a .steps .represents)) in
       let e = ap headerOf merged-finished in
       let k = ap (λ (status : ℕ). cond (compactsAfter status q) (liveCount q) 0) (a .status) in
       let d = ap (λ (status : ℕ). cond (compactsAfter status q) (dead q) 0) (a .status) in
-      f .answer ∙ (λ i. record { header = e i; status = a .status i; place = a .place i; added = a .added i; kept = k i; dropped = d i })
+      f .answer ∙ (λ i. record { header = e i; status = a .status i; place = a .place i; added = x i; kept = k i; dropped = d i })
 
   -- the two halves are a merge
   pub merged-table : MergedTable (stores h rows keys sorts pending) (compactionWords live base) (Merged r) (body rows′ keys′ sorts′) (compactionWords live′ base′) p

@@ -4,12 +4,12 @@ use Prim.Native.Nat.{ℕ, _≤_}
 use mathlib.Core.Path.{_≡_}
 use mathlib.Core.Bool.{cond}
 use mathlib.Core.List.{List}
+use lib.Dec.{ltb}
 use Rattle.lists.specs.Lists.{rowsOf}
 use Rattle.plain_table.specs.Plain.{Plain, applied, live, dead, compacted, unstaged, compactsAfter}
 use Rattle.table.specs.declared.Header.{Header}
 use Rattle.table.specs.declared.Merge.{Merge}
 use Rattle.merge_insert.specs.declared.MergeProgress.{MergeProgress}
-use Rattle.merge_insert.specs.inner.Insertions.{hasAdded}
 use Rattle.table.specs.Stores.{headerOf, rowStore, sortStore}
 use Rattle.table.specs.Contracts.{Stores, stores, Represents, SlotsPast, PastNeeded}
 use Rattle.merge_pending.specs.inner.Becoming.{Becomes, withCounts}
@@ -21,7 +21,6 @@ pub record AppliedTable (p : Plain) (s s′ : Stores) (m : MergeProgress) : Type
   pub steps : Becomes p (applied p .table) s s′
   pub status : m .status ≡ applied p .status
   pub place : m .place ≡ applied p .place
-  pub added : hasAdded m ≡ applied p .added
 
 pub record Applying (h : Header) (rows keys sorts pending : List ℕ) (m : MergeProgress) (rows′ keys′ sorts′ : List ℕ) : Type 0 where
   pub past : SlotsPast (h .capacity) keys keys′
@@ -36,19 +35,19 @@ pub record Applying (h : Header) (rows keys sorts pending : List ℕ) (m : Merge
 abbrev pub finished : ℕ → Plain → Plain
 finished status p = cond (compactsAfter status p) (compacted (unstaged p)) (unstaged p)
 
--- the result of the passes, with the final header and the numbers of rows kept and dropped
-abbrev pub finishedAs : MergeProgress → Header → ℕ → ℕ → Merge
-finishedAs m h kept dropped =
-    record { header = h; status = m .status; place = m .place; added = hasAdded m; kept = kept; dropped = dropped }
+-- the result of the passes, given the row count before them, with the final header and the numbers of rows kept and dropped
+abbrev pub finishedAs : MergeProgress → ℕ → Header → ℕ → ℕ → Merge
+finishedAs m before h kept dropped =
+    record { header = h; status = m .status; place = m .place; added = ltb before (m .header .rows); kept = kept; dropped = dropped }
 
 -- the same for a plain table
-abbrev pub answerOf : MergeProgress → Plain → Merge
-answerOf m p =
-    finishedAs m (headerOf (finished (m .status) p)) (cond (compactsAfter (m .status) p) (live p) 0) (cond (compactsAfter (m .status) p) (dead p) 0)
+abbrev pub answerOf : MergeProgress → ℕ → Plain → Merge
+answerOf m before p =
+    finishedAs m before (headerOf (finished (m .status) p)) (cond (compactsAfter (m .status) p) (live p) 0) (cond (compactsAfter (m .status) p) (dead p) 0)
 
-module _ (m : MergeProgress) (rows keys sorts live-words base : List ℕ) (r : Merge) (rows′ keys′ sorts′ live-words′ base′ : List ℕ) where
+module _ (m : MergeProgress) (before : ℕ) (rows keys sorts live-words base : List ℕ) (r : Merge) (rows′ keys′ sorts′ live-words′ base′ : List ℕ) where
   pub record FinishedTable (pending : List ℕ) (p : Plain) : Type 0 where
-    pub answer : r ≡ answerOf m p
+    pub answer : r ≡ answerOf m before p
     pub rows-after : rows′ ≡ rowStore (finished (m .status) p) (rowsOf (m .header .columns) (m .header .rows) rows) rows
     pub sorts-after : sorts′ ≡ sortStore (finished (m .status) p) sorts
     pub represents : Represents (finished (m .status) p) (stores (r .header) rows′ keys′ sorts′ pending)

@@ -59,7 +59,7 @@ keys-same r = ap (λ (h : Header). h .keys) (r .shown .header)
 
 module _ (cells : List ℕ) (p : Plain) where
   -- "An insert with a dead first cell is skipped"
-  pub insertion-skips : skipped cells ≡ true → insertion cells p ≡ accepted none
+  pub insertion-skips : skipped cells ≡ true → insertion cells p ≡ accepted p
   unfolding insertion
   insertion-skips e = rw e
 
@@ -73,14 +73,14 @@ module _ (cells : List ℕ) (p : Plain) where
   module _ (e : skipped cells ≡ false) (number : ℕ) (old : List ℕ) (f : lookup p (take (p .opening .keys) cells) ≡ some (record { number = number; cells = old })) where
     put-ruled : (x : Option (List ℕ)) → ruled (p .opening .rule) (p .opening .keys) (p .opening .sort) old cells ≡ x
         → upsert cells (some (record { number = number; cells = old })) p
-        ≡ elim x [ none ↦ accepted none | some row ↦ append row p (killIf (liveWithKey (p .opening .keys) (take (p .opening .keys) cells)) (p .rows)) ]
+        ≡ elim x [ none ↦ accepted p | some row ↦ append row p (killIf (liveWithKey (p .opening .keys) (take (p .opening .keys) cells)) (p .rows)) ]
     unfolding upsert
     put-ruled x g =
         ap
-        (λ (y : Option (List ℕ)). elim y [ none ↦ accepted none | some row ↦ append row p (killIf (liveWithKey (p .opening .keys) (take (p .opening .keys) cells)) (p .rows)) ])
+        (λ (y : Option (List ℕ)). elim y [ none ↦ accepted p | some row ↦ append row p (killIf (liveWithKey (p .opening .keys) (take (p .opening .keys) cells)) (p .rows)) ])
         g
 
-    insertion-keeps : changesFrom (p .opening .rule) (p .opening .keys) (p .opening .sort) 0 old cells ≡ false → insertion cells p ≡ accepted none
+    insertion-keeps : changesFrom (p .opening .rule) (p .opening .keys) (p .opening .sort) 0 old cells ≡ false → insertion cells p ≡ accepted p
     unfolding insertion
     insertion-keeps g = rw (e, f) (put-ruled none (kept-of (p .opening .rule) (p .opening .keys) (p .opening .sort) old cells g))
 
@@ -96,7 +96,7 @@ module _ (cells : List ℕ) (p : Plain) (rows : List Row) where
   append-stops zero e h = absurd (omega arith)
   append-stops (suc n) e h = rw e
 
-  append-goes : stop cells p ≡ 0 → append cells p rows ≡ accepted (some (withRow p rows cells))
+  append-goes : stop cells p ≡ 0 → append cells p rows ≡ accepted (withRow p rows cells)
   unfolding append reply
   append-goes e = rw e
 
@@ -291,7 +291,7 @@ module _ (h : Header) (rows keys sorts cells : List ℕ) (hash : ℕ) where
         changes-same = rw (← rule-same, ← keys-same r, ← sort-same)
 
         -- the old row is kept
-        keep-way : Changes h (rowAt (h .columns) old rows) cells ≡ false → insertion cells p ≡ accepted none
+        keep-way : Changes h (rowAt (h .columns) old rows) cells ≡ false → insertion cells p ≡ accepted p
         unfolding skipped
         keep-way c = insertion-keeps cells p live old (rowAt (h .columns) old rows) old-is (changes-same ∙ c)
 
@@ -325,7 +325,7 @@ module _ (h : Header) (rows keys sorts cells : List ℕ) (hash : ℕ) where
               → InsertAgrees p cells (stores h rows keys sorts pending) rows′ keys′ sorts′ (Appended h′)
           replaced-steps h′ rows′ keys′ sorts′ g =
               let row : List ℕ = rowMade h (rowAt (h .columns) old rows) cells in
-              let goes : insertion cells p ≡ accepted (some (withRow p (killAt old (p .rows)) row)) =
+              let goes : insertion cells p ≡ accepted (withRow p (killAt old (p .rows)) row) =
               make-way ∙ append-goes row p (killAt old (p .rows)) (stop-same r row ∙ g .entered .free) in
               let died : h .dead + 1 ≡ dead (withRows p (killAt old (p .rows))) = ap (λ (n : ℕ). n + 1) dead-same ∙ sym (dead-killAt p old old-live) in (
                 withRow p (killAt old (p .rows)) row,
@@ -342,7 +342,7 @@ module _ (h : Header) (rows keys sorts cells : List ℕ) (hash : ℕ) where
       grew-steps : f ≡ None → (h′ : Header) (rows′ keys′ sorts′ : List ℕ) → Grew h rows keys sorts cells hash h′ rows′ keys′ sorts′
           → InsertAgrees p cells (stores h rows keys sorts pending) rows′ keys′ sorts′ (Appended h′)
       grew-steps e h′ rows′ keys′ sorts′ g =
-          let goes : insertion cells p ≡ accepted (some (withRow p (p .rows) cells)) =
+          let goes : insertion cells p ≡ accepted (withRow p (p .rows) cells) =
           new-way e ∙ append-goes cells p (p .rows) (stop-same r cells ∙ g .entered .free) in (
             withRow p (p .rows) cells,
             goes,

@@ -2,7 +2,6 @@
 use Prim.Native.Nat.{ℕ, _<_}
 use mathlib.Core.Path.{_≡_}
 use mathlib.Core.List.{List}
-use mathlib.Core.Option.{none, some}
 use Rattle.refusals.specs.Refusals.{refused, accepted}
 use Rattle.plain_table.specs.Staged.{insert}
 use Rattle.plain_table.specs.Plain.{Plain, insertion}
@@ -14,9 +13,9 @@ use Rattle.merge_pending.specs.inner.Becoming.{Becomes, Recounted, hashOf}
 
 -- the answer of an insert, in terms of the plain table's insertion
 abbrev pub InsertAgrees : Plain → List ℕ → Stores → List ℕ → List ℕ → List ℕ → Insertion → Type 0
-InsertAgrees p cells s rows′ keys′ sorts′ Unchanged = insertion cells p ≡ accepted none
+InsertAgrees p cells s rows′ keys′ sorts′ Unchanged = insertion cells p ≡ accepted p
 InsertAgrees p cells s rows′ keys′ sorts′ (Appended h′) =
-    (p′ : Plain) × (insertion cells p ≡ accepted (some p′)) × Becomes p p′ s (stores h′ rows′ keys′ sorts′ (s .pending))
+    (p′ : Plain) × (insertion cells p ≡ accepted p′) × Becomes p p′ s (stores h′ rows′ keys′ sorts′ (s .pending))
 InsertAgrees p cells s rows′ keys′ sorts′ (Stopped n) = (insertion cells p ≡ refused n) × (0 < n)
 
 -- one insert, with the hash of its key

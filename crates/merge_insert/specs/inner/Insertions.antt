@@ -1,10 +1,8 @@
 -- Contract of all inserts of a merge. Assumes nothing.
 use Prim.Native.Nat.{ℕ, _+_, _≤_, _<_}
 use mathlib.Core.Path.{_≡_}
-use mathlib.Core.Bool.{Bool, false}
 use mathlib.Core.List.{List, _∷_}
 use lib.ListN.{getD}
-use lib.Dec.{eqb}
 use Rattle.plain_table.specs.Staged.{Staged, inserts}
 use Rattle.plain_table.specs.Plain.{insertAll, inserted, Plain}
 use Rattle.table.specs.declared.Header.{Header}
@@ -13,16 +11,11 @@ use Rattle.table.specs.Numbers.{openingOf}
 use Rattle.table.specs.Contracts.{Stores, stores, Represents, SlotsPast}
 use Rattle.merge_pending.specs.inner.Becoming.{Becomes, Recounted, Ready, Waiting, Remaining}
 
--- whether a row was appended
-abbrev pub hasAdded : MergeProgress → Bool
-hasAdded m = eqb (m .added) 1
-
 -- all inserts
 pub record InsertedTable (p : Plain) (s s′ : Stores) (m : MergeProgress) : Type 0 where
-  pub steps : Becomes p (insertAll (inserts (p .staged)) 0 false p .table) s s′
-  pub status : m .status ≡ insertAll (inserts (p .staged)) 0 false p .status
-  pub place : m .place ≡ insertAll (inserts (p .staged)) 0 false p .place
-  pub added : hasAdded m ≡ insertAll (inserts (p .staged)) 0 false p .added
+  pub steps : Becomes p (insertAll (inserts (p .staged)) 0 p .table) s s′
+  pub status : m .status ≡ insertAll (inserts (p .staged)) 0 p .status
+  pub place : m .place ≡ insertAll (inserts (p .staged)) 0 p .place
 
 pub record Insertions (h : Header) (rows keys sorts pending : List ℕ) (m : MergeProgress) (rows′ keys′ sorts′ : List ℕ) : Type 0 where
   pub past : SlotsPast (h .capacity) keys keys′
@@ -47,9 +40,9 @@ pub record InsertGoes (m : MergeProgress) (r : MergeProgress) (one : Staged) (re
   pub next : Plain
   pub steps : Becomes p next s s′
   pub goes-on : r .status ≡ 0
-      → insertAll (inserts (one ∷ rest)) (m .place) (hasAdded m) p ≡ insertAll (inserts rest) (r .place) (hasAdded r) next
+      → insertAll (inserts (one ∷ rest)) (m .place) p ≡ insertAll (inserts rest) (r .place) next
   pub stops : (r .status ≡ 0 → ⊥)
-      → insertAll (inserts (one ∷ rest)) (m .place) (hasAdded m) p ≡ inserted next (r .status) (r .place) (hasAdded r)
+      → insertAll (inserts (one ∷ rest)) (m .place) p ≡ inserted next (r .status) (r .place)
 
 pub record InsertedNext (m : MergeProgress) (rows keys sorts pending : List ℕ) (at : ℕ) (r : MergeProgress) (rows′ keys′ sorts′ : List ℕ) : Type 0 where
   pub past : SlotsPast (m .header .capacity) keys keys′

@@ -13,9 +13,9 @@ use Rattle.lists.specs.Laws.Filter.{split, filter-append}
 use Rattle.refusals.specs.Refusals.{Reply, refused, accepted, reply}
 use Rattle.merge_rules.specs.Rules.{ruled}
 use Rattle.plain_table.specs.Staged.{Opening, Staged, insert, inserts, hasKey, skipped}
-use Rattle.plain_table.specs.Plain.{Row, Plain, withRow, Numbered, liveRows, lookup, stage, liveWithKey, killIf, withoutKey, withoutRow, removed, stop, append, upsert, insertion, continueInserts, Inserted, insertAll, applied, compacted, unstaged, compactsAfter, merged}
+use Rattle.plain_table.specs.Plain.{Row, Plain, withRow, Numbered, liveRows, lookup, stage, liveWithKey, killIf, withoutKey, withoutRow, removed, stop, append, upsert, insertion, Inserted, insertAll, applied, compacted, unstaged, compactsAfter, merged}
 use Rattle.plain_table.specs.Laws.Rows.{liveRow}
-use Rattle.plain_table.specs.Laws.Counts.{insertion-alike, applied-alike}
+use Rattle.plain_table.specs.Laws.Counts.{insertion-alike, insertAll-accepted, insertAll-refused, applied-alike}
 use Rattle.plain_table.specs.Laws.Live.{cells-liveFrom, liveRows-compacted}
 
 -- ---- the live rows' cells, in order
@@ -81,21 +81,20 @@ unfolding allArrived
 all-arrived-then o [] b live = refl
 all-arrived-then o (cells ∷ rest) b live = all-arrived-then o rest b (arrived o cells live)
 
--- an insert into p either leaves these live rows or stops
-abbrev Leaves : Plain → List (List ℕ) → Reply (Option Plain) → Type 0
-Leaves p live (refused number) = 0 < number
-Leaves p live (accepted none) = liveCells p ≡ live
-Leaves p live (accepted (some p′)) = liveCells p′ ≡ live
+-- an insert either leaves these live rows or stops
+abbrev Leaves : List (List ℕ) → Reply Plain → Type 0
+Leaves live (refused number) = 0 < number
+Leaves live (accepted p) = liveCells p ≡ live
 
-append-leaves : (cells : List ℕ) (p : Plain) (rows : List Row) → Leaves p (cellsOf rows ++ (cells ∷ [])) (append cells p rows)
+append-leaves : (cells : List ℕ) (p : Plain) (rows : List Row) → Leaves (cellsOf rows ++ (cells ∷ [])) (append cells p rows)
 unfolding append reply
 append-leaves cells p rows = go (stop cells p)
   where
-    go : (n : ℕ) → Leaves p (cellsOf rows ++ (cells ∷ [])) (reply n (some (withRow p rows cells)))
+    go : (n : ℕ) → Leaves (cellsOf rows ++ (cells ∷ [])) (reply n (withRow p rows cells))
     go zero = live-cells-of (withRow p rows cells) ∙ cells-of-appended rows cells
     go (suc n) = omega arith
 
-upsert-leaves : (cells : List ℕ) (found : Option Numbered) (p : Plain) → Leaves p (placed (p .opening) cells (Option·map (λ row. row .cells) found) (liveCells p)) (upsert cells found p)
+upsert-leaves : (cells : List ℕ) (found : Option Numbered) (p : Plain) → Leaves (placed (p .opening) cells (Option·map (λ row. row .cells) found) (liveCells p)) (upsert cells found p)
 unfolding upsert placed
 upsert-leaves cells none p = rw (live-cells-of p) (append-leaves cells p (p .rows))
 upsert-leaves cells (some old) p = go (ruled (p .opening .rule) (p .opening .keys) (p .opening .sort) (old .cells) cells)
@@ -104,9 +103,9 @@ upsert-leaves cells (some old) p = go (ruled (p .opening .rule) (p .opening .key
     key = take (p .opening .keys) cells
 
     go : (r : Option (List ℕ))
-        → Leaves p
+        → Leaves
         (elim r [ none ↦ liveCells p | some row ↦ filter (λ other. not (hasKey (p .opening .keys) key other)) (liveCells p) ++ (row ∷ []) ])
-        (elim r [ none ↦ accepted none | some row ↦ append row p (killIf (liveWithKey (p .opening .keys) key) (p .rows)) ])
+        (elim r [ none ↦ accepted p | some row ↦ append row p (killIf (liveWithKey (p .opening .keys) key) (p .rows)) ])
     go none = refl
     go (some row) =
         rw (live-cells-of p, ← cells-of-killed (p .opening .keys) key (p .rows))
@@ -117,7 +116,7 @@ lookup-cells : (p : Plain) (key : List ℕ) → Option·map (λ row. row .cells)
 unfolding lookup liveCells
 lookup-cells p key = find-map (λ (row : Numbered). row .cells) (hasKey (p .opening .keys) key) (liveRows p)
 
-insertion-leaves : (cells : List ℕ) (p : Plain) → Leaves p (arrived (p .opening) cells (liveCells p)) (insertion cells p)
+insertion-leaves : (cells : List ℕ) (p : Plain) → Leaves (arrived (p .opening) cells (liveCells p)) (insertion cells p)
 unfolding insertion arrived
 insertion-leaves cells p =
     let key : List ℕ = take (p .opening .keys) cells in
@@ -126,24 +125,25 @@ insertion-leaves cells p =
 -- ---- a merge of inserts alone
 
 -- the live rows after inserts none of which stops
-insert-all-leaves : (rows : List (List ℕ)) (place : ℕ) (added : Bool) (p : Plain) → insertAll rows place added p .status ≡ 0
-    → liveCells (insertAll rows place added p .table) ≡ allArrived (p .opening) rows (liveCells p)
-unfolding insertAll allArrived
-insert-all-leaves [] place added p e = refl
-insert-all-leaves (cells ∷ rest) place added p e =
-    go (insertion cells p) refl (insertion-leaves cells p) (insert-all-leaves rest (suc place)) e
+insert-all-leaves : (rows : List (List ℕ)) (place : ℕ) (p : Plain) → insertAll rows place p .status ≡ 0
+    → liveCells (insertAll rows place p .table) ≡ allArrived (p .opening) rows (liveCells p)
+unfolding allArrived
+insert-all-leaves [] place p e = unfold insertAll in refl
+insert-all-leaves (cells ∷ rest) place p e = go (insertion cells p) refl (insertion-leaves cells p) (insert-all-leaves rest (suc place))
   where
     now : List (List ℕ)
     now = arrived (p .opening) cells (liveCells p)
 
-    go : (i : Reply (Option Plain)) → insertion cells p ≡ i → Leaves p now i
-        → ((added′ : Bool) (p′ : Plain) → insertAll rest (suc place) added′ p′ .status ≡ 0
-        → liveCells (insertAll rest (suc place) added′ p′ .table) ≡ allArrived (p′ .opening) rest (liveCells p′))
-        → continueInserts i place added p (insertAll rest (suc place)) .status ≡ 0
-        → liveCells (continueInserts i place added p (insertAll rest (suc place)) .table) ≡ allArrived (p .opening) rest now
-    go (accepted none) q l ih s = rw (← l) (ih added p s)
-    go (accepted (some p′)) q l ih s = rw (← l, ← insertion-alike cells p p′ q .opening) (ih true p′ s)
-    go (refused n) q l ih s = absurd (omega (arith, l, s))
+    go : (i : Reply Plain) → insertion cells p ≡ i → Leaves now i
+        → ((p′ : Plain) → insertAll rest (suc place) p′ .status ≡ 0
+        → liveCells (insertAll rest (suc place) p′ .table) ≡ allArrived (p′ .opening) rest (liveCells p′))
+        → liveCells (insertAll (cells ∷ rest) place p .table) ≡ allArrived (p .opening) rest now
+    go (refused n) q l ih =
+        let z : insertAll (cells ∷ rest) place p .status ≡ n = ap (λ (x : Inserted). x .status) (insertAll-refused cells rest place p n q) in
+        absurd (omega (arith, l, z, e))
+    go (accepted p′) q l ih =
+        let z = insertAll-accepted cells rest place p p′ q in
+        rw (z, ← l, ← insertion-alike cells p p′ q .opening) (ih p′ (ap (λ (x : Inserted). x .status) (sym z) ∙ e))
 
 -- The end of a merge: drops the staged records, and compacts or not. The live rows do not change.
 abbrev finished : Bool → Plain → Plain
@@ -194,7 +194,7 @@ batch-rest (cells ∷ rest) p = batch-rest rest (stage p (insert cells))
 
 module _ (rows : List (List ℕ)) (p : Plain) (e : p .staged ≡ []) where
   -- a merge of a staged batch applies exactly its inserts
-  applied-batch : applied (batch rows p) ≡ insertAll rows 0 false (batch rows p)
+  applied-batch : applied (batch rows p) ≡ insertAll rows 0 (batch rows p)
   unfolding applied removed
   applied-batch =
       let staged : batch rows p .staged ≡ map insert rows = batch-staged rows p ∙ ap (λ (l : List Staged). l ++ map insert rows) e in
@@ -203,18 +203,18 @@ module _ (rows : List (List ℕ)) (p : Plain) (e : p .staged ≡ []) where
       ap (λ (rs : List Staged). foldl withoutRow (foldl withoutKey q rs) rs) staged
       ∙ ap (λ (t : Plain). foldl withoutRow t (map insert rows)) (kept-map rows q .0)
       ∙ kept-map rows q .1 in
-      ap₂ (λ (cells : List (List ℕ)) (t : Plain). insertAll cells 0 false t) (ap inserts staged ∙ inserts-map rows) kept
+      ap₂ (λ (cells : List (List ℕ)) (t : Plain). insertAll cells 0 t) (ap inserts staged ∙ inserts-map rows) kept
 
   -- if the merge does not stop, `allArrived` is its effect on the live rows
   merged-leaves : merged (batch rows p) .status ≡ 0 → liveCells (merged (batch rows p) .table) ≡ allArrived (p .opening) rows (liveCells p)
   unfolding merged
   merged-leaves q =
       let rest = batch-rest rows p in
-      let k : insertAll rows 0 false (batch rows p) .status ≡ 0 = rw applied-batch at q in
+      let k : insertAll rows 0 (batch rows p) .status ≡ 0 = rw applied-batch at q in
       let t : Inserted = applied (batch rows p) in
       live-cells-finished (compactsAfter (t .status) (t .table)) (t .table)
       ∙ ap (λ (x : Inserted). liveCells (x .table)) applied-batch
-      ∙ insert-all-leaves rows 0 false (batch rows p) k
+      ∙ insert-all-leaves rows 0 (batch rows p) k
       ∙ ap₂ (λ (o : Opening) (live : List (List ℕ)). allArrived o rows live) (rest .0) (rest .1)
 
   -- The opening does not change, and nothing is pending.

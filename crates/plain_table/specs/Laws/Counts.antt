@@ -1,6 +1,7 @@
 -- What the parts of a merge leave unchanged: the row count, the opening, the generation, the staged records. Assumes nothing.
-use Prim.Native.Nat.{ℕ, zero, suc}
+use Prim.Native.Nat.{ℕ, zero, suc, _≤_}
 use mathlib.Core.Path.{_≡_, refl, ap, _∙_}
+use mathlib.Core.Logic.{_⊎_, inl, inr}
 use mathlib.Core.Bool.{Bool, true, false, cond}
 use mathlib.Core.Option.{Option, none, some}
 use mathlib.Core.List.{List, [], _∷_, foldl}
@@ -11,7 +12,7 @@ use Rattle.lists.specs.Laws.All.{all-head, all-tail}
 use Rattle.refusals.specs.Refusals.{Reply, refused, accepted, reply}
 use Rattle.merge_rules.specs.Rules.{ruled, madeFrom, changesFrom}
 use Rattle.plain_table.specs.Staged.{Staged, insert, removeKey, removeRow, inserts, skipped}
-use Rattle.plain_table.specs.Plain.{Row, Plain, withRows, withRow, liveWithKey, killIf, withoutKey, dies, withoutRow, removed, stop, append, upsert, insertion, applied, Numbered, lookup, continueInserts, insertAll}
+use Rattle.plain_table.specs.Plain.{Row, Plain, withRows, withRow, liveWithKey, killIf, withoutKey, dies, withoutRow, removed, stop, append, upsert, insertion, inserted, insertAll, applied, Numbered, lookup}
 use Rattle.merge_rules.specs.Laws.Rules.{ruled-made}
 
 -- ---- removals do not change the row count
@@ -100,17 +101,17 @@ pub data Appended (cells : List ℕ) (p : Plain) : Plain → Type 0 where
       → Appended cells p (withRow p (killIf (liveWithKey (p .opening .keys) (take (p .opening .keys) cells)) (p .rows)) row)
 
 -- a row is appended only if nothing stops it
-append-appended : (cells : List ℕ) (p p′ : Plain) (rows : List Row) → append cells p rows ≡ accepted (some p′)
+append-appended : (cells : List ℕ) (p p′ : Plain) (rows : List Row) → append cells p rows ≡ accepted p′
     → (stop cells p ≡ 0) × (withRow p rows cells ≡ p′)
 unfolding append reply
 append-appended cells p p′ rows e = go (stop cells p) e
   where
-    go : (n : ℕ) → reply n (some (withRow p rows cells)) ≡ accepted (some p′) → (n ≡ 0) × (withRow p rows cells ≡ p′)
+    go : (n : ℕ) → reply n (withRow p rows cells) ≡ accepted p′ → (n ≡ 0) × (withRow p rows cells ≡ p′)
     go zero f = (refl, cc)
     go (suc n) f = absurd (let z : _≡_ {A = ℕ} 0 1 = cc in omega arith)
 
--- an accepted insertion that changes the table appends a row
-pub insertion-appended : (cells : List ℕ) (p p′ : Plain) → insertion cells p ≡ accepted (some p′) → Appended cells p p′
+-- an accepted insertion leaves the table unchanged or appends a row
+pub insertion-appended : (cells : List ℕ) (p p′ : Plain) → insertion cells p ≡ accepted p′ → (p ≡ p′) ⊎ Appended cells p p′
 unfolding insertion upsert
 insertion-appended cells p p′ e = skip (skipped cells) refl e
   where
@@ -118,55 +119,66 @@ insertion-appended cells p p′ e = skip (skipped cells) refl e
         → skipped cells ≡ false
         → lookup p (take (p .opening .keys) cells) ≡ some old
         → ruled (p .opening .rule) (p .opening .keys) (p .opening .sort) (old .cells) cells ≡ r
-        → elim r [ none ↦ accepted none | some row ↦ append row p (killIf (liveWithKey (p .opening .keys) (take (p .opening .keys) cells)) (p .rows)) ] ≡ accepted (some p′)
-        → Appended cells p p′
-    rule old none s l q f = absurd (let z : _≡_ {A = ℕ} 0 1 = cc in omega arith)
+        → elim r [ none ↦ accepted p | some row ↦ append row p (killIf (liveWithKey (p .opening .keys) (take (p .opening .keys) cells)) (p .rows)) ] ≡ accepted p′
+        → (p ≡ p′) ⊎ Appended cells p p′
+    rule old none s l q f = inl cc
     rule old (some row) s l q f =
         let a = append-appended row p p′ (killIf (liveWithKey (p .opening .keys) (take (p .opening .keys) cells)) (p .rows)) f in
         let m = ruled-made (p .opening .rule) (p .opening .keys) (p .opening .sort) (old .cells) cells row q in
-        rw (← a .1) (again old row s l (m .0) (m .1) (a .0))
+        inr (rw (← a .1) (again old row s l (m .0) (m .1) (a .0)))
 
-    find : (found : Option Numbered) → skipped cells ≡ false → lookup p (take (p .opening .keys) cells) ≡ found → upsert cells found p ≡ accepted (some p′) → Appended cells p p′
-    find none s l f = let a = append-appended cells p p′ (p .rows) f in rw (← a .1) (new s l (a .0))
+    find : (found : Option Numbered) → skipped cells ≡ false → lookup p (take (p .opening .keys) cells) ≡ found → upsert cells found p ≡ accepted p′ → (p ≡ p′) ⊎ Appended cells p p′
+    find none s l f = let a = append-appended cells p p′ (p .rows) f in inr (rw (← a .1) (new s l (a .0)))
     find (some old) s l f = rule old (ruled (p .opening .rule) (p .opening .keys) (p .opening .sort) (old .cells) cells) s l refl f
 
     skip : (b : Bool) → skipped cells ≡ b
-        → cond b (accepted none) (upsert cells (lookup p (take (p .opening .keys) cells)) p) ≡ accepted (some p′) → Appended cells p p′
-    skip true s f = absurd (let z : _≡_ {A = ℕ} 0 1 = cc in omega arith)
+        → cond b (accepted p) (upsert cells (lookup p (take (p .opening .keys) cells)) p) ≡ accepted p′ → (p ≡ p′) ⊎ Appended cells p p′
+    skip true s f = inl cc
     skip false s f = find (lookup p (take (p .opening .keys) cells)) s refl f
 
-appended-count : {cells : List ℕ} {p p′ : Plain} → Appended cells p p′ → length (p′ .rows) ≡ suc (length (p .rows))
+-- a property of the table that an appending insert preserves is preserved by every accepted insert
+pub insertion-keeps : (P : Plain → Type 0) (cells : List ℕ) (p p′ : Plain) → insertion cells p ≡ accepted p′ → P p → (Appended cells p p′ → P p′) → P p′
+insertion-keeps P cells p p′ e h f = elim (insertion-appended cells p p′ e) [ inl q ↦ rw q at h | inr a ↦ f a ]
+
+-- an insert that appends adds one row
+pub appended-count : {cells : List ℕ} {p p′ : Plain} → Appended cells p p′ → length (p′ .rows) ≡ suc (length (p .rows))
 appended-count {cells} {p} (new s l q) = simp length-append (omega arith)
 appended-count {cells} {p} (again old row s l c m q) = simp (length-append, length-killIf) (omega arith)
 
-appended-alike : {cells : List ℕ} {p p′ : Plain} → Appended cells p p′ → Alike p p′
+-- it changes only the rows and the largest value
+pub appended-alike : {cells : List ℕ} {p p′ : Plain} → Appended cells p p′ → Alike p p′
 appended-alike (new s l q) = record { opening = refl; generation = refl; staged = refl }
 appended-alike (again old row s l c m q) = record { opening = refl; generation = refl; staged = refl }
 
--- an insertion that appends adds one row; any other leaves the table unchanged
-pub insertion-count : (cells : List ℕ) (p p′ : Plain) → insertion cells p ≡ accepted (some p′) → length (p′ .rows) ≡ suc (length (p .rows))
-insertion-count cells p p′ e = appended-count (insertion-appended cells p p′ e)
-
--- it changes only the rows and the largest value
-pub insertion-alike : (cells : List ℕ) (p p′ : Plain) → insertion cells p ≡ accepted (some p′) → Alike p p′
-insertion-alike cells p p′ e = appended-alike (insertion-appended cells p p′ e)
+-- an accepted insert changes only the rows and the largest value
+pub insertion-alike : (cells : List ℕ) (p p′ : Plain) → insertion cells p ≡ accepted p′ → Alike p p′
+insertion-alike cells p p′ e = insertion-keeps (λ t. Alike p t) cells p p′ e (alike-same p) appended-alike
 
 -- ---- all inserts
 
+module _ (cells : List ℕ) (rest : List (List ℕ)) (place : ℕ) (p : Plain) where
+  -- the inserts continue after an accepted one
+  pub insertAll-accepted : (p′ : Plain) → insertion cells p ≡ accepted p′ → insertAll (cells ∷ rest) place p ≡ insertAll rest (suc place) p′
+  unfolding insertAll
+  insertAll-accepted p′ e = rw (e, insertAll)
+
+  -- they stop at a refused one
+  pub insertAll-refused : (number : ℕ) → insertion cells p ≡ refused number → insertAll (cells ∷ rest) place p ≡ inserted p number place
+  unfolding insertAll
+  insertAll-refused number e = rw (e, insertAll)
+
 -- a property that each appending insert preserves is preserved by all inserts, if each of them passes the required test
 pub insertAll-keeps : (P : Plain → Type 0) (test : List ℕ → Bool)
-    → ((cells : List ℕ) (p p′ : Plain) → test cells ≡ true → P p → insertion cells p ≡ accepted (some p′) → P p′)
-    → (rows : List (List ℕ)) → all test rows ≡ true → (place : ℕ) (added : Bool) (p : Plain) → P p → P (insertAll rows place added p .table)
-unfolding insertAll
-insertAll-keeps P test f [] e place added p h = h
-insertAll-keeps P test f (cells ∷ rest) e place added p h =
+    → ((cells : List ℕ) (p p′ : Plain) → test cells ≡ true → P p → Appended cells p p′ → P p′)
+    → (rows : List (List ℕ)) → all test rows ≡ true → (place : ℕ) (p : Plain) → P p → P (insertAll rows place p .table)
+insertAll-keeps P test f [] e place p h = unfold insertAll in h
+insertAll-keeps P test f (cells ∷ rest) e place p h =
     go (insertion cells p) refl (insertAll-keeps P test f rest (all-tail test cells rest e) (suc place))
   where
-    go : (i : Reply (Option Plain)) → insertion cells p ≡ i → ((added′ : Bool) (p′ : Plain) → P p′ → P (insertAll rest (suc place) added′ p′ .table))
-        → P (continueInserts i place added p (insertAll rest (suc place)) .table)
-    go (accepted none) q ih = ih added p h
-    go (accepted (some p′)) q ih = ih true p′ (f cells p p′ (all-head test cells rest e) h q)
-    go (refused n) q ih = h
+    go : (i : Reply Plain) → insertion cells p ≡ i → ((p′ : Plain) → P p′ → P (insertAll rest (suc place) p′ .table)) → P (insertAll (cells ∷ rest) place p .table)
+    go (refused n) q ih = rw (insertAll-refused cells rest place p n q) h
+    go (accepted p′) q ih =
+        rw (insertAll-accepted cells rest place p p′ q) (ih p′ (insertion-keeps P cells p p′ q h (f cells p p′ (all-head test cells rest e) h)))
 
 -- every row passes the constant test
 pub all-true : (rows : List (List ℕ)) → all (λ row. true) rows ≡ true
@@ -174,12 +186,16 @@ unfolding all
 all-true [] = refl
 all-true (row ∷ rows) = all-true rows
 
--- all inserts change only the rows and the largest value
-pub insertAll-alike : (rows : List (List ℕ)) (place : ℕ) (added : Bool) (p : Plain) → Alike p (insertAll rows place added p .table)
-insertAll-alike rows place added p =
-    insertAll-keeps (λ t. Alike p t) (λ row. true) (λ cells t t′ u h q. alike-then h (insertion-alike cells t t′ q)) rows (all-true rows) place added p (alike-same p)
+-- a property that the removals leave and each appending insert preserves holds before a merge's compaction
+pub applied-keeps : (P : Plain → Type 0) → ((cells : List ℕ) (p p′ : Plain) → P p → Appended cells p p′ → P p′) → (p : Plain) → P (removed p) → P (applied p .table)
+unfolding applied
+applied-keeps P f p h = insertAll-keeps P (λ row. true) (λ cells t t′ u k a. f cells t t′ k a) (inserts (p .staged)) (all-true (inserts (p .staged))) 0 (removed p) h
 
 -- a merge's removals and inserts change only the rows and the largest value
 pub applied-alike : (p : Plain) → Alike p (applied p .table)
-unfolding applied
-applied-alike p = alike-then (removed-alike p) (insertAll-alike (inserts (p .staged)) 0 false (removed p))
+applied-alike p = applied-keeps (λ t. Alike p t) (λ cells t t′ h a. alike-then h (appended-alike a)) p (removed-alike p)
+
+-- no row is dropped before a merge's compaction
+pub applied-longer : (p : Plain) → length (p .rows) ≤ length (applied p .table .rows)
+applied-longer p =
+    applied-keeps (λ t. length (p .rows) ≤ length (t .rows)) (λ cells t t′ h a. omega (arith, h, appended-count a)) p (omega (arith, length-removed p))

@@ -11,12 +11,11 @@ use lib.Dec.{ltb}
 use lib.ListN.{length, drop, getD}
 use Rattle.lists.specs.Lists.{filter}
 use Rattle.lists.specs.Laws.Filter.{split}
-use Rattle.plain_table.specs.Staged.{inserts}
-use Rattle.plain_table.specs.Plain.{Row, deadRow, Plain, liveFrom, stage, liveWithKey, killIf, dies, removed, insertAll, applied, compacted, unstaged, compactsAfter, merged, cleared, opened}
+use Rattle.plain_table.specs.Plain.{Row, deadRow, Plain, liveFrom, stage, liveWithKey, killIf, dies, removed, applied, compacted, unstaged, compactsAfter, merged, cleared, opened}
 use Rattle.plain_table.specs.Calls.{Call, staging, merging, compacting, clearing, refreshing, feeding, stageAll, done, LentCall, afterAll}
 use Rattle.plain_table.specs.Laws.Rows.{noRow}
 use Rattle.plain_table.specs.Laws.Calls.{leads-all}
-use Rattle.plain_table.specs.Laws.Counts.{Appended, new, again, insertion-appended, removed-keeps, all-true, insertAll-keeps, applied-alike}
+use Rattle.plain_table.specs.Laws.Counts.{Appended, new, again, removed-keeps, applied-keeps, applied-alike}
 
 -- the second list is the first with some rows dead, followed by more rows
 pub data Follows : List Row → List Row → Type 0 where
@@ -66,15 +65,9 @@ appended-follows : {cells : List ℕ} {p p′ : Plain} → Appended cells p p′
 appended-follows {p = p} (new s l q) = follows-more _ (follows-same (p .rows))
 appended-follows {p = p} (again old row s l c m q) = follows-more _ (killed-follows _ (p .rows))
 
-insertAll-follows : (rows : List (List ℕ)) (place : ℕ) (added : Bool) (p : Plain) → Follows (p .rows) (insertAll rows place added p .table .rows)
-insertAll-follows rows place added p =
-    insertAll-keeps (λ t. Follows (p .rows) (t .rows)) (λ row. true)
-    (λ cells t t′ u h q. follows-then h (appended-follows (insertion-appended cells t t′ q)))
-    rows (all-true rows) place added p (follows-same (p .rows))
-
 applied-follows : (p : Plain) → Follows (p .rows) (applied p .table .rows)
-unfolding applied
-applied-follows p = follows-then (removed-follows p) (insertAll-follows (inserts (p .staged)) 0 false (removed p))
+applied-follows p =
+    applied-keeps (λ t. Follows (p .rows) (t .rows)) (λ cells t t′ h a. follows-then h (appended-follows a)) p (removed-follows p)
 
 -- ---- the calls
 

@@ -9,14 +9,13 @@ use mathlib.Core.Option.{Option, none, some}
 use native.Mathlib.Nat.{add-zero, le-max-right}
 use native.Mathlib.Omega.{arith}
 use lib.Dec.{eqb}
-use lib.ListN.{length}
+use lib.ListN.{length, drop, length-map, length-drop}
 use borrow.Author.Tests.{ltb-true}
 use Rattle.lists.specs.Laws.Filter.{split, and-left, and-right, count-split, length-filter}
-use Rattle.refusals.specs.Refusals.{Reply, refused, accepted}
-use Rattle.plain_table.specs.Staged.{inserts, compactionDue}
-use Rattle.plain_table.specs.Plain.{Plain, insertion, continueInserts, insertAll, removed, applied, live, dead, compacted, unstaged, compactsAfter, merged, mergeKeeps, mergeDrops}
-use Rattle.plain_table.specs.Appending.{appendsOn, insertsAppend, mergeAppends}
-use Rattle.plain_table.specs.Laws.Counts.{insertion-count, length-removed}
+use Rattle.plain_table.specs.Staged.{compactionDue}
+use Rattle.plain_table.specs.Plain.{Row, Plain, applied, live, dead, compacted, unstaged, compactsAfter, merged, mergeKeeps, mergeDrops}
+use Rattle.plain_table.specs.Appending.{mergeAppends}
+use Rattle.plain_table.specs.Laws.Counts.{applied-longer}
 
 -- each row is either live or dead
 pub live-dead : (p : Plain) → live p + dead p ≡ length (p .rows)
@@ -28,24 +27,13 @@ pub compacted-live : (p : Plain) → length (compacted p .rows) ≡ live p
 unfolding compacted live
 compacted-live p = length-filter (λ row. row .live) (p .rows)
 
--- each insert that appends adds one row
-inserts-count : (rows : List (List ℕ)) (place : ℕ) (added : Bool) (p : Plain)
-    → length (insertAll rows place added p .table .rows) ≡ length (p .rows) + length (insertsAppend rows p)
-unfolding insertAll insertsAppend
-inserts-count [] place added p = sym (add-zero (length (p .rows)))
-inserts-count (cells ∷ rest) place added p = go (insertion cells p) refl (inserts-count rest (suc place))
-  where
-    go : (i : Reply (Option Plain)) → insertion cells p ≡ i
-        → ((added′ : Bool) (q : Plain) → length (insertAll rest (suc place) added′ q .table .rows) ≡ length (q .rows) + length (insertsAppend rest q))
-        → length (continueInserts i place added p (insertAll rest (suc place)) .table .rows) ≡ length (p .rows) + length (appendsOn i p (insertsAppend rest))
-    go (accepted none) e ih = ih added p
-    go (accepted (some p′)) e ih = omega (arith, ih true p′, insertion-count cells p p′ e)
-    go (refused n) e ih = sym (add-zero (length (p .rows)))
-
 -- the row count before a merge's compaction
 applied-rows : (p : Plain) → length (applied p .table .rows) ≡ length (p .rows) + length (mergeAppends p)
-unfolding applied mergeAppends
-applied-rows p = omega (arith, inserts-count (inserts (p .staged)) 0 false (removed p), length-removed p)
+unfolding mergeAppends
+applied-rows p =
+    let n : ℕ = length (p .rows) in
+    let rows : List Row = applied p .table .rows in
+    omega (arith, length-map (drop n rows) (λ (row : Row). row .cells), length-drop n rows, applied-longer p)
 
 -- each row that existed before a merge or was appended by it is in the table after it or was dropped
 pub merged-rows : (p : Plain) → length (p .rows) + length (mergeAppends p) ≡ length (merged p .table .rows) + mergeDrops p

@@ -26,7 +26,7 @@ use Rattle.plain_table.specs.Laws.Lookup.{lookup-none, lookup-at}
 use Rattle.plain_table.specs.Laws.Rows.{noRow, wideRow, freeRow, ProperRows, liveWithKey-key, free-dead, keysDistinct-of, keysDistinct-at, sortedFrom-of, sortedFrom-sorted, Thinned, killIf-thinned, dies-thinned, filter-thinned, thinned-same, thinned-length, thinned-proper-rows, proper-rows-snoc}
 use Rattle.plain_table.specs.Laws.Calls.{refused-nothing, accepted-done, firstRefusal-no, firstRefusal-rest}
 use Rattle.plain_table.specs.Laws.Refreshing.{live-wide, refreshed-whole, none-wrong}
-use Rattle.plain_table.specs.Laws.Counts.{Appended, new, again, insertion-appended, insertion-alike, removed-keeps, removed-alike, insertAll-keeps}
+use Rattle.plain_table.specs.Laws.Counts.{Appended, new, again, insertion-keeps, appended-alike, removed-keeps, removed-alike, insertAll-keeps}
 
 -- ---- an opening's numbers
 
@@ -202,18 +202,18 @@ appended-proper {cells} {p} h w (again old row s l c m e) =
     (rw row-key (killIf-free keys (take keys cells) (p .rows)))
     e
 
--- an insert of the right width that appends a row leaves a proper table; any other leaves the table unchanged
-pub insertion-proper : (cells : List ℕ) (p p′ : Plain) → Proper p → length cells ≡ p .opening .columns → insertion cells p ≡ accepted (some p′) → Proper p′
-insertion-proper cells p p′ h w e = appended-proper h w (insertion-appended cells p p′ e)
+-- an accepted insert of the right width leaves a proper table
+pub insertion-proper : (cells : List ℕ) (p p′ : Plain) → Proper p → length cells ≡ p .opening .columns → insertion cells p ≡ accepted p′ → Proper p′
+insertion-proper cells p p′ h w e = insertion-keeps Proper cells p p′ e h (appended-proper h w)
 
 -- all inserts, each of the right width
-pub insertAll-proper : {p : Plain} (rows : List (List ℕ)) (place : ℕ) (added : Bool) → Proper p → all (λ cells. eqb (length cells) (p .opening .columns)) rows ≡ true
-    → Proper (insertAll rows place added p .table)
-insertAll-proper {p} rows place added h e =
+pub insertAll-proper : {p : Plain} (rows : List (List ℕ)) (place : ℕ) → Proper p → all (λ cells. eqb (length cells) (p .opening .columns)) rows ≡ true
+    → Proper (insertAll rows place p .table)
+insertAll-proper {p} rows place h e =
     insertAll-keeps (λ t. (Proper t) × (t .opening ≡ p .opening)) (λ cells. eqb (length cells) (p .opening .columns))
-    (λ cells t t′ w k q.
-    (insertion-proper cells t t′ (k .0) (eqb-true _ _ w ∙ ap (λ (o : Opening). o .columns) (sym (k .1))) q, insertion-alike cells t t′ q .opening ∙ k .1))
-    rows e place added p (h, refl)
+    (λ cells t t′ w k a.
+    (appended-proper (k .0) (eqb-true _ _ w ∙ ap (λ (o : Opening). o .columns) (sym (k .1))) a, appended-alike a .opening ∙ k .1))
+    rows e place p (h, refl)
     .0
 
 -- staged inserts have the right width
@@ -233,7 +233,7 @@ inserts-wide o (removeRow row key ∷ rs) e = inserts-wide o rs (all-tail (λ r.
 pub applied-proper : {p : Plain} → Proper p → Proper (applied p .table)
 unfolding applied
 applied-proper {p} h =
-    insertAll-proper (inserts (p .staged)) 0 false (removed-proper h)
+    insertAll-proper (inserts (p .staged)) 0 (removed-proper h)
     (rw (removed-alike p .opening) (inserts-wide (p .opening) (p .staged) (h .staged-whole)))
 
 -- a compaction below the last generation

@@ -1,29 +1,27 @@
 -- The sort values appended since opening or the last clear that emptied rows never fall, and `largest` of a plain table is the
 -- largest of them, after any calls. Assumes nothing.
-use Prim.Native.Nat.{ℕ, suc, _+_, _≤_, _<_}
+use Prim.Native.Nat.{ℕ, zero, suc, _+_, _≤_, _<_}
 use mathlib.Core.Path.{_≡_, refl, sym, ap, subst, _∙_}
 use mathlib.Core.Logic.{inl, inr}
-use mathlib.Core.Bool.{Bool, true, false}
-use mathlib.Core.List.{List, [], _∷_, _++_, map, append-nil, append-assoc}
+use mathlib.Core.Bool.{Bool, true, false, cond}
+use mathlib.Core.List.{List, [], _∷_, _++_, map, map-append, append-nil, append-assoc}
 use mathlib.Core.Option.{Option, none, some}
 use native.Mathlib.Decide.{decLt}
 use native.Mathlib.Nat.{le-max-left, le-max-right, max-eq-right}
 use native.Mathlib.Omega.{arith}
 use lib.Dec.{leb, ltb, eqb}
-use lib.ListN.{length, take, getD, length-append, List·getD-append}
-use lib.Seq.{getD-at}
+use lib.ListN.{length, take, drop, getD, length-append, length-map, drop-of-length-le, List·getD-append}
+use lib.Seq.{drop-append-le, getD-at}
 use borrow.Author.Tests.{leb-true, le-leb, ltb-false, le-ltb}
 use Rattle.lists.specs.Lists.{all}
 use Rattle.lists.specs.Laws.Filter.{split, all-getD}
 use Rattle.lists.specs.Laws.All.{all-head, all-tail, all-cons}
-use Rattle.refusals.specs.Refusals.{Reply, refused, accepted}
-use Rattle.plain_table.specs.Staged.{Opening, inserts}
-use Rattle.plain_table.specs.Plain.{Row, Plain, opened, stage, liveWithKey, killIf, removed, below, raised, insertion, continueInserts, insertAll, applied, compacted, unstaged, compactsAfter, merged, cleared}
+use Rattle.plain_table.specs.Staged.{Opening}
+use Rattle.plain_table.specs.Plain.{Row, Plain, opened, stage, liveWithKey, killIf, removed, below, raised, applied, compacted, unstaged, compactsAfter, merged, cleared}
 use Rattle.plain_table.specs.Calls.{Call, staging, merging, compacting, clearing, refreshing, feeding, recordsOf, stageAll, refusal, done, after, LentCall, afterAll}
-use Rattle.plain_table.specs.Proper.{rowOf}
-use Rattle.plain_table.specs.Appending.{appendsOn, insertsAppend, mergeAppends, stampsOf, stampsDone, stampsAfter, stampsSince, greatest}
-use Rattle.plain_table.specs.Laws.Rows.{noRow, liveRow, raised-same}
-use Rattle.plain_table.specs.Laws.Counts.{Appended, new, again, insertion-appended, insertion-alike, length-killIf, removed-keeps, removed-alike}
+use Rattle.plain_table.specs.Appending.{mergeAppends, byKind, byCall, stampsOf, stampsAfter, stampsSince, greatest}
+use Rattle.plain_table.specs.Laws.Rows.{liveRow, raised-same}
+use Rattle.plain_table.specs.Laws.Counts.{Appended, new, again, appended-alike, removed-keeps, length-removed, removed-alike, applied-keeps}
 use Rattle.plain_table.specs.Laws.Proper.{stop-above}
 
 -- `largest` of the table is the largest of these sort values, and they never fall
@@ -83,47 +81,76 @@ stamped-snoc {p} {stamps} p′ v s above e =
 
 -- ---- the inserts of a merge
 
--- the sort value of the row that an insert appends, and the largest value after it
-appended-stamp : {cells : List ℕ} {p p′ : Plain} → Appended cells p p′
-    → let v = getD (rowOf p′ (length (p .rows)) .cells) (p .opening .sort) 0 in
-    (below v (p .largest) ≡ false) × (p′ .largest ≡ some (raised v (p .largest)))
-appended-stamp {cells} {p} (new s l q) =
-    let e : getD (p .rows ++ (liveRow cells ∷ [])) (length (p .rows)) noRow ≡ liveRow cells = getD-at (p .rows) (liveRow cells) [] noRow (length (p .rows)) refl in
-    rw e (stop-above cells p q, refl)
-appended-stamp {cells} {p} (again old row s l c m q) =
+-- the cells of a table's rows
+abbrev cellsIn : Plain → List (List ℕ)
+cellsIn p = map (λ row. row .cells) (p .rows)
+
+-- a dead row has the same cells
+cells-killed : (test : Row → Bool) (rows : List Row) → map (λ row. row .cells) (killIf test rows) ≡ map (λ row. row .cells) rows
+unfolding killIf
+cells-killed test [] = refl
+cells-killed test (row ∷ rows) =
+    let h = cells-killed test rows in
+    elim (split (test row)) [ inl e ↦ rw (e, h) | inr e ↦ rw (e, h) ]
+
+-- one more row, its sort value and the largest value after it
+record Grown (p p′ : Plain) : Type 0 where
+  row : List ℕ
+  cells-after : cellsIn p′ ≡ cellsIn p ++ (row ∷ [])
+  above : below (getD row (p .opening .sort) 0) (p .largest) ≡ false
+  largest-after : p′ .largest ≡ some (raised (getD row (p .opening .sort) 0) (p .largest))
+
+appended-grown : {cells : List ℕ} {p p′ : Plain} → Appended cells p p′ → Grown p p′
+appended-grown {cells} {p} (new s l q) =
+    record {
+      row = cells;
+      cells-after = map-append (λ (row : Row). row .cells) (p .rows) (liveRow cells ∷ []);
+      above = stop-above cells p q;
+      largest-after = refl;
+    }
+appended-grown {cells} {p} (again old row s l c m q) =
     let test : Row → Bool = liveWithKey (p .opening .keys) (take (p .opening .keys) cells) in
-    let e : getD (killIf test (p .rows) ++ (liveRow row ∷ [])) (length (p .rows)) noRow ≡ liveRow row =
-    getD-at (killIf test (p .rows)) (liveRow row) [] noRow (length (p .rows)) (length-killIf test (p .rows)) in
-    rw e (stop-above row p q, refl)
+    record {
+      row = row;
+      cells-after =
+          map-append (λ (row : Row). row .cells) (killIf test (p .rows)) (liveRow row ∷ [])
+          ∙ ap (λ (l : List (List ℕ)). l ++ (row ∷ [])) (cells-killed test (p .rows));
+      above = stop-above row p q;
+      largest-after = refl;
+    }
 
-stamped-insertion : {p : Plain} {stamps : List ℕ} (cells : List ℕ) (p′ : Plain) → insertion cells p ≡ accepted (some p′) → Stamped p stamps
-    → Stamped p′ (stamps ++ (getD (rowOf p′ (length (p .rows)) .cells) (p .opening .sort) 0 ∷ []))
-stamped-insertion {p} cells p′ e s =
-    let a = appended-stamp (insertion-appended cells p p′ e) in
-    stamped-snoc p′ _ s (a .0) (a .1)
+module _ (p : Plain) (stamps : List ℕ) where
+  -- with the sort values of the rows behind those of p
+  abbrev stampsTo : Plain → List ℕ
+  stampsTo t = stamps ++ stampsOf p (drop (length (p .rows)) (cellsIn t))
 
--- tables with the same opening have the same sort column
-stampsOf-same : (p q : Plain) (rows : List (List ℕ)) → q .opening ≡ p .opening → stampsOf q rows ≡ stampsOf p rows
-stampsOf-same p q rows e = ap (λ (o : Opening). map (λ cells. getD cells (o .sort) 0) rows) e
+  -- a table that the inserts of a merge on p lead to
+  record Going (t : Plain) : Type 0 where
+    opening : t .opening ≡ p .opening
+    longer : length (p .rows) ≤ length (cellsIn t)
+    stamped : Stamped t (stampsTo t)
 
-stamped-inserts : (rows : List (List ℕ)) (place : ℕ) (added : Bool) (p : Plain) (stamps : List ℕ) → Stamped p stamps
-    → Stamped (insertAll rows place added p .table) (stamps ++ stampsOf p (insertsAppend rows p))
-unfolding insertAll insertsAppend
-stamped-inserts [] place added p stamps s = rw (append-nil stamps) s
-stamped-inserts (cells ∷ rest) place added p stamps s = go (insertion cells p) refl (stamped-inserts rest (suc place))
-  where
-    go : (i : Reply (Option Plain)) → insertion cells p ≡ i
-        → ((added′ : Bool) (q : Plain) (vs : List ℕ) → Stamped q vs → Stamped (insertAll rest (suc place) added′ q .table) (vs ++ stampsOf q (insertsAppend rest q)))
-        → Stamped (continueInserts i place added p (insertAll rest (suc place)) .table) (stamps ++ stampsOf p (appendsOn i p (insertsAppend rest)))
-    go (accepted none) e ih = ih added p stamps s
-    go (accepted (some p′)) e ih =
-        let v : ℕ = getD (rowOf p′ (length (p .rows)) .cells) (p .opening .sort) 0 in
-        let t = ih true p′ (stamps ++ (v ∷ [])) (stamped-insertion cells p′ e s) in
-        let later : List (List ℕ) = insertsAppend rest p′ in
-        let o = stampsOf-same p p′ later (insertion-alike cells p p′ e .opening) in
-        subst (λ (vs : List ℕ). Stamped (insertAll rest (suc place) true p′ .table) vs)
-        (ap (λ (vs : List ℕ). (stamps ++ (v ∷ [])) ++ vs) o ∙ append-assoc stamps (v ∷ []) (stampsOf p later)) t
-    go (refused n) e ih = rw (append-nil stamps) s
+  stamps-grown : (t t′ : Plain) (g : Grown t t′) → length (p .rows) ≤ length (cellsIn t) → stampsTo t′ ≡ stampsTo t ++ (getD (g .row) (p .opening .sort) 0 ∷ [])
+  stamps-grown t t′ g h =
+      let n : ℕ = length (p .rows) in
+      let v : ℕ = getD (g .row) (p .opening .sort) 0 in
+      let tail : drop n (cellsIn t′) ≡ drop n (cellsIn t) ++ (g .row ∷ []) = ap (drop n) (g .cells-after) ∙ drop-append-le n (cellsIn t) (g .row ∷ []) h in
+      ap (λ (l : List (List ℕ)). stamps ++ stampsOf p l) tail
+      ∙ ap (λ (l : List ℕ). stamps ++ l) (map-append (λ (cells : List ℕ). getD cells (p .opening .sort) 0) (drop n (cellsIn t)) (g .row ∷ []))
+      ∙ sym (append-assoc stamps (stampsOf p (drop n (cellsIn t))) (v ∷ []))
+
+  going-appended : (cells : List ℕ) (t t′ : Plain) → Going t → Appended cells t t′ → Going t′
+  going-appended cells t t′ h a =
+      let g = appended-grown a in
+      let v : ℕ = getD (g .row) (p .opening .sort) 0 in
+      let above : below v (t .largest) ≡ false = ap (λ (o : Opening). below (getD (g .row) (o .sort) 0) (t .largest)) (sym (h .opening)) ∙ g .above in
+      let largest : t′ .largest ≡ some (raised v (t .largest)) =
+      g .largest-after ∙ ap (λ (o : Opening). some (raised (getD (g .row) (o .sort) 0) (t .largest))) (h .opening) in
+      record {
+        opening = appended-alike a .opening ∙ h .opening;
+        longer = omega (arith, h .longer, ap length (g .cells-after), length-append (cellsIn t) (g .row ∷ []));
+        stamped = rw (stamps-grown t t′ g (h .longer)) (stamped-snoc t′ v (h .stamped) above largest);
+      }
 
 -- ---- the calls
 
@@ -138,20 +165,37 @@ merged-largest : (p : Plain) → merged p .table .largest ≡ applied p .table .
 unfolding merged compacted unstaged
 merged-largest p = elim (split (compactsAfter (applied p .status) (applied p .table))) [ inl e ↦ rw e | inr e ↦ rw e ]
 
-stamped-merge : {p : Plain} {stamps : List ℕ} → Stamped p stamps → Stamped (merged p .table) (stamps ++ stampsOf p (mergeAppends p))
-unfolding applied mergeAppends
-stamped-merge {p} {stamps} s =
+map-drop : {A B : Type 0} (f : A → B) (n : ℕ) (l : List A) → drop n (map f l) ≡ map f (drop n l)
+map-drop f zero l = refl
+map-drop f (suc n) [] = refl
+map-drop f (suc n) (x ∷ xs) = map-drop f n xs
+
+going-removed : {p : Plain} {stamps : List ℕ} → Stamped p stamps → Going p stamps (removed p)
+going-removed {p} {stamps} s =
     let q : Plain = removed p in
-    let t = stamped-inserts (inserts (p .staged)) 0 false q stamps (stamped-same q (removed-largest p) s) in
+    let n : length (cellsIn q) ≡ length (p .rows) = length-map (q .rows) (λ (row : Row). row .cells) ∙ length-removed p in
+    let none : drop (length (p .rows)) (cellsIn q) ≡ [] = drop-of-length-le (cellsIn q) {i = length (p .rows)} (omega arith) in
+    record {
+      opening = removed-alike p .opening;
+      longer = omega arith;
+      stamped = rw (none, append-nil stamps) (stamped-same q (removed-largest p) s);
+    }
+
+stamped-merge : {p : Plain} {stamps : List ℕ} → Stamped p stamps → Stamped (merged p .table) (stamps ++ stampsOf p (mergeAppends p))
+unfolding mergeAppends
+stamped-merge {p} {stamps} s =
+    let t : Plain = applied p .table in
+    let g : Going p stamps t = applied-keeps (Going p stamps) (going-appended p stamps) p (going-removed s) in
     stamped-same (merged p .table) (merged-largest p)
-    (subst (λ (vs : List ℕ). Stamped (insertAll (inserts (p .staged)) 0 false q .table) (stamps ++ vs)) (stampsOf-same p q (mergeAppends p) (removed-alike p .opening)) t)
+    (subst (λ (rows : List (List ℕ)). Stamped t (stamps ++ stampsOf p rows)) (map-drop (λ (row : Row). row .cells) (length (p .rows)) (t .rows)) (g .stamped))
 
 stamped-opened : (o : Opening) (generation : ℕ) → Stamped (opened o generation) []
 unfolding opened greatest
 stamped-opened o generation = record { largest-kept = refl; never-fall = λ i j h k. absurd (omega arith) }
 
-stamped-done : {p : Plain} {stamps : List ℕ} (c : Call) → Stamped p stamps → Stamped (done p c) (stampsDone stamps p c)
-unfolding done stampsDone stage stageAll compacted unstaged cleared
+stamped-done : {p : Plain} {stamps : List ℕ} (c : Call) → Stamped p stamps
+    → Stamped (done p c) (byKind c (stamps ++ stampsOf p (mergeAppends p)) (cond (ltb 0 (length (p .rows))) [] stamps) stamps)
+unfolding done byKind stage stageAll compacted unstaged cleared
 stamped-done {p} (staging r) s = stamped-same (stage p r) refl s
 stamped-done merging s = stamped-merge s
 stamped-done {p} compacting s = stamped-same (compacted p) refl s
@@ -164,7 +208,7 @@ stamped-done {p} (refreshing r index) s = stamped-same (stageAll p (recordsOf p 
 stamped-done {p} (feeding rs) s = stamped-same (stageAll p rs) refl s
 
 stamped-after : {p : Plain} {stamps : List ℕ} (c : LentCall) → Stamped p stamps → Stamped (after p (c .lengths) (c .call)) (stampsAfter stamps p c)
-unfolding after stampsAfter
+unfolding after stampsAfter byCall
 stamped-after {p} c s = elim (split (eqb (refusal p (c .lengths) (c .call)) 0)) [ inl e ↦ rw e (stamped-done (c .call) s) | inr e ↦ rw e s ]
 
 stamped-all : {p : Plain} {stamps : List ℕ} (cs : List LentCall) → Stamped p stamps → Stamped (afterAll p cs) (stampsSince stamps p cs)
