@@ -1,12 +1,10 @@
 -- The numbers of rows that a merge appends, keeps and drops add up, and its compaction keeps no more rows than it drops. Assumes
 -- nothing.
-use Prim.Native.Nat.{ℕ, suc, _+_, _/_, _≤_, _<_, max}
-use mathlib.Core.Path.{_≡_, refl, sym}
+use Prim.Native.Nat.{ℕ, _+_, _/_, _≤_, _<_, max}
+use mathlib.Core.Path.{_≡_, refl}
 use mathlib.Core.Logic.{inl, inr}
-use mathlib.Core.Bool.{Bool, true, false}
-use mathlib.Core.List.{List, [], _∷_}
-use mathlib.Core.Option.{Option, none, some}
-use native.Mathlib.Nat.{add-zero, le-max-right}
+use mathlib.Core.List.{List}
+use native.Mathlib.Nat.{le-max-right}
 use native.Mathlib.Omega.{arith}
 use lib.Dec.{eqb}
 use lib.ListN.{length, drop, length-map, length-drop}
