@@ -4,6 +4,7 @@ use Prim.Native.Nat.{ℕ, _+_, _*_, _/_, _%_, _^_}
 use mathlib.Core.Bool.{Bool}
 use mathlib.Core.List.{List, foldl}
 use lib.Dec.{eqb}
+pub mod Hash
 
 -- "a row whose first cell is 4294967295 is dead"
 unfoldable pub isDead : ℕ → Bool
@@ -27,7 +28,7 @@ mixed hash cell =
     let product = sum * (sum % 2 ^ 16 * 2 ^ 16 + sum / 2 ^ 16) in
     (product / 2 ^ 31 + product % 2 ^ 32) % 2 ^ 32
 
--- "any hash of the key cells alone will do": this one has 32 bits, repeated in both halves of the 64, so that the compact hash has
--- all of them
-unfoldable pub keyHash : List ℕ → ℕ
+-- "any hash of the key cells alone will do": ours has 32 bits, repeated in both halves of the 64, so that the compact hash has all of
+-- them. The definition is shut: it stands for any hash, and only the laws in Cells/Hash.antt open it.
+pub keyHash : List ℕ → ℕ
 keyHash key = foldl mixed 0 key * (2 ^ 32 + 1)

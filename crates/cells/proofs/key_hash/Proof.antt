@@ -6,7 +6,8 @@ use mathlib.Core.List.{foldl}
 use borrow.Author.Needs.{needs}
 use native.Mathlib.Omega.{arith}
 use lib.ListN.{length, drop}
-use Rattle.cells.specs.Cells.{mixed, keyHash}
+use Rattle.cells.specs.Cells.{mixed}
+use Rattle.cells.specs.Cells.Hash.{key-hash-is}
 use Rattle.cells.proofs.Hash.{hash-step, hash-end}
 use Rattle.cells.proofs.key_hash.Statement.{statement}
 use Rattle.cells.proofs.key_hash.Tie as tie
@@ -26,8 +27,10 @@ loop-again c =
     (search needs, search needs, l .inv .2 ∙ hash-step _ (l .i) (l .hash) (omega arith) ∙ rw (c .mix .ensures))
 
 returns : tie.Need-returns Inv-loop μ-loop
-unfolding keyHash
-returns c = let l = c .before .loop in ap (λ (n : ℕ). n * (2 ^ 32 + 1)) (sym (l .inv .2 ∙ hash-end _ (l .i) (l .hash) (c .loop-test .left)))
+returns c =
+    let l = c .before .loop in
+    ap (λ (n : ℕ). n * (2 ^ 32 + 1)) (sym (l .inv .2 ∙ hash-end _ (l .i) (l .hash) (c .loop-test .left)))
+    ∙ sym (key-hash-is _)
 
 pub key-hash-spec : {M : Type 1} → statement M
 key-hash-spec =
