@@ -1,10 +1,11 @@
--- Sort entries (document 01, "Sort entries"): appending, rebuilding, and the fast range. Assumes nothing.
+-- Sort entries (document 01, "Sort entries"): those of rows, and the fast range. Assumes nothing.
 use Prim.Native.Nat.{ℕ, zero, suc}
-use mathlib.Core.Bool.{Bool, true, cond, _&&_}
-use mathlib.Core.List.{List, [], _∷_, _++_, map}
+use mathlib.Core.Bool.{Bool, cond, _&&_}
+use mathlib.Core.List.{List, [], _∷_, map}
+use mathlib.Core.Option.{Option, none, some}
 use lib.ListN.{drop, getD}
 use lib.Dec.{leb, ltb, eqb}
-use Rattle.lists.specs.Lists.{filter, all, any, rising}
+use Rattle.lists.specs.Lists.{filter, all, rising}
 use Rattle.offsets.specs.Subsets.{Subset, range}
 
 -- "Pairs of value and first row"
@@ -24,40 +25,49 @@ unfoldable pub entryWords : List Entry → List ℕ
 entryWords [] = []
 entryWords (e ∷ es) = e .value ∷ e .row ∷ entryWords es
 
--- there is no entry, or the last entry's value passes the test
-unfoldable pub lastPasses : (ℕ → Bool) → List Entry → Bool
-lastPasses test [] = true
-lastPasses test (e ∷ []) = test (e .value)
-lastPasses test (e ∷ (f ∷ es)) = lastPasses test (f ∷ es)
+-- The entries of rows with these sort values, numbered from `row`: a row has one if its value is above every earlier one. `largest`
+-- is the largest earlier value, if there is one.
+unfoldable pub rebuiltFrom : ℕ → Option ℕ → List ℕ → List Entry
+rebuiltFrom row largest [] = []
+rebuiltFrom row none (value ∷ values) = entry value row ∷ rebuiltFrom (suc row) (some value) values
+rebuiltFrom row (some largest) (value ∷ values) =
+    cond (ltb largest value)
+    (entry value row ∷ rebuiltFrom (suc row) (some value) values)
+    (rebuiltFrom (suc row) (some largest) values)
 
--- the entries after a row with this sort value is appended: one more exactly if the value rises
-unfoldable pub push : ℕ → ℕ → List Entry → List Entry
-push value row es = cond (lastPasses (λ v. ltb v value) es) (es ++ (entry value row ∷ [])) es
-
--- the entries after rows with these sort values, numbered from `row`, are appended one after another
-unfoldable pub pushAll : ℕ → List ℕ → List Entry → List Entry
-pushAll row [] es = es
-pushAll row (value ∷ values) es = pushAll (suc row) values (push value row es)
-
--- the entries of rows with these sort values, numbered from 0. Those of a compaction are "rebuilt from live rows", since there are
--- no other rows
+-- those numbered from 0. Those of a compaction are "rebuilt from live rows", since there are no other rows
 unfoldable pub rebuilt : List ℕ → List Entry
-rebuilt values = pushAll 0 values []
+rebuilt values = rebuiltFrom 0 none values
 
 -- the row of the first entry, or the row count if there is none
 unfoldable pub firstRow : List Entry → ℕ → ℕ
 firstRow [] rows = rows
 firstRow (e ∷ es) rows = e .row
 
--- The rows of a condition of kind 1 to 5 on the sort column: equal, less, greater, at most, at least. "With f the row of an entry
--- of value v, b the next entry's row or the row count": f is the row of the first entry not below v, b that of the first above v.
--- "Without such an entry" both are the paper's g, and equal gives 0..0.
+-- the entries from the first one of value v on; none if there is no such entry
+unfoldable pub entriesFrom : ℕ → List Entry → List Entry
+entriesFrom v [] = []
+entriesFrom v (e ∷ es) = cond (eqb (e .value) v) (e ∷ es) (entriesFrom v es)
+
+-- by the kind of a condition, 1 to 5: "equal .. less .. greater .. at most .. at least"
+unfoldable pub byKind : ℕ → Subset → Subset → Subset → Subset → Subset → Subset
+byKind kind equal less greater most least =
+    cond (eqb kind 1) equal (cond (eqb kind 2) less (cond (eqb kind 3) greater (cond (eqb kind 4) most least)))
+
+-- The rows of a condition of kind 1 to 5 on the sort column. "With f the row of an entry of value v, b the next entry's row or the
+-- row count, and g the row of the first entry above v or the row count: equal f..b, less 0..f, greater b..count, at most 0..b, at
+-- least f..count. Without such an entry: 0..0, 0..g, g..count, 0..g, g..count."
 unfoldable pub fastRange : ℕ → ℕ → List Entry → ℕ → Subset
-fastRange kind v es rows =
-    let f = firstRow (filter (λ e. leb v (e .value)) es) rows in
-    let b = firstRow (filter (λ e. ltb v (e .value)) es) rows in
-    cond (eqb kind 1) (cond (any (λ e. eqb (e .value) v) es) (range f b) (range 0 0))
-    (cond (eqb kind 2) (range 0 f) (cond (eqb kind 3) (range b rows) (cond (eqb kind 4) (range 0 b) (range f rows))))
+fastRange kind v es count =
+    elim (entriesFrom v es) [
+      | e ∷ next ↦
+          let f = e .row in
+          let b = firstRow next count in
+          byKind kind (range f b) (range 0 f) (range b count) (range 0 b) (range f count)
+      | [] ↦
+          let g = firstRow (filter (λ e. ltb v (e .value)) es) count in
+          byKind kind (range 0 0) (range 0 g) (range g count) (range 0 g) (range g count)
+    ]
 
 -- the value of the last entry at or below a row
 unfoldable pub valueAt : ℕ → List Entry → ℕ

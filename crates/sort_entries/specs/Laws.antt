@@ -1,6 +1,6 @@
 -- What follows from the definitions.
-pub mod Stores
 pub mod Push
+pub mod Stores
 pub mod Sound
 pub mod Positions
 pub mod Ranges

@@ -17,9 +17,9 @@ use Rattle.lists.specs.Laws.Rows.{row-in}
 use Rattle.cells.specs.Cells.{isDead}
 use Rattle.constraints.specs.Constraints.{isLive}
 use Rattle.constraints.specs.Laws.Rows.{live-first}
-use Rattle.sort_entries.specs.Entries.{Entry, entryWords, push, pushAll, rebuilt}
+use Rattle.sort_entries.specs.Entries.{Entry, entryWords, rebuiltFrom, rebuilt}
 use Rattle.sort_entries.specs.inner.Append.{Append}
-use Rattle.sort_entries.specs.Laws.Push.{push-few}
+use Rattle.sort_entries.specs.Laws.Push.{push, push-few}
 use Rattle.row_buffer.specs.Ranks.{liveAt, liveWord, bitmapWord, newNumber}
 use Rattle.bitmap.specs.inner.Marking.{Spaced, otherAt}
 use Rattle.bitmap.specs.Laws.Lowest.{bitmapWord-same, onward, onward-all, Next, next-bit, no-more}
@@ -75,7 +75,7 @@ module _ {h : Header} {rows sorts : List ℕ} {row : ℕ} {kept : KeptCounts} (k
 
 module _ {h : Header} {rows₀ sorts₀ : List ℕ} where
   pub close-begin : Closing h rows₀ sorts₀ rows₀ sorts₀ (record { rows = 0; entries = 0 }) 0
-  unfolding liveStored entriesFor rowsOf filter flatten rebuilt pushAll entryWords
+  unfolding liveStored entriesFor rowsOf filter flatten rebuilt rebuiltFrom entryWords
   close-begin =
       record {
         row-in = omega arith;

@@ -8,7 +8,7 @@ use native.Mathlib.Omega.{arith}
 use lib.ListN.{length}
 use Rattle.lists.specs.Lists.{splice, count, rowsOf, flatten}
 use Rattle.refusals.specs.Refusals.{firstRefusal, reply, outcome}
-use Rattle.sort_entries.specs.Entries.{entryWords, rebuilt, pushAll}
+use Rattle.sort_entries.specs.Entries.{entryWords, rebuiltFrom, rebuilt}
 use Rattle.key_index.specs.Slots.{sizeClass, sizeClassFor}
 use Rattle.plain_table.specs.Staged.{Opening, openable, Staged, insert, removeKey, removeRow, wordsOf, wordsAll, inserts, compactionDue}
 use Rattle.plain_table.specs.Refusing.{Lengths, storesShort, wordsShort, openRefusal, compactChecks, mergeChecks}
@@ -91,7 +91,7 @@ unmoved = mergeOf (opened example 0)
 
 -- accepted, without effect
 example-stays : MergedTable exampleStores oneWord (Merged unmoved) (body (0 ∷ eleven) eight eight) oneWord (opened example 0)
-unfolding mergeView mergedRows opened merged applied inserts removed insertAll unstaged compactsAfter compactionDue dead count entries rebuilt pushAll stored rowStore sortStore rowsOf flatten entryWords splice wordsAll openable storesShort sizeClassFor sizeClass
+unfolding mergeView mergedRows opened merged applied inserts removed insertAll unstaged compactsAfter compactionDue dead count entries rebuilt rebuiltFrom stored rowStore sortStore rowsOf flatten entryWords splice wordsAll openable storesShort sizeClassFor sizeClass
 example-stays =
     record {
       answers = refl;
@@ -115,7 +115,7 @@ example-merged =
 pub lengths-differ : History example 0
     (record { call = compacting; lengths = lentRows 11 } ∷ record { call = merging; lengths = lentRows 12 } ∷ [])
     exampleStores
-unfolding headerAfter headerMerged tableView mergeView opened merged applied inserts removed insertAll unstaged compactsAfter compactionDue dead count entries rebuilt pushAll wordsAll largestOf
+unfolding headerAfter headerMerged tableView mergeView opened merged applied inserts removed insertAll unstaged compactsAfter compactionDue dead count entries rebuilt rebuiltFrom wordsAll largestOf
 lengths-differ =
     record {
       start = exampleStores;

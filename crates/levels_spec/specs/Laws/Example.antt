@@ -2,24 +2,23 @@
 use Prim.Native.Nat.{ℕ}
 use mathlib.Core.Path.{_≡_, refl}
 use mathlib.Core.List.{List, [], _∷_}
-use Rattle.lists.specs.Lists.{flatten, all, any, same, count, filter, iota, find}
+use Rattle.lists.specs.Lists.{flatten, all, same, count, filter, iota, find}
 use Rattle.refusals.specs.Refusals.{firstRefusal, reply}
 use Rattle.cells.specs.Cells.{isDead}
 use Rattle.merge_rules.specs.Rules.{ruledColumn, signed, smaller, larger, taken, madeCell, madeFrom, changesFrom, ruled}
 use Rattle.constraints.specs.Constraints.{known}
-use Rattle.sort_entries.specs.Entries.{entriesOf, entryWords, lastPasses, push, pushAll, rebuilt, firstRow, fastRange}
+use Rattle.sort_entries.specs.Entries.{rebuiltFrom, rebuilt, firstRow, entriesFrom, byKind, fastRange}
 use Rattle.plain_table.specs.Staged.{openable, wordsOf, wordsAll, inserts, hasKey, skipped, compactionDue}
 use Rattle.plain_table.specs.Refusing.{storesShort, wordsShort, wrongWidth, noSuchRow, overfull, openRefusal, stageChecks, mergeChecks}
 use Rattle.plain_table.specs.Plain.{liveFrom, liveRows, lookup, dead, opened, stage, liveWithKey, killIf, withoutKey, withoutRow, removed, below, stop, raised, append, upsert, insertion, insertAll, applied, added, compacted, unstaged, compactsAfter, merged}
 use Rattle.plain_table.specs.Calls.{refusal, done, after}
 use Rattle.table.specs.Stores.{entries}
-use Rattle.table.specs.Contracts.{fastSubset}
 use Rattle.levels_text.specs.Lines.{fields, valueFrom, isDecimal, isLine, letter, numbers, isBare, isForm, ofForms}
 use Rattle.levels_text.specs.Written.{digitsIn, decimal, field, textLine}
 use Rattle.listing_spec.specs.Listings.{headLetter, listingText}
 use Rattle.listing_write.specs.Writing.{headNumbers, rowFields, tableListing}
 use Rattle.levels_spec.specs.Session.{prependToFirst, linesIn, session, printed}
-use Rattle.levels_spec.specs.Response.{replied, openNumber, opens, calls, queries, mergeText, rangeText, versionText, listText, served, onTable, result, lineResult}
+use Rattle.levels_spec.specs.Response.{replied, openNumber, opens, calls, queries, mergeText, fastSubsetOf, rangeText, versionText, listText, served, onTable, result, lineResult}
 
 -- one line each: `O,4,2,3,1,100,0` `I,7,1,160,10` `I,7,2,148,10` `M` `I,7,1,163,12` `R,7,2` `M` `F,1,3,10` `V` `L`
 unfoldable pub input : List ℕ

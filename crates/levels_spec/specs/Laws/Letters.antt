@@ -7,14 +7,11 @@ use mathlib.Core.Option.{Option}
 use lib.ListN.{drop, getD}
 use Rattle.constraints.specs.Constraints.{known}
 use Rattle.constraints.specs.Encoding.{conditionIn}
-use Rattle.sort_entries.specs.Entries.{entryWords}
 use Rattle.plain_table.specs.Staged.{insert, removeKey, removeRow}
 use Rattle.plain_table.specs.Refusing.{Lengths}
 use Rattle.plain_table.specs.Plain.{Plain}
 use Rattle.plain_table.specs.Calls.{staging, merging, compacting, clearing}
-use Rattle.table.specs.Stores.{entries, headerOf}
-use Rattle.table.specs.Contracts.{fastSubset}
-use Rattle.levels_spec.specs.Response.{opens, calls, queries, mergeText, rangeText, versionText, listText, numberedText, openingIn, served, onTable, result}
+use Rattle.levels_spec.specs.Response.{opens, calls, queries, mergeText, fastSubsetOf, rangeText, versionText, listText, numberedText, openingIn, served, onTable, result}
 
 module _ (l : Lengths) (t : Option Plain) {letter : ℕ} (ns : List ℕ) where
   pub result-open : letter ≡ 79 → result l t letter ns ≡ opens l t (openingIn ns) (getD ns 5 0)
@@ -45,7 +42,7 @@ module _ (l : Lengths) (t : Option Plain) {letter : ℕ} (ns : List ℕ) where
   unfolding result served
   result-compact e = rw e
 
-  pub result-range : letter ≡ 70 → result l t letter ns ≡ onTable t (λ p. queries p (cond (known (p .opening .columns) (conditionIn ns 0)) 0 6) (rangeText (fastSubset (headerOf p) (entryWords (entries p)) (conditionIn ns 0))))
+  pub result-range : letter ≡ 70 → result l t letter ns ≡ onTable t (λ p. queries p (cond (known (p .opening .columns) (conditionIn ns 0)) 0 6) (rangeText (fastSubsetOf p (conditionIn ns 0))))
   unfolding result served
   result-range e = rw e
 

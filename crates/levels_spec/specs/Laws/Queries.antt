@@ -1,9 +1,9 @@
 -- The contracts of a fast range and of a version imply those of F, V, L and U, for any table that the stores hold. Assumes nothing.
 use Prim.Native.Nat.{ℕ, _*_, _≤_}
-use mathlib.Core.Path.{_≡_, refl, sym, ap, _∙_}
+use mathlib.Core.Path.{_≡_, refl, ap, _∙_}
 use mathlib.Core.Logic.{inl, inr}
 use mathlib.Core.Bool.{Bool, true, false, cond}
-use mathlib.Core.List.{List, [], append-nil}
+use mathlib.Core.List.{List}
 use mathlib.Core.Option.{Option, none, some}
 use native.Mathlib.Omega.{arith}
 use lib.ListN.{length}
@@ -13,8 +13,6 @@ use Rattle.refusals.specs.Refusals.{firstRefusal}
 use Rattle.offsets.specs.Subsets.{Subset, range, list}
 use Rattle.constraints.specs.declared.Constraint.{Constraint}
 use Rattle.constraints.specs.Constraints.{known}
-use Rattle.sort_entries.specs.Entries.{entriesOf, entryWords}
-use Rattle.sort_entries.specs.Laws.Stores.{entriesOf-words}
 use Rattle.plain_table.specs.Plain.{Plain}
 use Rattle.table.specs.declared.Header.{Header}
 use Rattle.table.specs.declared.Version.{Version}
@@ -22,7 +20,6 @@ use Rattle.table.specs.declared.RangeAnswer.{RangeAnswer}
 use Rattle.table.specs.declared.VersionAnswer.{VersionAnswer}
 use Rattle.table.specs.Numbers.{rangeView, versionView}
 use Rattle.table.specs.Refusing.{outside, pairsShort, fastRefusal, versionRefusal}
-use Rattle.table.specs.Stores.{entries, headerOf}
 use Rattle.table.specs.Contracts.{Stores, Represents, fastSubset, RangeRead, VersionRead}
 use Rattle.table.specs.Laws.Shown.{represents-inside, represents-long, rows-counted}
 use Rattle.table.specs.Laws.Sound.{represents-sound}
@@ -32,7 +29,7 @@ use Rattle.listing_write.specs.Writing.{storedText}
 use Rattle.listing_write.specs.Laws.Represented.{stored-plain}
 use Rattle.levels_spec.specs.declared.Response.{Response}
 use Rattle.levels_spec.specs.declared.Response.the-variants.{Listing}
-use Rattle.levels_spec.specs.Response.{queries, rangeText, versionText, listText, numberedText}
+use Rattle.levels_spec.specs.Response.{queries, fastSubsetOf, rangeText, versionText, listText, numberedText}
 use Rattle.levels_spec.specs.inner.Responses.{textOf, responseOf, rangeResponse, versionResponse, listingResponse}
 use Rattle.levels_spec.specs.Laws.Results.{responseOf-refused, responseOf-accepted, responds-table, Does, queries-refused, queries-done}
 use Rattle.levels_spec.specs.Laws.Calls.{reply-ruled}
@@ -53,12 +50,11 @@ fast-number {p} {s} r c =
     rw (represents-inside r, le-ltb (length (s .sorts)) (2 * s .header .capacity) long, columns)
     (elim (split (known (p .opening .columns) c)) [ inl e ↦ rw e | inr e ↦ rw e ])
 
-fast-shown : {p : Plain} {s : Stores} → Represents p s → (c : Constraint) → fastSubset (s .header) (s .sorts) c ≡ fastSubset (headerOf p) (entryWords (entries p)) c
-unfolding fastSubset
+fast-shown : {p : Plain} {s : Stores} → Represents p s → (c : Constraint) → fastSubset (s .header) (s .sorts) c ≡ fastSubsetOf p c
+unfolding fastSubset fastSubsetOf
 fast-shown {p} {s} r c =
     let sort : s .header .sort ≡ p .opening .sort = ap (λ (h : Header). h .sort) (r .shown .header) in
-    let back : entriesOf (length (entries p)) (entryWords (entries p)) ≡ entries p = ap (entriesOf (length (entries p))) (sym (append-nil (entryWords (entries p)))) ∙ entriesOf-words (entries p) [] in
-    rw (sort, r .shown .entries-shown, rows-counted r, back)
+    rw (sort, r .shown .entries-shown, rows-counted r)
 
 range-response : (h : Header) (rows : List ℕ) (answer : Option Subset) → textOf h rows (rangeResponse answer) ≡ rangeText answer
 unfolding textOf rangeResponse rangeText
@@ -67,16 +63,16 @@ range-response h rows (some (range start end)) = refl
 range-response h rows (some (list ids)) = refl
 
 pub range-does : {s : Stores} {c : Constraint} {answer : RangeAnswer} {response : Response} → response ≡ responseOf rangeResponse (rangeView answer) → RangeRead (s .header) (s .sorts) c answer
-    → Does (λ p. queries p (cond (known (p .opening .columns) c) 0 6) (rangeText (fastSubset (headerOf p) (entryWords (entries p)) c))) s s response (fastRefusal (s .header) (length (s .sorts)) c)
+    → Does (λ p. queries p (cond (known (p .opening .columns) c) 0 6) (rangeText (fastSubsetOf p c))) s s response (fastRefusal (s .header) (length (s .sorts)) c)
 range-does {s} {c} {answer} same m =
     let n : ℕ = fastRefusal (s .header) (length (s .sorts)) c in
     record {
       outside-first = fast-outside (s .header) (length (s .sorts)) c;
       response-refused = λ more. same ∙ responseOf-refused rangeResponse (rangeView answer) n (m .refusal) more;
       stays = λ more. refl;
-      result-refused = λ p r more. queries-refused p _ (rangeText (fastSubset (headerOf p) (entryWords (entries p)) c)) n (fast-number r c) more;
+      result-refused = λ p r more. queries-refused p _ (rangeText (fastSubsetOf p c)) n (fast-number r c) more;
       result-done = λ p r zero.
-          rw (queries-done p (cond (known (p .opening .columns) c) 0 6) (rangeText (fastSubset (headerOf p) (entryWords (entries p)) c)) n (fast-number r c) zero, same, responseOf-accepted rangeResponse (rangeView answer) (fastSubset (s .header) (s .sorts) c) (m .table zero (represents-sound r .contents .entries-rise)), ← fast-shown r c)
+          rw (queries-done p (cond (known (p .opening .columns) c) 0 6) (rangeText (fastSubsetOf p c)) n (fast-number r c) zero, same, responseOf-accepted rangeResponse (rangeView answer) (fastSubset (s .header) (s .sorts) c) (m .table zero (represents-sound r .contents .entries-rise)), ← fast-shown r c)
           (responds-table (range-response (s .header) (s .rows) (fastSubset (s .header) (s .sorts) c)) r);
     }
 

@@ -13,7 +13,8 @@ use Rattle.lists.specs.Lists.{splice}
 use Rattle.lists.specs.Laws.Filter.{split}
 use Rattle.lists.specs.Laws.Parts.{length-splice, splice-alike}
 use Rattle.refusals.specs.Refusals.{firstRefusal}
-use Rattle.sort_entries.specs.Entries.{entriesOf, entryWords, lastPasses, push}
+use Rattle.sort_entries.specs.Entries.{entriesOf, entryWords}
+use Rattle.sort_entries.specs.Laws.Push.{lastPasses, push}
 use Rattle.sort_entries.specs.inner.Append.{EntryFits, Append, append-few}
 use Rattle.sort_entries.specs.Laws.Stores.{words-entriesOf}
 use Rattle.plain_table.specs.Plain.{Plain, stop, below}

@@ -15,8 +15,8 @@ use Rattle.lists.specs.Laws.Parts.{length-splice, splice-start}
 use Rattle.lists.specs.Laws.Rows.{row-in, length-rowsOf, getD-rowsOf, rowsOf-appended, flatten-rowsOf, flatten-append}
 use Rattle.key_index.specs.Slots.{KeysSound}
 use Rattle.row_buffer.specs.Laws.Rows.{stale-rows}
-use Rattle.sort_entries.specs.Entries.{Entry, entriesOf, entryWords, push, rebuilt}
-use Rattle.sort_entries.specs.Laws.Push.{rebuilt-snoc}
+use Rattle.sort_entries.specs.Entries.{Entry, entriesOf, entryWords, rebuilt}
+use Rattle.sort_entries.specs.Laws.Push.{push, rebuilt-snoc}
 use Rattle.sort_entries.specs.Laws.Stores.{length-entriesOf}
 use Rattle.plain_table.specs.Plain.{Row, Plain, withRows, withRow, dead}
 use Rattle.plain_table.specs.Proper.{Proper, rowOf}

@@ -8,7 +8,8 @@ use lib.Dec.{leb, eqb}
 use lib.ListN.{length, getD, set}
 use Rattle.lists.specs.Lists.{splice}
 use Rattle.refusals.specs.Refusals.{check, firstRefusal}
-use Rattle.sort_entries.specs.Entries.{entriesOf, entryWords, push}
+use Rattle.sort_entries.specs.Entries.{entriesOf, entryWords}
+use Rattle.sort_entries.specs.Laws.Push.{push}
 use Rattle.key_index.specs.Slots.{sizeClassFor, slots, KeysSound}
 use Rattle.key_index.specs.inner.Ring.{tagged}
 use Rattle.key_index.specs.inner.Index.{Fits, PutIs}

@@ -8,7 +8,7 @@ use Rattle.offsets.specs.Subsets.{wellFormed, members, size, endOf, listOrNothi
 use Rattle.offsets.specs.Answers.{roomNeeded, intersectRefusal, intersectReply}
 use Rattle.constraints.specs.Constraints.{known, compares, met, isLive, meets}
 use Rattle.row_buffer.specs.Ranks.{setBelow, bitmapWord, liveAt, liveWord, newNumber}
-use Rattle.sort_entries.specs.Entries.{lastPasses, push, pushAll, rebuilt, firstRow, fastRange}
+use Rattle.sort_entries.specs.Entries.{rebuiltFrom, rebuilt, firstRow, entriesFrom, byKind, fastRange}
 use Rattle.plain_table.specs.Staged.{openable, wordsOf, wordsAll, inserts, hasKey, skipped, compactionDue}
 use Rattle.plain_table.specs.Plain.{liveFrom, liveRows, lookup, dead, opened, stage, liveWithKey, killIf, withoutKey, withoutRow, removed, below, stop, raised, append, upsert, insertion, insertAll, applied, added, compacted, unstaged, compactsAfter, merged}
 use Rattle.table.specs.Stores.{entries}
@@ -17,7 +17,7 @@ use Rattle.query_spec.specs.Queries.{matches, pastRows, queryChecks, refineRefu
 use Rattle.paper_examples.specs.Examples.{PaperExamples}
 
 pub paper-examples-hold : PaperExamples
-unfolding any all filter count rowAt iota above rising elem within same find firstRefusal reply isDead ruledColumn signed smaller larger taken madeCell madeFrom changesFrom ruled wellFormed members size endOf listOrNothing intersect shaped retain narrowed roomNeeded intersectRefusal intersectReply known compares met isLive meets setBelow bitmapWord liveAt liveWord newNumber lastPasses push pushAll rebuilt firstRow fastRange openable wordsOf wordsAll inserts hasKey skipped compactionDue liveFrom liveRows lookup dead opened stage liveWithKey killIf withoutKey withoutRow removed below stop raised append upsert insertion insertAll applied added compacted unstaged compactsAfter merged entries outside rowsShort matches pastRows queryChecks refineRefusal pageRefusal refineOneReply refineListReply visited nextPlace pageIds pageReply deadAmong
+unfolding any all filter count rowAt iota above rising elem within same find firstRefusal reply isDead ruledColumn signed smaller larger taken madeCell madeFrom changesFrom ruled wellFormed members size endOf listOrNothing intersect shaped retain narrowed roomNeeded intersectRefusal intersectReply known compares met isLive meets setBelow bitmapWord liveAt liveWord newNumber rebuiltFrom rebuilt firstRow entriesFrom byKind fastRange openable wordsOf wordsAll inserts hasKey skipped compactionDue liveFrom liveRows lookup dead opened stage liveWithKey killIf withoutKey withoutRow removed below stop raised append upsert insertion insertAll applied added compacted unstaged compactsAfter merged entries outside rowsShort matches pastRows queryChecks refineRefusal pageRefusal refineOneReply refineListReply visited nextPlace pageIds pageReply deadAmong
 paper-examples-hold =
     record {
       a = refl;

@@ -12,8 +12,8 @@ use Rattle.lists.specs.Lists.{all, rising, above}
 use Rattle.lists.specs.Laws.Filter.{split, and-left, and-right}
 use Rattle.lists.specs.Laws.Rising.{above-head, above-tail, above-cons}
 use Rattle.lists.specs.Laws.All.{all-snoc, all-weaker}
-use Rattle.sort_entries.specs.Entries.{Entry, entry, lastPasses, push, firstRow, valueAt, entriesSound}
-use Rattle.sort_entries.specs.Laws.Push.{push-new, push-same}
+use Rattle.sort_entries.specs.Entries.{Entry, entry, firstRow, valueAt, entriesSound}
+use Rattle.sort_entries.specs.Laws.Push.{lastPasses, push, push-new, push-same}
 use Rattle.sort_entries.specs.Laws.Sound.{values, entryRows, Climb, sound-climb, sound-first, sound-join}
 
 -- ---- the value at a row, with one more entry

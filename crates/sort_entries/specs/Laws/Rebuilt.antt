@@ -10,8 +10,8 @@ use lib.ListN.{length, take, getD}
 use lib.Seq.{take-suc, take-length, length-take-le}
 use borrow.Author.Tests.{le-leb}
 use Rattle.lists.specs.Lists.{all, rising}
-use Rattle.sort_entries.specs.Entries.{Entry, push, rebuilt, pushAll, valueAt, entriesSound, firstRow}
-use Rattle.sort_entries.specs.Laws.Push.{push-few, push-grows, rebuilt-snoc}
+use Rattle.sort_entries.specs.Entries.{Entry, rebuiltFrom, rebuilt, valueAt, entriesSound, firstRow}
+use Rattle.sort_entries.specs.Laws.Push.{push, pushAll, push-few, push-grows, rebuilt-pushAll, rebuilt-snoc}
 use Rattle.sort_entries.specs.Laws.Grow.{admits, admits-valueAt, admits-none, push-sound, push-earlier, push-here}
 
 -- each value is at least every earlier one
@@ -51,7 +51,7 @@ module _ (vs : List ℕ) (falls : NeverFalls vs) (n : ℕ) (es : List Entry) (b 
 -- the invariant holds for the first n rows
 built : (vs : List ℕ) → NeverFalls vs → (n : ℕ) → n ≤ length vs → Built vs n (rebuilt (take n vs))
 built vs falls zero h =
-    record { sound = unfold rebuilt pushAll entriesSound rising all firstRow in refl; recorded = λ i p. absurd (omega arith) }
+    record { sound = unfold rebuilt rebuiltFrom entriesSound rising all firstRow in refl; recorded = λ i p. absurd (omega arith) }
 built vs falls (suc n) h =
     let k : n < length vs = omega arith in
     let e : rebuilt (take (suc n) vs) ≡ push (getD vs n 0) n (rebuilt (take n vs)) =
@@ -76,8 +76,7 @@ pushAll-few row [] es = omega arith
 pushAll-few row (v ∷ vs) es = let a = pushAll-few (suc row) vs (push v row es) in let b = push-few v row es in omega arith
 
 pub rebuilt-few : (vs : List ℕ) → length (rebuilt vs) ≤ length vs
-unfolding rebuilt
-rebuilt-few vs = let a = pushAll-few 0 vs [] in omega arith
+rebuilt-few vs = rw (rebuilt-pushAll vs) (let a = pushAll-few 0 vs [] in omega arith)
 
 -- further rows remove no entry
 pushAll-grows : (row : ℕ) (vs : List ℕ) (es : List Entry) → length es ≤ length (pushAll row vs es)
@@ -92,5 +91,4 @@ pushAll-front row (suc n) [] es = omega arith
 pushAll-front row (suc n) (v ∷ vs) es = pushAll-front (suc row) n vs (push v row es)
 
 pub rebuilt-front : (n : ℕ) (vs : List ℕ) → length (rebuilt (take n vs)) ≤ length (rebuilt vs)
-unfolding rebuilt
-rebuilt-front n vs = pushAll-front 0 n vs []
+rebuilt-front n vs = rw (rebuilt-pushAll (take n vs), rebuilt-pushAll vs) (pushAll-front 0 n vs [])

@@ -9,7 +9,8 @@ use lib.ListN.{length, take, drop, getD, length-drop}
 use lib.Seq.{getD-drop, getD-take, take-add, ext-getD}
 use Rattle.lists.specs.Lists.{splice}
 use Rattle.lists.specs.Laws.Parts.{take-splice, getD-splice-in}
-use Rattle.sort_entries.specs.Entries.{Entry, entry, entriesOf, entryWords, lastPasses}
+use Rattle.sort_entries.specs.Entries.{Entry, entry, entriesOf, entryWords}
+use Rattle.sort_entries.specs.Laws.Push.{lastPasses, last-snoc}
 
 -- the pair at position i of a store
 unfoldable pub pairAt : ℕ → List ℕ → Entry
@@ -112,12 +113,6 @@ entriesOf-appended n l value row h =
     ∙ ap₂ (λ (es : List Entry) (e : Entry). es ++ (e ∷ [])) (entriesOf-before n l w (2 * n) (omega arith) h) (ap₂ entry a b)
 
 -- ---- the last pair
-
-pub last-snoc : (test : ℕ → Bool) (es : List Entry) (e : Entry) → lastPasses test (es ++ (e ∷ [])) ≡ test (e .value)
-unfolding lastPasses
-last-snoc test [] e = refl
-last-snoc test (a ∷ []) e = refl
-last-snoc test (a ∷ b ∷ es) e = last-snoc test (b ∷ es) e
 
 -- the last pair is at position n - 1
 pub last-entriesOf : (test : ℕ → Bool) (n : ℕ) (store : List ℕ) → 0 < n → lastPasses test (entriesOf n store) ≡ test (getD store (2 * (n - 1)) 0)

@@ -11,8 +11,8 @@ use Rattle.lists.specs.Lists.{all}
 use Rattle.lists.specs.Laws.Filter.{split}
 use Rattle.lists.specs.Laws.All.{all-head, all-tail, all-cons, all-snoc}
 use Rattle.lists.specs.Laws.Rising.{bool-ext}
-use Rattle.sort_entries.specs.Entries.{Entry, entry, lastPasses, push, pushAll, rebuilt, valueAt}
-use Rattle.sort_entries.specs.Laws.Push.{push-new, push-same}
+use Rattle.sort_entries.specs.Entries.{Entry, entry, rebuilt, valueAt}
+use Rattle.sort_entries.specs.Laws.Push.{lastPasses, push, pushAll, push-new, push-same, rebuilt-pushAll}
 use Rattle.sort_entries.specs.Laws.Sound.{Climb, climb-tail}
 use Rattle.sort_entries.specs.Laws.Values.{climb-rises}
 
@@ -37,8 +37,7 @@ module _ (test : ℕ → Bool) where
 
     -- if every row's value passes, every entry's does
     pub rebuilt-all : (rows : List A) → all (λ x. test (value x)) rows ≡ true → passes (rebuilt (map value rows))
-    unfolding rebuilt
-    rebuilt-all rows e = pushAll-all 0 rows [] e (unfold all in refl)
+    rebuilt-all rows e = rw (rebuilt-pushAll (map value rows)) (pushAll-all 0 rows [] e (unfold all in refl))
 
   -- if every entry's value passes, every row's does, since each row has the value of an entry
   pub valueAt-all : (i : ℕ) (es : List Entry) → 0 < length es → passes es → test (valueAt i es) ≡ true

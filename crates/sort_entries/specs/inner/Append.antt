@@ -9,9 +9,9 @@ use lib.Dec.{ltb}
 use borrow.Author.Tests.{lt-ltb, le-ltb}
 use Rattle.lists.specs.Lists.{splice}
 use Rattle.lists.specs.Laws.Parts.{set-set-splice, drop-splice}
-use Rattle.sort_entries.specs.Entries.{entriesOf, lastPasses, push}
+use Rattle.sort_entries.specs.Entries.{entriesOf}
 use Rattle.sort_entries.specs.Laws.Stores.{length-entriesOf, entriesOf-appended, last-entriesOf, last-none}
-use Rattle.sort_entries.specs.Laws.Push.{push-new, push-same, push-few}
+use Rattle.sort_entries.specs.Laws.Push.{lastPasses, push, push-new, push-same, push-few}
 
 -- the store has room for one more entry
 pub record EntryFits (store : List ℕ) (n : ℕ) : Type 0 where

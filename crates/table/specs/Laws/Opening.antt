@@ -13,7 +13,7 @@ use Rattle.lists.specs.Lists.{all, count, rowsOf, flatten}
 use Rattle.lists.specs.Laws.Parts.{length-splice}
 use Rattle.refusals.specs.Refusals.{accepted, reply, outcome}
 use Rattle.refusals.specs.Laws.Replies.{some-number}
-use Rattle.sort_entries.specs.Entries.{entriesOf, rebuilt, pushAll}
+use Rattle.sort_entries.specs.Entries.{entriesOf, rebuiltFrom, rebuilt}
 use Rattle.key_index.specs.inner.Index.{zeros, EmptyIs}
 use Rattle.key_index.specs.Slots.{sizeClassFor}
 use Rattle.key_index.specs.Laws.Index.{emptied, empty-sound}
@@ -53,7 +53,7 @@ emptyHeader o generation =
     }
 
 pub header-opened : (o : Opening) (generation : ℕ) → emptyHeader o generation ≡ headerOf (opened o generation)
-unfolding opened dead count entries rebuilt pushAll wordsAll largestOf
+unfolding opened dead count entries rebuilt rebuiltFrom wordsAll largestOf
 header-opened o generation = refl
 
 -- the length of the key store does not change when slots are freed
@@ -66,7 +66,7 @@ module _ (o : Opening) (generation : ℕ) (rows keys keys′ sorts pending : Lis
   -- if the slots are free, the stores show an empty table
   pub empty-represents : openable o ≡ true → generation ≤ 4294967295 → storesShort o (lengths rows keys sorts pending [] []) ≡ false
       → EmptyIs (sizeClassFor (o .capacity) 0) keys keys′ → Represents (opened o generation) (stores (headerOf (opened o generation)) rows keys′ sorts pending)
-  unfolding opened entries rebuilt pushAll entriesOf stored rowsOf all wordsAll flatten
+  unfolding opened entries rebuilt rebuiltFrom entriesOf stored rowsOf all wordsAll flatten
   empty-represents bounds fits long e =
       let l = stores-long o (lengths rows keys sorts pending [] []) long in
       let room = sizeClassFor (o .capacity) 0 in

@@ -11,7 +11,8 @@ use Rattle.constraints.specs.Constraints.{isLive}
 use Rattle.key_index.specs.declared.IndexShape.{IndexShape}
 use Rattle.key_index.specs.Slots.{LiveAt, keyAt, KeysSound}
 use Rattle.key_index.specs.inner.Index.{FirstHit, KeysDiffer}
-use Rattle.sort_entries.specs.Entries.{entriesOf, lastPasses, entriesSound, valueAt}
+use Rattle.sort_entries.specs.Entries.{entriesOf, entriesSound, valueAt}
+use Rattle.sort_entries.specs.Laws.Push.{lastPasses}
 use Rattle.plain_table.specs.Staged.{Opening, Staged, wordsOf, wordsAll}
 use Rattle.plain_table.specs.Refusing.{wrongWidth}
 use Rattle.plain_table.specs.Proper.{atMost}

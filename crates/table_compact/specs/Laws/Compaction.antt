@@ -17,9 +17,9 @@ use Rattle.lists.specs.Laws.Filter.{split, filter-append, length-filter, count-
 use Rattle.lists.specs.Laws.Parts.{length-splice, splice-then, part-after}
 use Rattle.lists.specs.Laws.Rows.{widths, length-rowsOf, length-rowAt, rowsOf-snoc, rowsOf-widths, widths-filter, length-flatten, flatten-append, getD-rowsOf, rowsOf-put-flatten}
 use Rattle.constraints.specs.Constraints.{isLive}
-use Rattle.sort_entries.specs.Entries.{Entry, entry, entriesOf, entryWords, lastPasses, push, rebuilt}
+use Rattle.sort_entries.specs.Entries.{Entry, entry, entriesOf, entryWords, rebuilt}
 use Rattle.sort_entries.specs.inner.Append.{Append}
-use Rattle.sort_entries.specs.Laws.Push.{push-new, push-same, rebuilt-snoc}
+use Rattle.sort_entries.specs.Laws.Push.{lastPasses, push, push-new, push-same, rebuilt-snoc}
 use Rattle.sort_entries.specs.Laws.Rebuilt.{rebuilt-few}
 use Rattle.sort_entries.specs.Laws.Stores.{length-words, words-snoc, entriesOf-put}
 use Rattle.row_buffer.specs.Ranks.{liveWord, newNumber}
