@@ -6,53 +6,25 @@
 use Prim.Native.Nat.{ℕ, _≤_}
 use mathlib.Core.Path.{_≡_}
 use mathlib.Core.List.{List, [], _∷_, _++_, map}
-use Rattle.refusals.specs.Refusals.{Reply, refused, accepted, outcome}
 use Rattle.plain_table.specs.Staged.{insert}
-use Rattle.plain_table.specs.Refusing.{Lengths}
-use Rattle.plain_table.specs.Calls.{staging, merging, LentCall}
+use Rattle.table.specs.declared.Header.{Header}
 use Rattle.table.specs.declared.Merge.{Merge}
-use Rattle.table.specs.Numbers.{tableView, mergeView}
+use Rattle.table.specs.declared.MergeAnswer.the-variants.{Merged}
+use Rattle.table.specs.declared.TableAnswer.the-variants.{Table}
 use Rattle.table.specs.Sound.{Sound}
-use Rattle.table.specs.Contracts.{Stores}
-use Rattle.refresh_spec.specs.Refreshes.{refreshView}
-use Rattle.history.specs.Histories.{Called, stages, merges, compacts, clears, refreshes, refreshes-unsound, Step, called}
+use Rattle.table.specs.Contracts.{Stores, Body, bodyOf, joined, CompactionWords, Staging, Merging}
+use Rattle.history.specs.Histories.{behind}
 use Rattle.history.specs.Claim.{liveIn}
 
--- whether a call was refused, from its answer
-unfoldable pub outcomeIn : {s t : Stores} {c : LentCall} → Called s c t → Reply (Unit {0})
-outcomeIn (stages r answer pending′ contract) = outcome (tableView answer)
-outcomeIn (merges w answer b′ w′ contract) = outcome (mergeView answer)
-outcomeIn (compacts w answer b′ w′ contract) = outcome (tableView answer)
-outcomeIn (clears answer keys′ contract) = outcome (tableView answer)
-outcomeIn (refreshes r index answer pending′ index′ contract sound) = outcome (refreshView answer)
-outcomeIn (refreshes-unsound r index answer pending′ index′ contract unsound) = outcome (refreshView answer)
-
-unfoldable pub outcomeOf : {s t : Stores} {c : LentCall} → Step s c t → Reply (Unit {0})
-outcomeOf (called rest pending call) = outcomeIn call
-
--- the number with which a merge stopped, from its answer; 0 if it did not stop
-unfoldable pub mergeStatus : Reply Merge → ℕ
-mergeStatus (refused n) = 0
-mergeStatus (accepted m) = m .status
-
-unfoldable pub statusIn : {s t : Stores} {c : LentCall} → Called s c t → ℕ
-statusIn (stages r answer pending′ contract) = 0
-statusIn (merges w answer b′ w′ contract) = mergeStatus (mergeView answer)
-statusIn (compacts w answer b′ w′ contract) = 0
-statusIn (clears answer keys′ contract) = 0
-statusIn (refreshes r index answer pending′ index′ contract sound) = 0
-statusIn (refreshes-unsound r index answer pending′ index′ contract unsound) = 0
-
-unfoldable pub statusOf : {s t : Stores} {c : LentCall} → Step s c t → ℕ
-statusOf (called rest pending call) = statusIn call
-
--- a batch of inserts alone: its rows are staged in order, then merged; "no call is refused and none of the .. merges stops"
+-- A batch of inserts alone: its rows are staged in order, then merged; "no call is refused and none of the .. merges stops". Each call
+-- is lent a first part of each store, as in a step of a history.
 pub data Batch : Stores → List (List ℕ) → Stores → Type 0 where
-  merge : {s t : Stores} {l : Lengths} (step : Step s (record { call = merging; lengths = l }) t)
-      → outcomeOf step ≡ accepted tt → statusOf step ≡ 0 → Batch s [] t
-  stage : {s t u : Stores} {l : Lengths} {row : List ℕ} {rows : List (List ℕ)}
-      (step : Step s (record { call = staging (insert row); lengths = l }) t)
-      → outcomeOf step ≡ accepted tt → Batch t rows u → Batch s (row ∷ rows) u
+  merge : (s : Stores) (rest : Body) (pending : List ℕ) (w : CompactionWords) (m : Merge) (b′ : Body) (w′ : CompactionWords)
+      → Merging s w (Merged m) b′ w′ → m .status ≡ 0
+      → Batch (behind s rest pending) [] (behind (joined (m .header) b′ (s .pending)) rest pending)
+  stage : {u : Stores} {row : List ℕ} {rows : List (List ℕ)} (s : Stores) (rest : Body) (pending : List ℕ) (h : Header) (pending′ : List ℕ)
+      → Staging (s .header) (s .pending) (insert row) (Table h) pending′ → Batch (behind (joined h (bodyOf s) pending′) rest pending) rows u
+      → Batch (behind s rest pending) (row ∷ rows) u
 
 -- the cells of the live rows, in order
 unfoldable pub liveCellsIn : Stores → List (List ℕ)

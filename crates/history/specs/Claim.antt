@@ -8,7 +8,7 @@ use Rattle.lists.specs.Lists.{filter, all, any, rising, elem, rowAt}
 use Rattle.offsets.specs.Subsets.{Subset, members}
 use Rattle.constraints.specs.Constraints.{isLive, met}
 use Rattle.plain_table.specs.Staged.{Opening}
-use Rattle.plain_table.specs.Plain.{Numbered, liveFrom, liveRows, opened}
+use Rattle.plain_table.specs.Plain.{Plain, Numbered, liveFrom, liveRows, opened}
 use Rattle.plain_table.specs.Calls.{LentCall, afterAll}
 use Rattle.table.specs.Stores.{rowsIn}
 use Rattle.table.specs.Contracts.{Stores}
@@ -32,9 +32,10 @@ wanted s accepted id =
     let row = rowAt (s .header .columns) id (s .rows) in
     ltb id (s .header .rows) && isLive row && all (satisfies id row) accepted
 
-pub record Claimed (o : Opening) (generation : ℕ) (calls : List LentCall) (s : Stores) : Type 0 where
+-- of a table, and the plain table after the same calls
+pub record Claimed (p : Plain) (s : Stores) : Type 0 where
   -- "the live rows, numbers and cells, are those of document 01's plain table after the same calls"
-  pub live-rows : liveIn s ≡ liveRows (afterAll (opened o generation) calls)
+  pub live-rows : liveIn s ≡ liveRows p
   -- "If some accepted step refines, the ids left .. are exactly the live rows of the starting subset that ..", "rising,
   -- each once"
   pub ids-left : (start : Subset) (queries : List Query) (end : Subset) (accepted : List Query)
@@ -42,4 +43,5 @@ pub record Claimed (o : Opening) (generation : ℕ) (calls : List LentCall) (s :
       → (members end ≡ filter (wanted s accepted) (members start)) × (rising (members end) ≡ true)
 
 abbrev pub Claim : Type 0
-Claim = (o : Opening) (generation : ℕ) (calls : List LentCall) (s : Stores) → History o generation calls s → Claimed o generation calls s
+Claim =
+    (o : Opening) (generation : ℕ) (calls : List LentCall) (s : Stores) → History o generation calls s → Claimed (afterAll (opened o generation) calls) s

@@ -7,7 +7,7 @@ use mathlib.Core.List.{List, [], _∷_, _++_}
 use lib.ListN.{length}
 use Rattle.plain_table.specs.Staged.{Opening, Staged}
 use Rattle.plain_table.specs.Refreshing.{Refresh}
-use Rattle.plain_table.specs.Calls.{staging, merging, compacting, clearing, refreshing, feeding, LentCall}
+use Rattle.plain_table.specs.Calls.{Call, staging, merging, compacting, clearing, refreshing, feeding, LentCall}
 use Rattle.table.specs.declared.TableAnswer.{TableAnswer}
 use Rattle.table.specs.declared.TableAnswer.the-variants.{Table}
 use Rattle.table.specs.declared.MergeAnswer.{MergeAnswer}
@@ -17,37 +17,36 @@ use Rattle.refresh_spec.specs.Index.{IndexSound}
 use Rattle.refresh_spec.specs.Refreshes.{refreshView, recordsFound, recordsStaged, headerRefreshed, Refreshing}
 use Rattle.table.specs.Contracts.{Stores, stores, Body, body, bodyOf, joined, CompactionWords, compactionWords, lengthsLent, headerAfter, headerMerged, Opened, Staging, Merging, Compacting, Clearing}
 
+-- a call that is lent these stores and compaction words
+abbrev pub lentCall : Call → Stores → CompactionWords → LentCall
+lentCall c s w = record { call = c; lengths = lengthsLent s w }
+
+abbrev pub noWords : CompactionWords
+noWords = compactionWords [] []
+
+-- the stores after a refresh
+abbrev pub refreshedStores : Stores → RefreshAnswer → List ℕ → Stores
+refreshedStores s answer pending′ = joined (headerRefreshed (s .header) (refreshView answer)) (bodyOf s) pending′
+
 -- One call, by the contract of its entry point: the lent stores before and after it, and their lengths. A store that it is not lent
 -- is unchanged.
 pub data Called (s : Stores) : LentCall → Stores → Type 0 where
   stages : (r : Staged) (answer : TableAnswer) (pending′ : List ℕ) → Staging (s .header) (s .pending) r answer pending′
-      → Called s
-      (record { call = staging r; lengths = lengthsLent s (compactionWords [] []) })
-      (joined (headerAfter (s .header) (tableView answer)) (bodyOf s) pending′)
+      → Called s (lentCall (staging r) s noWords) (joined (headerAfter (s .header) (tableView answer)) (bodyOf s) pending′)
   merges : (w : CompactionWords) (answer : MergeAnswer) (b′ : Body) (w′ : CompactionWords) → Merging s w answer b′ w′
-      → Called s
-      (record { call = merging; lengths = lengthsLent s w })
-      (joined (headerMerged (s .header) (mergeView answer)) b′ (s .pending))
+      → Called s (lentCall merging s w) (joined (headerMerged (s .header) (mergeView answer)) b′ (s .pending))
   compacts : (w : CompactionWords) (answer : TableAnswer) (b′ : Body) (w′ : CompactionWords) → Compacting (s .header) (bodyOf s) w answer b′ w′
-      → Called s
-      (record { call = compacting; lengths = lengthsLent s w })
-      (joined (headerAfter (s .header) (tableView answer)) b′ (s .pending))
+      → Called s (lentCall compacting s w) (joined (headerAfter (s .header) (tableView answer)) b′ (s .pending))
   clears : (answer : TableAnswer) (keys′ : List ℕ) → Clearing (s .header) (s .keys) answer keys′
-      → Called s
-      (record { call = clearing; lengths = lengthsLent s (compactionWords [] []) })
-      (joined (headerAfter (s .header) (tableView answer)) (body (s .rows) keys′ (s .sorts)) (s .pending))
+      → Called s (lentCall clearing s noWords) (joined (headerAfter (s .header) (tableView answer)) (body (s .rows) keys′ (s .sorts)) (s .pending))
   -- over a sound index store "the plain table stages these records of its own rows"
   refreshes : (r : Refresh) (index : List ℕ) (answer : RefreshAnswer) (pending′ index′ : List ℕ) → Refreshing (s .header) (s .rows) (s .pending) index r answer pending′ index′
       → IndexSound (s .header) (s .rows) (r .columns) index
-      → Called s
-      (record { call = refreshing r (length index); lengths = lengthsLent s (compactionWords [] []) })
-      (joined (headerRefreshed (s .header) (refreshView answer)) (bodyOf s) pending′)
+      → Called s (lentCall (refreshing r (length index)) s noWords) (refreshedStores s answer pending′)
   -- "Over such an unsound index store, and nowhere else, it is fed the records that the call staged"
   refreshes-unsound : (r : Refresh) (index : List ℕ) (answer : RefreshAnswer) (pending′ index′ : List ℕ) (m : Refreshing (s .header) (s .rows) (s .pending) index r answer pending′ index′)
       → (IndexSound (s .header) (s .rows) (r .columns) index → ⊥)
-      → Called s
-      (record { call = feeding (recordsStaged (refreshView answer) (recordsFound (s .header) (s .rows) r (m .found))); lengths = lengthsLent s (compactionWords [] []) })
-      (joined (headerRefreshed (s .header) (refreshView answer)) (bodyOf s) pending′)
+      → Called s (lentCall (feeding (recordsStaged (refreshView answer) (recordsFound (s .header) (s .rows) r (m .found)))) s noWords) (refreshedStores s answer pending′)
 
 -- stores with more cells behind each
 abbrev pub behind : Stores → Body → List ℕ → Stores

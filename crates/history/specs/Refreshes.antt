@@ -13,15 +13,15 @@ use Rattle.plain_table.specs.Plain.{Plain, liveRows, opened}
 use Rattle.plain_table.specs.Refreshing.{Refresh, mentions}
 use Rattle.plain_table.specs.Calls.{refreshing, recordsOf, refusal, LentCall, afterAll}
 use Rattle.table.specs.Stores.{recordWords}
-use Rattle.table.specs.Contracts.{Stores, Body, bodyOf, joined, compactionWords, lengthsLent}
+use Rattle.table.specs.Contracts.{Stores, Body}
 use Rattle.refresh_spec.specs.declared.RefreshAnswer.{RefreshAnswer}
 use Rattle.refresh_spec.specs.Index.{isNew, lookedUp, IndexSound, Current}
-use Rattle.refresh_spec.specs.Refreshes.{refreshView, answered, headerRefreshed, Refreshing}
-use Rattle.history.specs.Histories.{behind, Step, History}
+use Rattle.refresh_spec.specs.Refreshes.{refreshView, answered, Refreshing}
+use Rattle.history.specs.Histories.{lentCall, noWords, refreshedStores, behind, Step, History}
 
 -- a refresh on a plain table, lent these stores
 abbrev pub ownRefresh : Stores → List ℕ → Refresh → LentCall
-ownRefresh t lent r = record { call = refreshing r (length lent); lengths = lengthsLent t (compactionWords [] []) }
+ownRefresh t lent r = lentCall (refreshing r (length lent)) t noWords
 
 -- A history, the stores after it, and an index store that was new when the table took it. Other calls leave the index store
 -- unchanged, also refreshes over other index stores. A refresh over it may be lent any first part of it, as of the row and pending
@@ -32,7 +32,7 @@ pub data OwnIndex (o : Opening) (generation : ℕ) : List LentCall → Stores �
       → OwnIndex o generation (calls ++ (c ∷ [])) u index
   refreshes : {calls : List LentCall} (t : Stores) (rest : Body) (pending lent more : List ℕ) (r : Refresh) (answer : RefreshAnswer) (pending′ lent′ : List ℕ)
       → OwnIndex o generation calls (behind t rest pending) (lent ++ more) → Refreshing (t .header) (t .rows) (t .pending) lent r answer pending′ lent′
-      → OwnIndex o generation (calls ++ (ownRefresh t lent r ∷ [])) (behind (joined (headerRefreshed (t .header) (refreshView answer)) (bodyOf t) pending′) rest pending) (lent′ ++ more)
+      → OwnIndex o generation (calls ++ (ownRefresh t lent r ∷ [])) (behind (refreshedStores t answer pending′) rest pending) (lent′ ++ more)
 
 -- the numbers, rising, of the live rows that hold a value in one of these columns
 abbrev pub holding : Plain → List ℕ → ℕ → List ℕ

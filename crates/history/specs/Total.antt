@@ -10,27 +10,22 @@ use Rattle.table.specs.declared.MergeAnswer.{MergeAnswer}
 use Rattle.table.specs.Numbers.{tableView, mergeView}
 use Rattle.table.specs.Contracts.{Stores, Body, body, bodyOf, joined, CompactionWords, headerAfter, headerMerged, Staging, Merging, Compacting, Clearing}
 use Rattle.refresh_spec.specs.declared.RefreshAnswer.{RefreshAnswer}
-use Rattle.refresh_spec.specs.Refreshes.{refreshView, headerRefreshed, Refreshing}
-use Rattle.history.specs.Histories.{Called}
+use Rattle.refresh_spec.specs.Refreshes.{Refreshing}
+use Rattle.history.specs.Histories.{refreshedStores, Called}
 
 -- some call of a history takes s to t
 abbrev pub CallTo : Stores → Stores → Type 0
 CallTo s t = (c : LentCall) × Called s c t
 
 pub record EveryOutcomeIsACall : Type 0 where
-  pub staging : (s : Stores) (r : Staged) (answer : TableAnswer) (pending′ : List ℕ)
-      → Staging (s .header) (s .pending) r answer pending′
+  pub staging : (s : Stores) (r : Staged) (answer : TableAnswer) (pending′ : List ℕ) → Staging (s .header) (s .pending) r answer pending′
       → CallTo s (joined (headerAfter (s .header) (tableView answer)) (bodyOf s) pending′)
-  pub merge : (s : Stores) (w : CompactionWords) (answer : MergeAnswer) (b′ : Body) (w′ : CompactionWords)
-      → Merging s w answer b′ w′
+  pub merge : (s : Stores) (w : CompactionWords) (answer : MergeAnswer) (b′ : Body) (w′ : CompactionWords) → Merging s w answer b′ w′
       → CallTo s (joined (headerMerged (s .header) (mergeView answer)) b′ (s .pending))
-  pub compact : (s : Stores) (w : CompactionWords) (answer : TableAnswer) (b′ : Body) (w′ : CompactionWords)
-      → Compacting (s .header) (bodyOf s) w answer b′ w′
+  pub compact : (s : Stores) (w : CompactionWords) (answer : TableAnswer) (b′ : Body) (w′ : CompactionWords) → Compacting (s .header) (bodyOf s) w answer b′ w′
       → CallTo s (joined (headerAfter (s .header) (tableView answer)) b′ (s .pending))
-  pub clear : (s : Stores) (answer : TableAnswer) (keys′ : List ℕ)
-      → Clearing (s .header) (s .keys) answer keys′
+  pub clear : (s : Stores) (answer : TableAnswer) (keys′ : List ℕ) → Clearing (s .header) (s .keys) answer keys′
       → CallTo s (joined (headerAfter (s .header) (tableView answer)) (body (s .rows) keys′ (s .sorts)) (s .pending))
   -- over any index store, sound or not
-  pub refresh : (s : Stores) (r : Refresh) (index : List ℕ) (answer : RefreshAnswer) (pending′ index′ : List ℕ)
-      → Refreshing (s .header) (s .rows) (s .pending) index r answer pending′ index′
-      → CallTo s (joined (headerRefreshed (s .header) (refreshView answer)) (bodyOf s) pending′)
+  pub refresh : (s : Stores) (r : Refresh) (index : List ℕ) (answer : RefreshAnswer) (pending′ index′ : List ℕ) → Refreshing (s .header) (s .rows) (s .pending) index r answer pending′ index′
+      → CallTo s (refreshedStores s answer pending′)

@@ -8,11 +8,11 @@ use lib.ListN.{length, drop}
 use Rattle.plain_table.specs.Refusing.{Lengths}
 use Rattle.plain_table.specs.Refreshing.{Refresh}
 use Rattle.plain_table.specs.Calls.{Call, refreshing, feeding}
-use Rattle.table.specs.Contracts.{Stores, bodyOf, joined}
+use Rattle.table.specs.Contracts.{Stores}
 use Rattle.refresh_spec.specs.declared.RefreshAnswer.{RefreshAnswer}
 use Rattle.refresh_spec.specs.Index.{IndexSound}
-use Rattle.refresh_spec.specs.Refreshes.{refreshView, recordsFound, recordsStaged, headerRefreshed, Refreshing}
-use Rattle.history.specs.Histories.{Called}
+use Rattle.refresh_spec.specs.Refreshes.{refreshView, recordsFound, recordsStaged, Refreshing}
+use Rattle.history.specs.Histories.{refreshedStores, Called}
 use Rattle.replay_calls.specs.Lending.{lentTo}
 
 -- A refresh is a request of its own: which call of the plain table it corresponds to depends on the index store.
@@ -28,10 +28,6 @@ isRefresh (refresh r) = true
 unfoldable pub requested : ℕ → Request → Call
 requested index (make c) = c
 requested index (refresh r) = refreshing r index
-
--- the stores after a refresh
-abbrev pub refreshedStores : Stores → RefreshAnswer → List ℕ → Stores
-refreshedStores s answer pending′ = joined (headerRefreshed (s .header) (refreshView answer)) (bodyOf s) pending′
 
 -- "16 words plus 3 for each row of the capacity and named column", of at most eight columns: words past these are never written
 abbrev pub IndexPast : ℕ → List ℕ → List ℕ → Type 0

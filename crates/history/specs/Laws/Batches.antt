@@ -1,65 +1,61 @@
 -- A batch of inserts may be cut anywhere. Assumes nothing but the contracts that batches consist of.
-use Prim.Native.Nat.{ℕ, zero, suc}
-use mathlib.Core.Path.{_≡_, refl, sym, ap, _∙_}
+use Prim.Native.Nat.{ℕ}
+use mathlib.Core.Path.{_≡_, sym, ap, _∙_}
 use mathlib.Core.List.{List, map}
 use native.Mathlib.Omega.{arith}
-use Rattle.refusals.specs.Refusals.{accepted, reply, outcome}
+use lib.ListN.{length}
+use Rattle.refusals.specs.Refusals.{Reply, accepted, outcome}
 use Rattle.plain_table.specs.Staged.{insert}
-use Rattle.plain_table.specs.Refusing.{Lengths}
 use Rattle.plain_table.specs.Plain.{Plain, Numbered, merged as mergedPlain, stage as stagePlain}
-use Rattle.plain_table.specs.Calls.{staging, merging, done}
-use Rattle.plain_table.specs.Laws.Calls.{accepted-done}
 use Rattle.plain_table.specs.Laws.Batches.{batch, liveCells, cut-anywhere}
-use Rattle.table.specs.Contracts.{Stores, Represents}
-use Rattle.table.specs.Laws.Checks.{stage-checks, merge-checks}
+use Rattle.table.specs.declared.Header.{Header}
+use Rattle.table.specs.declared.Merge.{Merge}
+use Rattle.table.specs.declared.MergeAnswer.the-variants.{Merged}
+use Rattle.table.specs.declared.TableAnswer.the-variants.{Table}
+use Rattle.table.specs.Numbers.{tableView, mergeView}
+use Rattle.table.specs.Refusing.{stageRefusal, mergeRefusal}
+use Rattle.table.specs.Contracts.{Stores, Body, bodyOf, joined, CompactionWords, lengthsLent, Represents, headerAfter, headerMerged, mergeOf, Staging, Merging}
+use Rattle.table.specs.Laws.Replies.{accepted-number}
+use Rattle.table.specs.Laws.Staging.{stage-accepted}
 use Rattle.table.specs.Laws.Refusals.{merge-accepted}
-use Rattle.table.specs.Laws.Fronts.{pending-part, body-part}
+use Rattle.table.specs.Laws.Keeps.{staging-done, merging-done}
+use Rattle.table.specs.Laws.Fronts.{pending-part, pending-more, body-part, body-more}
 use Rattle.table.specs.Laws.Sound.{sound-represents}
-use Rattle.history.specs.Histories.{stages, merges, Step, called}
-use Rattle.history.specs.Claim.{liveIn}
-use Rattle.history.specs.Batches.{outcomeIn, outcomeOf, mergeStatus, statusIn, statusOf, Batch, merge, stage, liveCellsIn, CutAnywhere}
 use Rattle.table.specs.Laws.Live.{live-shown}
-use Rattle.history.specs.Laws.Calls.{step-represents}
+use Rattle.history.specs.Histories.{behind}
+use Rattle.history.specs.Claim.{liveIn}
+use Rattle.history.specs.Batches.{Batch, merge, stage, liveCellsIn, CutAnywhere}
 
--- an accepted reply has refusal number 0
-replied-accepts : {A : Type 0} (n : ℕ) (a : A) → outcome (reply n a) ≡ accepted tt → n ≡ 0
-unfolding reply outcome
-replied-accepts zero a e = refl
-replied-accepts (suc n) a e = absurd (let z : _≡_ {A = ℕ} 0 1 = cc in omega arith)
+-- ---- the calls of a batch, on a plain table; each is lent a first part of the stores
 
-outcome-again : (n : ℕ) → outcome (reply {A = Unit {0}} n tt) ≡ reply n tt
-unfolding reply outcome
-outcome-again zero = refl
-outcome-again (suc n) = refl
+module _ {p : Plain} (s : Stores) (rest : Body) (more : List ℕ) (r : Represents p (behind s rest more)) where
+  -- an accepted staging
+  stage-represents : {row pending′ : List ℕ} {h : Header} → Staging (s .header) (s .pending) (insert row) (Table h) pending′
+      → Represents (stagePlain p (insert row)) (behind (joined h (bodyOf s) pending′) rest more)
+  unfolding tableView headerAfter
+  stage-represents {row} {h = h} m =
+      let n = accepted-number (stageRefusal (s .header) (length (s .pending)) (insert row)) h _ (m .answers) in
+      let k = stage-accepted (s .header) (length (s .pending)) (insert row) n .free in
+      pending-more more (staging-done m n (pending-part more r (omega arith)))
 
--- ---- the calls of a batch, on a plain table
-
--- an accepted staging
-stage-represents : {p : Plain} {s t : Stores} → Represents p s → {row : List ℕ} {l : Lengths} (step : Step s (record { call = staging (insert row); lengths = l }) t)
-    → outcomeOf step ≡ accepted tt → Represents (stagePlain p (insert row)) t
-unfolding outcomeOf outcomeIn done
-stage-represents {p} r {row} {l} (called {s} rest more (stages q answer pending′ m)) v =
-    let n = replied-accepts _ _ (rw (m .answers) at v) in
-    rw (accepted-done p l (staging q) (sym (stage-checks r l q) ∙ n)) at (step-represents r (called {s = s} rest more (stages q answer pending′ m)))
-
--- an accepted merge, and its status
-merge-represents : {p : Plain} {s t : Stores} → Represents p s → {l : Lengths} (step : Step s (record { call = merging; lengths = l }) t)
-    → outcomeOf step ≡ accepted tt → Represents (mergedPlain p .table) t × (statusOf step ≡ mergedPlain p .status)
-unfolding outcomeOf outcomeIn statusOf statusIn mergeStatus done
-merge-represents {p} r {l} (called {s} rest more (merges w answer b′ w′ m)) v =
-    let n = replied-accepts {A = Unit {0}} _ tt (outcome-again _ ∙ sym (m .refusal) ∙ v) in
-    let k = merge-accepted (s .header) l n in
-    let lent = body-part rest (pending-part more r (k .pending-fits)) (k .long) in (
-      rw (accepted-done p l merging (sym (merge-checks r l) ∙ n)) at (step-represents r (called {s = s} rest more (merges w answer b′ w′ m))),
-      ap mergeStatus (m .table n p lent .answers),
-    )
+  -- an accepted merge, and its status
+  merge-represents : {w w′ : CompactionWords} {m : Merge} {b′ : Body} → Merging s w (Merged m) b′ w′
+      → Represents (mergedPlain p .table) (behind (joined (m .header) b′ (s .pending)) rest more) × (m .status ≡ mergedPlain p .status)
+  unfolding mergeView headerMerged outcome
+  merge-represents {w} {m = m} c =
+      let n = accepted-number (mergeRefusal (s .header) (lengthsLent s w)) tt tt (c .refusal) in
+      let k = merge-accepted (s .header) (lengthsLent s w) n in
+      let lent = body-part rest (pending-part more r (k .pending-fits)) (k .long) in
+      let answers : _≡_ {A = Reply Merge} (accepted m) (accepted (mergeOf p)) = c .table n p lent .answers in
+      let same : m ≡ mergeOf p = cc in
+      (pending-more more (body-more rest (merging-done c n lent)), ap (λ (x : Merge). x .status) same)
 
 -- a batch stages its rows and merges them, without a stop
 batch-represents : {p : Plain} {s t : Stores} {rows : List (List ℕ)} → Represents p s → Batch s rows t
     → Represents (mergedPlain (batch rows p) .table) t × (mergedPlain (batch rows p) .status ≡ 0)
 unfolding batch
-batch-represents r (merge step v e) = let m = merge-represents r step v in (m .0, sym (m .1) ∙ e)
-batch-represents r (stage step v more) = batch-represents (stage-represents r step v) more
+batch-represents r (merge s rest pending w m b′ w′ c e) = let k = merge-represents s rest pending r c in (k .0, sym (k .1) ∙ e)
+batch-represents r (stage s rest pending h pending′ c more) = batch-represents (stage-represents s rest pending r c) more
 
 -- ---- the theorem
 

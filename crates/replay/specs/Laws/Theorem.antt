@@ -44,7 +44,7 @@ module _ {o : Opening} {generation : ℕ} {requests : List Request} {b : Body} {
   made-history = history-whole (b .keys) (m .opened) (served-steps (m .served))
 
   -- "the live rows, numbers and cells, are those of document 01's plain table after the same calls", and the ids left by queries
-  pub replay-claimed : Claimed o generation (callsLent (m .calls) b pending w) s
+  pub replay-claimed : Claimed (afterAll (opened o generation) (callsLent (m .calls) b pending w)) s
   replay-claimed = term-three _ _ _ _ made-history
 
   -- with a new index store, or if no refresh is requested, the calls are those requested: each refresh stages the plain table's own
@@ -53,7 +53,7 @@ module _ {o : Opening} {generation : ℕ} {requests : List Request} {b : Body} {
   replay-requested (inl new) = calls-requested opened-history new (m .served)
   replay-requested (inr none) = calls-plain (length index) (m .served) none
 
-  pub requested-claimed : (isNew index ≡ true) ⊎ (any isRefresh requests ≡ false) → Claimed o generation (callsLent (map (requested (length index)) requests) b pending w) s
+  pub requested-claimed : (isNew index ≡ true) ⊎ (any isRefresh requests ≡ false) → Claimed (afterAll (opened o generation) (callsLent (map (requested (length index)) requests) b pending w)) s
   requested-claimed sound = rw (replay-requested sound) at replay-claimed
 
   -- an index store that was new is sound afterwards, for a refresh by any columns

@@ -26,13 +26,13 @@ use Rattle.refresh_spec.specs.declared.RefreshAnswer.{RefreshAnswer}
 use Rattle.refresh_spec.specs.Index.{isNew, IndexSound}
 use Rattle.refresh_spec.specs.Refreshes.{refreshRefusal, Refreshing}
 use Rattle.refresh_spec.specs.Laws.Keeps.{number}
-use Rattle.history.specs.Histories.{Called, behind, Steps, end as steps-end, next as steps-next, History}
+use Rattle.history.specs.Histories.{refreshedStores, Called, behind, Steps, end as steps-end, next as steps-next, History}
 use Rattle.history.specs.Refreshes.{ownRefresh, OwnIndex, adopted, other-call, refreshes}
 use Rattle.history.specs.Laws.Calls.{step-represents}
 use Rattle.history.specs.Laws.Refreshes.{own-indexes-sound}
 use Rattle.history.specs.Laws.Further.{behind-nothing, whole-step}
 use Rattle.replay_calls.specs.Lending.{lentTo, lentAll}
-use Rattle.replay_calls.specs.Requests.{Request, isRefresh, requested, refreshedStores, IndexPast, Served, made, refreshed, refreshed-unsound, ServedAll, end, next}
+use Rattle.replay_calls.specs.Requests.{Request, isRefresh, requested, IndexPast, Served, made, refreshed, refreshed-unsound, ServedAll, end, next}
 
 -- ---- steps of a history
 
