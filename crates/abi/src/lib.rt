@@ -20,6 +20,8 @@ use table::SoundAnswer;
 use table::TableAnswer;
 use table::VersionAnswer;
 
+pub mod places; // places.rt: the places of a header's and of an opening's words
+
 // The return value of a call that is not refused.
 pub const ACCEPTED: u32 = 0;
 
@@ -47,17 +49,17 @@ pub fn decode_header(words: &[u32; 12]) -> Header
     ensures { λ r. ⌜ r ≡ decodeHeader (now (words .entry)) ⌝ }
 {
     Header {
-        columns: decode_columns(words[0], words[10]),
-        keys: words[1],
-        sort: words[2],
-        rule: words[3],
-        capacity: words[4],
-        rows: words[5],
-        dead: words[6],
-        entries: words[7],
-        pending: words[8],
-        generation: words[9],
-        largest: decode_largest(words[10], words[11]),
+        columns: decode_columns(words[places::COLUMNS], words[places::LARGEST_FLAG]),
+        keys: words[places::KEYS],
+        sort: words[places::SORT],
+        rule: words[places::RULE],
+        capacity: words[places::CAPACITY],
+        rows: words[places::ROWS],
+        dead: words[places::DEAD],
+        entries: words[places::ENTRIES],
+        pending: words[places::PENDING],
+        generation: words[places::GENERATION],
+        largest: decode_largest(words[places::LARGEST_FLAG], words[places::LARGEST_VALUE]),
     }
 }
 

@@ -7,6 +7,7 @@ ghost use Rattle.table.specs.Contracts.{stores, body, compactionWords, Opened, 
 ghost use Rattle.abi.specs.Encoding.{decodeHeader, decodeOpening, openingGeneration, encodeHeader, encodeMerge, encodeBool, Answers, AnswersWithHeader};
 ghost use Rattle.abi_table.specs.Version.{libraryVersion};
 use abi::decode_header;
+use abi::places;
 use abi::store_merge;
 use abi::store_sound;
 use abi::store_table;
@@ -33,12 +34,12 @@ pub extern "C" fn mouldgrey_open_table(
     ensures { λ r. ⌜ Answers (λ answer. Opened (decodeOpening (now (opening .entry))) (openingGeneration (now (opening .entry))) (body (now (rows .entry)) (now (keys .entry)) (now (sorts .entry))) (now (pending .entry)) answer (now (keys .exit))) tableView encodeHeader (now (header .entry)) r (now (header .exit)) ⌝ }
 {
     let answer = table_open::open_table(
-        opening[0],
-        opening[1],
-        opening[2],
-        opening[3],
-        opening[4],
-        opening[5],
+        opening[places::COLUMNS],
+        opening[places::KEYS],
+        opening[places::SORT],
+        opening[places::RULE],
+        opening[places::CAPACITY],
+        opening[places::OPENING_GENERATION],
         rows,
         keys,
         sorts,
