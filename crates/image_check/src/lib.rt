@@ -13,14 +13,10 @@ ghost use Rattle.image_check.specs.inner.Decoding.{DecodingIs};
 use image_parse::Layout;
 use image_parse::Parsed;
 use key_index::IndexShape;
+use refusals::NO_IMAGE;
+use refusals::UNSOUND_IMAGE;
 use table::Header;
 use table::TableAnswer;
-
-// Words that are no image.
-pub const NO_IMAGE: u32 = 19;
-
-// An image of a table that is not sound.
-pub const UNSOUND_IMAGE: u32 = 20;
 
 // Two slots for each row of the largest table.
 const MOST_SLOTS: usize = 131072;

@@ -2,13 +2,14 @@
 use Prim.Native.Nat.{ℕ, _+_, _-_, _*_, _/_, _%_, _≤_, _<_}
 use mathlib.Core.Path.{_≡_, sym, ap, _∙_}
 use mathlib.Core.Bool.{true, false, true≢false}
-use mathlib.Core.List.{List, [], _∷_}
+use mathlib.Core.List.{List, _++_, append-nil}
 use native.Mathlib.Nat.{mul-le-mul}
 use native.Mathlib.Omega.{arith}
 use lib.Dec.{ltb, eqb}
 use lib.ListN.{length, take, drop, getD, length-drop}
-use lib.Seq.{getD-drop, length-take-le}
+use lib.Seq.{getD-drop, getD-take, drop-length, length-take-le}
 use borrow.Author.Tests.{eqb-true, eqb-false}
+use Rattle.lists.specs.Lists.{splice}
 use Rattle.sort_entries.specs.inner.Checks.{Decides, decides-yes, decides-no}
 use Rattle.crc32.specs.Crc.{crc32, bytesOf}
 use Rattle.table.specs.declared.Header.{Header}
@@ -44,9 +45,23 @@ module _ (words : List ℕ) where
 
 -- ---- `header_in`
 
-pub header-of : (w : List ℕ) → decodeHeader (getD w 2 0 ∷ getD w 3 0 ∷ getD w 4 0 ∷ getD w 5 0 ∷ getD w 6 0 ∷ getD w 7 0 ∷ getD w 8 0 ∷ getD w 9 0 ∷ getD w 10 0 ∷ getD w 11 0 ∷ getD w 12 0 ∷ getD w 13 0 ∷ []) ≡ headerIn w
-unfolding headerIn decodeHeader
-header-of w = simp getD-drop
+-- twelve words over twelve others
+twelve : (z v : List ℕ) → length z ≡ 12 → length v ≡ 12 → splice z 0 v ≡ v
+unfolding splice
+twelve z v e k = ap (λ (n : ℕ). v ++ drop (0 + n) z) k ∙ ap (λ (n : ℕ). v ++ drop n z) (sym e) ∙ ap (λ (x : List ℕ). v ++ x) (drop-length z) ∙ append-nil v
+
+-- a header is decoded from its twelve words
+of-twelve : (m : List ℕ) → decodeHeader (take 12 m) ≡ decodeHeader m
+unfolding decodeHeader
+of-twelve m =
+    let g : (i : ℕ) → i < 12 → getD (take 12 m) i 0 ≡ getD m i 0 = λ i h. getD-take 12 m i 0 h in
+    rw (g 0 (omega arith), g 1 (omega arith), g 2 (omega arith), g 3 (omega arith), g 4 (omega arith), g 5 (omega arith), g 6 (omega arith), g 7 (omega arith), g 8 (omega arith), g 9 (omega arith), g 10 (omega arith), g 11 (omega arith))
+
+pub header-of : (z w e : List ℕ) → length z ≡ 12 → 16 ≤ length w → e ≡ splice z 0 (take 12 (drop 2 w)) → decodeHeader e ≡ headerIn w
+unfolding headerIn
+header-of z w e k h q =
+    let n : length (take 12 (drop 2 w)) ≡ 12 = length-take-le 12 (drop 2 w) (rw (length-drop 2 w) (omega arith)) in
+    ap decodeHeader (q ∙ twelve z (take 12 (drop 2 w)) k n) ∙ of-twelve (drop 2 w)
 
 -- ---- `layout_for`
 

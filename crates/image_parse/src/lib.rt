@@ -7,34 +7,24 @@ ghost use lib.ListN.{length, drop};
 ghost use Rattle.sort_entries.specs.inner.Checks.{Decides};
 ghost use Rattle.table.specs.Refusing.{outside};
 ghost use Rattle.image_parse.specs.inner.Parsed.{headerIn, layoutOf, Placed, Marked, Filled, Measured, Whole, ParsedIs};
+use abi::places;
+use image_spec::BYTE_RANGE;
+use image_spec::FIXED_WORDS;
+use image_spec::FORMAT;
+use image_spec::HEADER_AT;
+use image_spec::LONGEST_TEXT;
+use image_spec::MAGIC;
+use image_spec::TEXT_AT;
+use image_spec::TEXT_LENGTH_AT;
+use image_spec::THREE_BYTE_RANGE;
+use image_spec::TWO_BYTE_RANGE;
 use table::Header;
 use table::refusing;
 
-// "MGTB" as bytes, lowest first.
-const MAGIC: u32 = 1_112_819_533;
-
-const FORMAT: u32 = 1;
-
-// An image without text, rows, entries and pending words.
-const LEAST_WORDS: usize = 16;
-
-const MOST_TEXT: u32 = 4096;
-
 // Where the largest sort value is, and whether there is one.
-const LARGEST_FLAG_AT: usize = 12;
+const LARGEST_FLAG_AT: usize = HEADER_AT + places::LARGEST_FLAG;
 
-const LARGEST_VALUE_AT: usize = 13;
-
-const TEXT_LENGTH_AT: usize = 14;
-
-pub const TEXT_AT: usize = 15;
-
-// A word of at most one byte, two bytes or three bytes is below these.
-pub const BYTE_RANGE: u32 = 0x100;
-
-pub const TWO_BYTE_RANGE: u32 = 0x1_0000;
-
-pub const THREE_BYTE_RANGE: u32 = 0x100_0000;
+const LARGEST_VALUE_AT: usize = HEADER_AT + places::LARGEST_VALUE;
 
 // The parts of an image: its header, its text's length in bytes, and where rows, sort entries and pending words begin. Each
 // part ends where the next begins; the checksum is at `end`.
@@ -74,20 +64,8 @@ fn header_in(words: &[u32]) -> Header
     requires { ⌜ 16 ≤ length (now words) ⌝ }
     ensures { λ r. ⌜ r ≡ headerIn (now (words .entry)) ⌝ }
 {
-    let encoded = [
-        words[2],
-        words[3],
-        words[4],
-        words[5],
-        words[6],
-        words[7],
-        words[8],
-        words[9],
-        words[10],
-        words[11],
-        words[12],
-        words[13],
-    ];
+    let mut encoded = [0u32; places::HEADER_WORDS];
+    row_buffer::write_row(&mut encoded, 0, &words[HEADER_AT..TEXT_LENGTH_AT]);
     abi::decode_header(&encoded)
 }
 
@@ -149,7 +127,7 @@ fn is_whole(words: &[u32], l: Layout) -> bool
 pub fn parse(words: &[u32]) -> Parsed
     ensures { λ r. ⌜ ParsedIs (now (words .entry)) r ⌝ }
 {
-    if words.len() < LEAST_WORDS {
+    if words.len() < FIXED_WORDS {
         return Parsed::None;
     }
     if !is_marked(words) {
@@ -160,7 +138,7 @@ pub fn parse(words: &[u32]) -> Parsed
         return Parsed::None;
     }
     let text = words[TEXT_LENGTH_AT];
-    if MOST_TEXT < text {
+    if LONGEST_TEXT < text {
         return Parsed::None;
     }
     let l = layout_for(h, text);

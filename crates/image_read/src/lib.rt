@@ -10,24 +10,20 @@ ghost use Rattle.image_spec.specs.Contracts.{withCapacity, ImageRead, TextRead}
 ghost use Rattle.image_parse.specs.inner.Parsed.{part, IsAt};
 ghost use Rattle.image_read.specs.inner.Loading.{loadRefusal, PartsFit, PartsWritten, Loading, TextIn};
 use image_check::Decoding;
-use image_check::NO_IMAGE;
-use image_parse::BYTE_RANGE;
 use image_parse::Layout;
 use image_parse::Parsed;
-use image_parse::TEXT_AT;
-use image_parse::THREE_BYTE_RANGE;
-use image_parse::TWO_BYTE_RANGE;
+use image_spec::BYTE_RANGE;
 use image_spec::LengthAnswer;
+use image_spec::TEXT_AT;
+use image_spec::THREE_BYTE_RANGE;
+use image_spec::TWO_BYTE_RANGE;
+use refusals::NO_IMAGE;
+use refusals::OUT_OF_BOUNDS;
+use refusals::TOO_SHORT;
 use table::Header;
 use table::Lent;
 use table::TableAnswer;
 use table::refusing;
-
-// A capacity outside its bounds or below the row count.
-const OUT_OF_BOUNDS: u32 = 1;
-
-// A lent store that is shorter than needed.
-const TOO_SHORT: u32 = 2;
 
 // ---- the table
 

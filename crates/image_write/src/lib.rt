@@ -5,10 +5,15 @@ ghost use Prim.Native.Nat.{_≤_};
 ghost use Rattle.table.specs.Refusing.{outside};
 ghost use Rattle.image_spec.specs.Image.{imageLength};
 ghost use Rattle.image_spec.specs.Contracts.{sizeRefusal, ImageSized, writeRefusal, ImageWritten};
+use image_spec::FIXED_WORDS;
+use image_spec::LONGEST_TEXT;
 use image_spec::LengthAnswer;
 use parts::packed_length;
 use parts::write_body;
 use parts::write_checksum;
+use refusals::OUT_OF_BOUNDS;
+use refusals::TEXT_TOO_LONG;
+use refusals::TOO_SHORT;
 use table::Header;
 use table::refusing::is_outside;
 use table::refusing::is_pending_outside;
@@ -16,17 +21,8 @@ use table::refusing::is_rows_short;
 
 mod parts; // parts.rt: the parts of an image, each written at its place in the output
 
-const OUTSIDE_BOUNDS: u32 = 1;
-
-const TOO_SHORT: u32 = 2;
-
-const TEXT_TOO_LONG: u32 = 21;
-
-// The longest text, in bytes.
-const LONGEST_TEXT: usize = 4096;
-
-// The words of an image besides the text and the words in use.
-const FIXED_WORDS: usize = 16;
+// The longest text, in bytes, as a length.
+const MOST_BYTES: usize = LONGEST_TEXT as usize;
 
 // Returns how many words the image has, with a text of so many bytes.
 fn image_length(h: Header, text: usize) -> usize
@@ -42,9 +38,9 @@ fn size_refusal(h: Header, text: usize) -> u32
     ensures { λ r. ⌜ r ≡ sizeRefusal h text ⌝ }
 {
     if is_outside(h) {
-        return OUTSIDE_BOUNDS;
+        return OUT_OF_BOUNDS;
     }
-    if LONGEST_TEXT < text {
+    if MOST_BYTES < text {
         return TEXT_TOO_LONG;
     }
     0
@@ -62,7 +58,7 @@ fn write_refusal(
     ensures { λ r. ⌜ r ≡ writeRefusal h rows sorts pending text output ⌝ }
 {
     if is_pending_outside(h, pending) {
-        return OUTSIDE_BOUNDS;
+        return OUT_OF_BOUNDS;
     }
     if is_rows_short(h, rows) {
         return TOO_SHORT;
@@ -70,7 +66,7 @@ fn write_refusal(
     if sorts < 2 * (h.capacity as usize) {
         return TOO_SHORT;
     }
-    if LONGEST_TEXT < text {
+    if MOST_BYTES < text {
         return TEXT_TOO_LONG;
     }
     if output < image_length(h, text) {

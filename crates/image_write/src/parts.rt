@@ -9,20 +9,16 @@ ghost use Rattle.image_spec.specs.Image.{packed, imageBody, imageOf};
 ghost use Rattle.image_write.specs.inner.Parts.{imageHead, storeWords, wordsInUse, Holds};
 use abi::encode_header;
 use crc32::crc_words;
+use image_spec::BYTE_RANGE;
+use image_spec::FORMAT;
+use image_spec::HEADER_AT;
+use image_spec::MAGIC;
+use image_spec::TEXT_AT;
+use image_spec::TEXT_LENGTH_AT;
+use image_spec::THREE_BYTE_RANGE;
+use image_spec::TWO_BYTE_RANGE;
 use row_buffer::write_row;
 use table::Header;
-
-// "MGTB", lowest byte first.
-const MARK: u32 = 0x4254_474d;
-
-const FORMAT: u32 = 1;
-
-// The places of the header, of the text's length and of the text.
-const HEADER_AT: usize = 2;
-
-const TEXT_LENGTH_AT: usize = 14;
-
-const TEXT_AT: usize = 15;
 
 // Returns how many words a text of so many bytes has.
 pub fn packed_length(bytes: usize) -> usize
@@ -38,7 +34,7 @@ fn write_head(h: Header, text: usize, output: &mut [u32])
     ensures { λ _. ⌜ now (output .exit) ≡ splice (now (output .entry)) 0 (imageHead h text) ⌝ }
 {
     let header = encode_header(h);
-    output[0] = MARK;
+    output[0] = MAGIC;
     output[1] = FORMAT;
     write_row(output, HEADER_AT, &header);
     output[TEXT_LENGTH_AT] = text as u32;
@@ -64,7 +60,7 @@ fn text_word(text: &[u8], word: usize) -> u32
     let b = byte_at(text, at + 1) as u32;
     let c = byte_at(text, at + 2) as u32;
     let d = byte_at(text, at + 3) as u32;
-    a + 256 * b + 65536 * c + 16777216 * d
+    a + BYTE_RANGE * b + TWO_BYTE_RANGE * c + THREE_BYTE_RANGE * d
 }
 
 // Writes the text.
