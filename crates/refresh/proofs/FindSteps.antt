@@ -1,4 +1,4 @@
--- The rows that mention a value: how the two passes that set their bits make one, and that the records of the rows in the bitmap
+-- The rows that mention a value: how the passes that set their bits make one, and that the records of the rows in the bitmap
 -- are those of the rows found. Assumes nothing.
 use Prim.Native.Nat.{ℕ, suc, _+_, _*_, _/_, _%_, _≤_, _<_}
 use mathlib.Core.Path.{_≡_, refl, sym, ap, _∙_}
@@ -30,13 +30,18 @@ use Rattle.table.specs.Laws.Live.{rowOfCells, length-rowsIn, getD-rowsIn}
 use Rattle.table.specs.Laws.Refusals.{outside-inside}
 use Rattle.refresh_spec.specs.Index.{rowsSeen, IndexSound}
 use Rattle.refresh_spec.specs.Refreshes.{recordsFound}
-use Rattle.refresh_spec.specs.inner.Finding.{mentionsAt, mentionsBelow, mentionsFrom, Lendable, usable, ListedMarked}
+use Rattle.refresh_spec.specs.inner.Finding.{mentionsAt, mentionsBelow, mentionsFrom, Lendable, usable, ListedMarked, CaughtUp}
 use Rattle.refresh_scan.specs.inner.Scanning.{Scannable}
+use Rattle.refresh_index.specs.inner.Entries.{UpToDate}
 use Rattle.refresh_index.specs.Laws.Using.{usable-index}
 use Rattle.refresh.specs.inner.Finding.{RowsFound}
 use Rattle.refresh.specs.inner.Staging.{numbered, markedRows}
 
 -- ---- one pass or two
+
+pub there-below : (h : Header) (rows columns values : List ℕ) (i : ℕ) → mentionsAt h rows columns values i ≡ true → i < h .rows
+unfolding mentionsAt
+there-below h rows columns values i e = ltb-true _ _ (and-left (ltb i (h .rows)) _ (and-left _ _ e))
 
 module _ (h : Header) (rows index columns values : List ℕ) where
   abbrev at : ℕ → Bool
@@ -72,6 +77,27 @@ module _ (h : Header) (rows index columns values : List ℕ) where
         | yes k ↦ rw (lt-ltb i seen k, e)
         | no k ↦ or-right (ltb i seen && needed i) _ (and-both _ _ (le-leb seen i (omega arith)) e)
       ]) (marked-then (marked-weaker (below-at seen) (λ i e. e) a) b)
+
+  -- one pass, by the index store that has caught up
+  pub found-caught : {index′ words words′ : List ℕ} {count : ℕ} → Lendable h rows columns index → CaughtUp h rows columns index index′ × UpToDate h columns index′
+      → ListedMarked h rows index′ columns values words words′ count → RowsFound h rows index columns values words words′ count
+  unfolding mentionsBelow
+  found-caught {index′} lent up l needed only =
+      marked-weaker (below-at (rowsSeen index′)) (λ i e. e)
+      (l needed (λ i e.
+      let o = only i e in
+      let below = there-below h rows columns values i (o .1) in
+      (up .0 .current (λ u. usable-index lent u (o .0)) .index-of, and-both _ _ (lt-ltb i (rowsSeen index′) (rw (up .1 .seen-all) below)) (o .1))))
+
+  pub lendable-caught : {index′ : List ℕ} → Lendable h rows columns index → length index′ ≡ length index → Lendable h rows columns index′
+  lendable-caught l same =
+      record {
+        inside = l .inside;
+        rows-long = l .rows-long;
+        columns-few = l .columns-few;
+        columns-there = l .columns-there;
+        index-long = omega (arith, l .index-long, same);
+      }
 
   pub listed-long : {words words′ : List ℕ} {listed : ℕ} → ListedMarked h rows index columns values words words′ listed → length words ≡ 1024 → length words′ ≡ 1024
   listed-long l = l (λ i. false) (λ i e. absurd (false≢true e)) .long
@@ -121,10 +147,6 @@ pub record FoundRows (h : Header) (rows index columns values words : List ℕ) (
   pub counted : countTo test 65536 ≡ count
   pub mention : (i : ℕ) → test i ≡ true → mentionsAt h rows columns values i ≡ true
   pub all : IndexSound h rows columns index → (i : ℕ) → mentionsAt h rows columns values i ≡ true → test i ≡ true
-
-pub there-below : (h : Header) (rows columns values : List ℕ) (i : ℕ) → mentionsAt h rows columns values i ≡ true → i < h .rows
-unfolding mentionsAt
-there-below h rows columns values i e = ltb-true _ _ (and-left (ltb i (h .rows)) _ (and-left _ _ e))
 
 pub found-rows : {h : Header} {rows index columns values words words′ : List ℕ} {count : ℕ} → outside h ≡ false → Bitmap words (λ i. false)
     → RowsFound h rows index columns values words words′ count → FoundRows h rows index columns values words′ count

@@ -5,11 +5,11 @@ use mathlib.Core.Path.{_≡_, refl, sym, ap, _∙_}
 use mathlib.Core.Logic.{inl, inr}
 use mathlib.Core.Bool.{Bool, true, false}
 use mathlib.Core.List.{List, [], _∷_, map}
-use native.Mathlib.Nat.{mul-le-mul}
+use native.Mathlib.Nat.{mul-le-mul, mul-le-mul-right}
 use native.Mathlib.Omega.{arith}
 use lib.Dec.{ltb}
 use lib.ListN.{length, replicate}
-use borrow.Author.Tests.{ltb-false, lt-ltb}
+use borrow.Author.Tests.{ltb-false, lt-ltb, le-ltb}
 use Rattle.lists.specs.Lists.{splice, flatten}
 use Rattle.lists.specs.Laws.All.{or-right, or-no-left, or-no-right}
 use Rattle.lists.specs.Laws.Filter.{split}
@@ -23,6 +23,7 @@ use Rattle.plain_table.specs.Refusing.{overfull}
 use Rattle.plain_table.specs.Refreshing.{Refresh, refreshed}
 use Rattle.table.specs.declared.Header.{Header}
 use Rattle.table.specs.Numbers.{openingOf}
+use Rattle.table.specs.Refusing.{outside}
 use Rattle.table.specs.Stores.{recordWords}
 use Rattle.table.specs.Contracts.{withPending}
 use Rattle.table.specs.Laws.Refusals.{outside-inside}
@@ -31,9 +32,10 @@ use Rattle.refresh_spec.specs.declared.RefreshAnswer.the-variants.{Refused, Ref
 use Rattle.refresh_spec.specs.Index.{IndexSound}
 use Rattle.refresh_spec.specs.Refreshes.{refreshView, refreshRefusal, recordsFound, answered, Refreshing}
 use Rattle.refresh_spec.specs.inner.Finding.{mentionsAt, Lendable, CaughtUp}
+use Rattle.refresh_index.specs.inner.Entries.{UpToDate}
 use Rattle.refresh.specs.inner.Testing.{earlyRefusal}
 use Rattle.refresh.specs.inner.Finding.{RowsFound}
-use Rattle.refresh.specs.inner.Staging.{markedRows, rowsWords, rowWords, Stageable, AllWritten}
+use Rattle.refresh.specs.inner.Staging.{markedRows, rowsWords, rowWords, Stageable, RowsStaged}
 use Rattle.refresh.proofs.TestSteps.{refused-before-seven, Passed, only-seven, lendable}
 use Rattle.refresh.proofs.FindSteps.{FoundRows, found-rows, there-below, found, records-found}
 use Rattle.refresh_index.specs.Laws.Using.{usable-index}
@@ -45,6 +47,21 @@ pub record WordsFew (h : Header) (count : ℕ) : Type 0 where
   pub columns-few : h .columns ≤ 8
   pub removals : count * (h .keys + 3) ≤ 720896
   pub inserts : count * (h .columns + 2) ≤ 720896
+
+few-words : (h : Header) → outside h ≡ false → (count : ℕ) → count ≤ 65536 → WordsFew h count
+few-words h inside count few =
+    let b = outside-inside h inside .bounds in
+    let keys : h .keys + 3 ≤ 11 = omega (arith, b .keys-few, b .columns-few) in
+    let columns : h .columns + 2 ≤ 11 = omega (arith, b .columns-few) in
+    record {
+      keys-few = omega (arith, b .keys-few, b .columns-few);
+      columns-few = b .columns-few;
+      removals = omega (arith, mul-le-mul few keys);
+      inserts = omega (arith, mul-le-mul few columns);
+    }
+
+pub all-words-few : (h : Header) → outside h ≡ false → WordsFew h (h .rows)
+all-words-few h inside = let i = outside-inside h inside in few-words h inside (h .rows) (omega (arith, i .rows-fit, i .bounds .capacity-few))
 
 twice : (n : ℕ) → ltb 0 n ≡ ltb 0 (2 * n)
 twice zero = refl
@@ -92,17 +109,7 @@ module _ (h : Header) (rows pending index : List ℕ) (r : Refresh) where
     count-rows = sym (all-marked h rows (f .test) only 65536 rows-few .1) ∙ f .counted
 
     pub words-few : WordsFew h count
-    words-few =
-        let b = outside-inside h (lent .inside) .bounds in
-        let few : count ≤ 65536 = omega (arith, sym (f .counted), countTo-le (f .test) 65536) in
-        let keys : h .keys + 3 ≤ 11 = omega (arith, b .keys-few, b .columns-few) in
-        let columns : h .columns + 2 ≤ 11 = omega (arith, b .columns-few) in
-        record {
-          keys-few = omega (arith, b .keys-few, b .columns-few);
-          columns-few = b .columns-few;
-          removals = omega (arith, mul-le-mul few keys);
-          inserts = omega (arith, mul-le-mul few columns);
-        }
+    words-few = few-words h (lent .inside) count (omega (arith, sym (f .counted), countTo-le (f .test) 65536))
 
     abbrev records : List Staged
     records = recordsFound h rows r (found h rows r (f .test) (f .mention))
@@ -140,6 +147,19 @@ module _ (h : Header) (rows pending index : List ℕ) (r : Refresh) where
     refused-full full =
         refused-as 7 (found h rows r (f .test) (f .mention)) all-found (sym (seven ∙ unfold firstRefusal in rw full)) (λ z. omega arith)
 
+    -- where the records of all rows fit, these do
+    pub found-fit : overfull (h .pending) (length pending) (h .rows * (h .keys + 3) + h .rows * (h .columns + 2)) ≡ false
+        → overfull (h .pending) (length pending) (count * (h .keys + 3) + count * (h .columns + 2)) ≡ false
+    unfolding overfull
+    found-fit free =
+        let most : ℕ = h .pending + (h .rows * (h .keys + 3) + h .rows * (h .columns + 2)) in
+        let n : ℕ = h .pending + (count * (h .keys + 3) + count * (h .columns + 2)) in
+        let few : count ≤ h .rows = omega (arith, count-rows, countTo-le (f .test) (h .rows)) in
+        let a = ltb-false (length pending) most (or-no-left (ltb (length pending) most) _ free) in
+        let b = ltb-false 4294967295 most (or-no-right (ltb (length pending) most) _ free) in
+        let less : n ≤ most = omega (arith, mul-le-mul-right (h .keys + 3) few, mul-le-mul-right (h .columns + 2) few) in
+        rw (le-ltb (length pending) n (omega (arith, less, a)), le-ltb 4294967295 n (omega (arith, less, b)))
+
     -- the records fit
     module _ (free : overfull (h .pending) (length pending) (count * (h .keys + 3) + count * (h .columns + 2)) ≡ false) where
       total : countTo (f .test) (h .rows) * rowWords h ≡ count * (h .keys + 3) + count * (h .columns + 2)
@@ -168,22 +188,22 @@ module _ (h : Header) (rows pending index : List ℕ) (r : Refresh) where
           let n : length records ≡ 2 * count = ap length records-are ∙ length-refreshed h (r .stamp) marked ∙ ap (λ (k : ℕ). 2 * k) marked-count in
           rw n (twice count)
 
-      pub done : {used : ℕ} {pending′ index′ : List ℕ} → CaughtUp h rows (r .columns) index index′ → AllWritten h rows pending words (r .stamp) used pending′
-          → Refreshing h rows pending index r (RefreshDone (record { header = withPending h used; staged = ltb 0 count })) pending′ index′
+      pub done : {answer : Refreshed} {pending′ index′ : List ℕ} → CaughtUp h rows (r .columns) index index′ × UpToDate h (r .columns) index′
+          → RowsStaged h rows pending words count (r .stamp) answer pending′ → Refreshing h rows pending index r (RefreshDone answer) pending′ index′
       unfolding stageable rowsWords refreshView
-      done {used} up all =
-          let w = all .on stageable in
+      done {answer} up all =
+          let w = all .written .on stageable in
           let none : number records ≡ 0 = seven ∙ unfold firstRefusal in rw free in
-          let u : used ≡ h .pending + wordsAll (openingOf h) records = w .words-used ∙ ap (λ (k : ℕ). h .pending + k) (total ∙ sym records-words) in
-          let a : _≡_ {A = Refreshed} (record { header = withPending h used; staged = ltb 0 count }) (answered h records) = rw (u, some-staged) in
+          let u : all .used ≡ h .pending + wordsAll (openingOf h) records = w .words-used ∙ ap (λ (k : ℕ). h .pending + k) (total ∙ sym records-words) in
+          let a : answer ≡ answered h records = all .answers ∙ rw (u, some-staged) in
           record {
             found = found h rows r (f .test) (f .mention);
             all-found = all-found;
             answers = reply-accepted (refreshView (RefreshDone _)) _ (answered h records) (ap accepted a) none;
             unchanged = λ k. absurd (omega (arith, none));
             staged = λ z. w .words ∙ ap (λ (rs : List Staged). splice pending (h .pending) (flatten (map (recordWords (h .keys)) rs))) (sym records-are);
-            written = λ z. up .written;
-            current = λ z sound. up .current (λ u. usable-index lent u sound);
-            past = up .past;
-            length-same = up .length-same;
+            written = λ z. up .0 .written;
+            current = λ z sound. up .0 .current (λ u. usable-index lent u sound);
+            past = up .0 .past;
+            length-same = up .0 .length-same;
           }

@@ -1,24 +1,26 @@
-// Gives rows that mention a value a new stamp: `refresh_rows_for_values` of table/rebuild.rs. The rows are found and counted in a
-// bitmap before anything lent is written. Then the index store catches up with the table, and each row found is staged for removal
-// and, with the stamp as its sort cell, for insertion.
+// Gives rows that mention a value a new stamp: `refresh_rows_for_values` of table/rebuild.rs. The index store catches up with the
+// table, the rows are found by it and counted in a bitmap, and each is staged for removal and, with the stamp as its sort cell, for
+// insertion. If the pending store might be too short, the rows are counted before anything lent is written.
 ghost use mathlib.Core.Path.{_≡_};
 ghost use mathlib.Core.Bool.{false};
 ghost use mathlib.Core.List.{[], _∷_};
-ghost use Prim.Native.Nat.{_+_, _≤_};
+ghost use Prim.Native.Nat.{_+_, _*_, _≤_};
 ghost use lib.Dec.{ltb};
 ghost use lib.ListN.{length, take, set};
 ghost use Rattle.lists.specs.Lists.{splice, all, rowAt};
 ghost use Rattle.plain_table.specs.Staged.{insert, removeRow};
+ghost use Rattle.plain_table.specs.Refusing.{overfull};
 ghost use Rattle.plain_table.specs.Refreshing.{indexShort};
 ghost use Rattle.table.specs.Numbers.{openingOf};
 ghost use Rattle.table.specs.Refusing.{outside};
 ghost use Rattle.table.specs.Stores.{recordWords};
 ghost use Rattle.bitmap.specs.inner.Bitmaps.{Bitmap};
+ghost use Rattle.refresh_spec.specs.declared.RefreshAnswer.the-variants.{Refreshed as RefreshDone};
 ghost use Rattle.refresh_spec.specs.Refreshes.{Refreshing};
 ghost use Rattle.refresh_spec.specs.inner.Finding.{Lendable, usable};
-ghost use Rattle.refresh.specs.inner.Testing.{earlyRefusal};
+ghost use Rattle.refresh.specs.inner.Testing.{earlyRefusal, Accepted};
 ghost use Rattle.refresh.specs.inner.Finding.{RowsFound};
-ghost use Rattle.refresh.specs.inner.Staging.{RowInStore, rowWords, rowsWords, numbered, Block, BlockWritten, Stageable, AllWritten};
+ghost use Rattle.refresh.specs.inner.Staging.{RowInStore, rowWords, rowsWords, numbered, Block, BlockWritten, Stageable, AllWritten, RowsStaged};
 use bitmap::WORDS;
 use refresh_index::ROWS_SEEN;
 use refresh_index::catch_up;
@@ -192,6 +194,85 @@ fn write_marked(h: Header, rows: &[u32], pending: &mut [u32], words: &[u64], sta
     used
 }
 
+// Stages the rows in the bitmap, of which there are `count`.
+fn stage_marked(
+    h: Header,
+    rows: &[u32],
+    pending: &mut [u32],
+    words: &[u64],
+    count: u32,
+    stamp: u32,
+) -> Refreshed
+    requires { ⌜ Stageable h (now rows) (now pending) (now words) ⌝ }
+    ensures { λ r. ⌜ RowsStaged h (now (rows .entry)) (now (pending .entry)) (now (words .entry)) count stamp r (now (pending .exit)) ⌝ }
+{
+    let mut n = h;
+    n.pending = write_marked(h, rows, pending, words, stamp);
+    Refreshed {
+        header: n,
+        staged: 0 < count,
+    }
+}
+
+// Whether the free pending words do not suffice for the records of all rows. If they do, test 7 refuses no refresh.
+fn is_tight(h: Header, pending: usize) -> bool
+    requires { ⌜ outside h ≡ false ⌝ }
+    ensures { λ r. ⌜ r ≡ overfull (h .pending) pending (h .rows * (h .keys + 3) + h .rows * (h .columns + 2)) ⌝ }
+{
+    is_overfull(
+        h.pending,
+        pending,
+        h.rows * (h.keys + 3),
+        h.rows * (h.columns + 2),
+    )
+}
+
+// A refresh that test 7 cannot refuse: the index store catches up first, so that it lists all rows and the values are looked up in
+// it.
+fn refresh_by_index(
+    h: Header,
+    rows: &[u32],
+    pending: &mut [u32],
+    index: &mut [u32],
+    columns: &[u32],
+    values: &[u32],
+    stamp: u32,
+    goes_on: bool,
+) -> Refreshed
+    requires { ⌜ Accepted h (now rows) (now pending) (now index) (now columns) stamp «goes_on» × (overfull (h .pending) (length (now pending)) (h .rows * (h .keys + 3) + h .rows * (h .columns + 2)) ≡ false) ⌝ }
+    ensures { λ r. ⌜ Refreshing h (now (rows .entry)) (now (pending .entry)) (now (index .entry)) (record { columns = now (columns .entry); values = now (values .entry); stamp = stamp }) (RefreshDone r) (now (pending .exit)) (now (index .exit)) ⌝ }
+{
+    catch_up(h, rows, index, columns, goes_on);
+    let mut words = [0u64; WORDS];
+    let count = mark_listed(h, rows, index, columns, values, &mut words);
+    stage_marked(h, rows, pending, &words, count, stamp)
+}
+
+// A refresh that test 7 may refuse: the rows are counted before anything lent is written.
+fn refresh_by_scan(
+    h: Header,
+    rows: &[u32],
+    pending: &mut [u32],
+    index: &mut [u32],
+    columns: &[u32],
+    values: &[u32],
+    stamp: u32,
+    goes_on: bool,
+) -> RefreshAnswer
+    requires { ⌜ Accepted h (now rows) (now pending) (now index) (now columns) stamp «goes_on» ⌝ }
+    ensures { λ r. ⌜ Refreshing h (now (rows .entry)) (now (pending .entry)) (now (index .entry)) (record { columns = now (columns .entry); values = now (values .entry); stamp = stamp }) r (now (pending .exit)) (now (index .exit)) ⌝ }
+{
+    let mut words = [0u64; WORDS];
+    let count = mark_mentioning(h, rows, index, columns, values, goes_on, &mut words);
+    let removals = count * (h.keys + 3);
+    let inserts = count * (h.columns + 2);
+    if is_overfull(h.pending, pending.len(), removals, inserts) {
+        return RefreshAnswer::Refused(PENDING_FULL);
+    }
+    catch_up(h, rows, index, columns, goes_on);
+    RefreshAnswer::Refreshed(stage_marked(h, rows, pending, &words, count, stamp))
+}
+
 // Stages each live row with one of the values in one of the columns for removal and, with the stamp as its sort cell, for
 // insertion. The index store catches up with the table.
 pub fn refresh_rows_for_values(
@@ -210,19 +291,9 @@ pub fn refresh_rows_for_values(
         return RefreshAnswer::Refused(refusal);
     }
     let goes_on = is_usable(h, index, columns);
-    let mut words = [0u64; WORDS];
-    let count = mark_mentioning(h, rows, index, columns, values, goes_on, &mut words);
-    let removals = count * (h.keys + 3);
-    let inserts = count * (h.columns + 2);
-    if is_overfull(h.pending, pending.len(), removals, inserts) {
-        return RefreshAnswer::Refused(PENDING_FULL);
+    if is_tight(h, pending.len()) {
+        return refresh_by_scan(h, rows, pending, index, columns, values, stamp, goes_on);
     }
-    catch_up(h, rows, index, columns, goes_on);
-    let used = write_marked(h, rows, pending, &words, stamp);
-    let mut n = h;
-    n.pending = used;
-    RefreshAnswer::Refreshed(Refreshed {
-        header: n,
-        staged: 0 < count,
-    })
+    let refreshed = refresh_by_index(h, rows, pending, index, columns, values, stamp, goes_on);
+    RefreshAnswer::Refreshed(refreshed)
 }

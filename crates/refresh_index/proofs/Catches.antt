@@ -11,7 +11,7 @@ use Rattle.refresh_spec.specs.Index.{rowsSeen, entriesUnder, IndexOf}
 use Rattle.refresh_spec.specs.inner.Finding.{Lendable, usable, CaughtUp}
 use Rattle.refresh_spec.specs.Laws.Places.{entry-in-range}
 use Rattle.refresh_spec.specs.Laws.Lookup.{column-is}
-use Rattle.refresh_index.specs.inner.Entries.{cellNamed, entryLive, entryValue, headsAt, Listed, Fillable, Filled, Emptied}
+use Rattle.refresh_index.specs.inner.Entries.{cellNamed, entryLive, entryValue, headsAt, Listed, Fillable, UpToDate, Filled, Emptied}
 use Rattle.refresh_index.specs.Laws.Using.{Usable, usable-is}
 use Rattle.refresh_index.proofs.Sizes.{small}
 
@@ -33,18 +33,20 @@ module _ (h : Header) (rows columns index : List ℕ) where
     goes-on l = let v = usable-is h columns index u in (record { lendable = l; enough = v .enough; room = v .room }, v .seen)
 
     pub caught-on : (index′ : List ℕ) → length index′ ≡ length index → Filled h rows columns (getD index 12 0) (getD index 2 0) index index′
-        → CaughtUp h rows columns index index′
+        → CaughtUp h rows columns index index′ × UpToDate h columns index′
     unfolding rowsSeen
-    caught-on index′ same f =
-        record {
-          length-same = same;
-          written = f .written;
-          current = λ i. f .current (listed-of (i u) (usable-is h columns index u));
-          past = f .past;
-          entries-kept = λ _. f .same-below;
-          buckets-kept = λ _. f .buckets-are;
-          buckets-afresh = λ stale. absurd (false≢true (sym stale ∙ u));
-        }
+    caught-on index′ same f = (
+      record {
+        length-same = same;
+        written = f .written;
+        current = λ i. f .current (listed-of (i u) (usable-is h columns index u));
+        past = f .past;
+        entries-kept = λ _. f .same-below;
+        buckets-kept = λ _. f .buckets-are;
+        buckets-afresh = λ stale. absurd (false≢true (sym stale ∙ u));
+      },
+      f .up-to-date,
+    )
 
   -- it starts again
 
@@ -55,14 +57,16 @@ module _ (h : Header) (rows columns index : List ℕ) where
         record { lendable = l; enough = omega arith; room = omega arith }
 
     pub caught-restarted : usable h columns index ≡ false → (index₁ index₂ : List ℕ) → length index₂ ≡ length index → Emptied index (headsAt h columns) (2 * (h .rows * length columns)) index₁
-        → Filled h rows columns (2 * (h .rows * length columns)) 0 index₁ index₂ → CaughtUp h rows columns index index₂
-    caught-restarted stale index₁ index₂ same e f =
-        record {
-          length-same = same;
-          written = f .written;
-          current = λ _. f .current (record { each = λ entry k. absurd (let none : entry < 0 = rw zero-mul at k in omega arith) });
-          past = f .past ∙ e .past (16 + 3 * (h .capacity * length columns)) (omega (arith, fresh-room .room));
-          entries-kept = λ u. absurd (false≢true (sym stale ∙ u));
-          buckets-kept = λ u. absurd (false≢true (sym stale ∙ u));
-          buckets-afresh = λ _. f .buckets-are;
-        }
+        → Filled h rows columns (2 * (h .rows * length columns)) 0 index₁ index₂ → CaughtUp h rows columns index index₂ × UpToDate h columns index₂
+    caught-restarted stale index₁ index₂ same e f = (
+      record {
+        length-same = same;
+        written = f .written;
+        current = λ _. f .current (record { each = λ entry k. absurd (let none : entry < 0 = rw zero-mul at k in omega arith) });
+        past = f .past ∙ e .past (16 + 3 * (h .capacity * length columns)) (omega (arith, fresh-room .room));
+        entries-kept = λ u. absurd (false≢true (sym stale ∙ u));
+        buckets-kept = λ u. absurd (false≢true (sym stale ∙ u));
+        buckets-afresh = λ _. f .buckets-are;
+      },
+      f .up-to-date,
+    )

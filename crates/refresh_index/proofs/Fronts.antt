@@ -11,7 +11,8 @@ use Rattle.lists.specs.Laws.Parts.{take-drop, length-splice, drop-splice, part-
 use Rattle.constraints.specs.Constraints.{isLive}
 use Rattle.table.specs.declared.Header.{Header}
 use Rattle.refresh_spec.specs.Index.{isNew, generationSeen, rowsSeen, columnsNamed, namedIn, bucketOf, chain, entriesUnder, IndexOf, Current}
-use Rattle.refresh_index.specs.inner.Entries.{cellNamed, entryLive, entryValue, headsAt, fronted, Listed, Fillable, Pushed, Filled}
+use Rattle.refresh_index.specs.inner.Entries.{cellNamed, entryLive, entryValue, headsAt, fronted, Listed, Fillable, Pushed, UpToDate, Filled}
+use Rattle.refresh_index.specs.Laws.Using.{usable-of}
 use Rattle.refresh_spec.specs.Laws.Places.{entry-in}
 use Rattle.refresh_spec.specs.Laws.Fronts.{chain-same}
 use Rattle.refresh_spec.specs.Laws.Lookup.{column-is}
@@ -30,6 +31,10 @@ module _ (h : Header) (columns : List ℕ) (buckets : ℕ) (index : List ℕ) (l
   front-written : isNew (fronted h columns buckets index) ≡ false
   unfolding isNew fronted splice
   front-written = refl
+
+  front-first : getD (fronted h columns buckets index) 0 0 ≡ 1
+  unfolding fronted splice
+  front-first = refl
 
   front-generation : generationSeen (fronted h columns buckets index) ≡ h .generation
   unfolding fronted splice generationSeen
@@ -72,6 +77,21 @@ module _ (h : Header) (columns : List ℕ) (buckets : ℕ) (index : List ℕ) (l
       ∙ drop-splice (splice index 0 words) columns 4 columns-fit n (omega arith)
       ∙ drop-splice index words 0 words-fit n (omega arith)
 
+  front-up-to-date : h .rows * length columns ≤ buckets → buckets ≤ 2 * (h .capacity * length columns) → UpToDate h columns (fronted h columns buckets index)
+  front-up-to-date enough room =
+      record {
+        usable-now = usable-of h columns (fronted h columns buckets index)
+            (record {
+              first = front-first;
+              generation = front-generation;
+              named = record { count = front-count; names = front-names };
+              seen = rw front-rows (omega arith);
+              enough = rw front-buckets enough;
+              room = rw front-buckets room;
+            });
+        seen-all = front-rows;
+      }
+
   -- so an index of all rows
   module _ (rows : List ℕ) (room : buckets ≤ 2 * (h .capacity * length columns)) (l : Listed h rows columns buckets (h .rows * length columns) index) where
     entry-listed : (row place : ℕ) → row < h .rows → place < length columns → isLive (rowAt (h .columns) row rows) ≡ true
@@ -113,6 +133,7 @@ filled h rows columns buckets from index index₁ index₂ f same p e =
     let few = f .lendable .columns-few in
     record {
       written = rw e (front-written h columns buckets index₁ long few);
+      up-to-date = rw e (front-up-to-date h columns buckets index₁ long few (f .enough) (f .room));
       current = λ l. rw e (front-current h columns buckets index₁ long few rows (f .room) (p .lists l));
       same-below = λ entry k. rw e (front-after h columns buckets index₁ long few (16 + entry) (omega arith)) ∙ p .same-below entry k;
       buckets-are = rw e (front-buckets h columns buckets index₁ long few);

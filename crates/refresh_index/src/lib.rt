@@ -8,7 +8,7 @@ ghost use lib.ListN.{length};
 ghost use Rattle.table.specs.Refusing.{outside};
 ghost use Rattle.refresh_spec.specs.Index.{bucketOf, entriesUnder, leadsTo, leads};
 ghost use Rattle.refresh_spec.specs.inner.Finding.{Lendable, usable, ListedMarked, CaughtUp};
-ghost use Rattle.refresh_index.specs.inner.Entries.{Readable, cellNamed, fronted, pushed, Fillable, Pushed, Filled, Emptied};
+ghost use Rattle.refresh_index.specs.inner.Entries.{Readable, cellNamed, fronted, pushed, Fillable, Pushed, UpToDate, Filled, Emptied};
 ghost use Rattle.refresh_index.specs.inner.Marking.{MarkedAll};
 use table::Header;
 
@@ -142,7 +142,7 @@ fn empty_buckets(index: &mut [u32], heads: usize, buckets: u32)
 // there are entries, which leaves room to continue and takes time by the rows and not by the capacity.
 pub fn catch_up(h: Header, rows: &[u32], index: &mut [u32], columns: &[u32], goes_on: bool)
     requires { ⌜ Lendable h (now rows) (now columns) (now index) × («goes_on» ≡ usable h (now columns) (now index)) ⌝ }
-    ensures { λ _. ⌜ CaughtUp h (now (rows .entry)) (now (columns .entry)) (now (index .entry)) (now (index .exit)) ⌝ }
+    ensures { λ _. ⌜ CaughtUp h (now (rows .entry)) (now (columns .entry)) (now (index .entry)) (now (index .exit)) × UpToDate h (now (columns .entry)) (now (index .exit)) ⌝ }
 {
     if goes_on {
         let seen = index[ROWS_SEEN];

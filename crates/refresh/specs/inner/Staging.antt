@@ -4,6 +4,7 @@ use mathlib.Core.Path.{_≡_}
 use mathlib.Core.Bool.{Bool, true, false}
 use mathlib.Core.List.{List, map}
 use lib.ListN.{length}
+use lib.Dec.{ltb}
 use Rattle.lists.specs.Lists.{splice, filter, rowAt, flatten, iota}
 use Rattle.row_buffer.specs.Ranks.{bitmapWord, countTo}
 use Rattle.bitmap.specs.inner.Bitmaps.{Bitmap}
@@ -13,6 +14,8 @@ use Rattle.table.specs.declared.Header.{Header}
 use Rattle.table.specs.Numbers.{openingOf}
 use Rattle.table.specs.Refusing.{outside}
 use Rattle.table.specs.Stores.{recordWords}
+use Rattle.table.specs.Contracts.{withPending}
+use Rattle.refresh_spec.specs.declared.Refreshed.{Refreshed}
 
 abbrev pub numbered : Header → List ℕ → ℕ → Numbered
 numbered h rows i = record { number = i; cells = rowAt (h .columns) i rows }
@@ -69,3 +72,9 @@ pub record Stageable (h : Header) (rows pending words : List ℕ) : Type 0 where
 -- the records of all rows are written
 pub record AllWritten (h : Header) (rows pending words : List ℕ) (stamp r : ℕ) (pending′ : List ℕ) : Type 0 where
   pub on : (s : Stageable h rows pending words) → Written h rows pending (s .test) stamp pending′ r (h .rows)
+
+-- the same, and the answer of a refresh that found so many rows
+pub record RowsStaged (h : Header) (rows pending words : List ℕ) (count stamp : ℕ) (answer : Refreshed) (pending′ : List ℕ) : Type 0 where
+  pub used : ℕ
+  pub written : AllWritten h rows pending words stamp used pending′
+  pub answers : answer ≡ record { header = withPending h used; staged = ltb 0 count }

@@ -5,7 +5,7 @@ use mathlib.Core.Bool.{true, _&&_}
 use mathlib.Core.List.{List}
 use lib.Dec.{leb, eqb}
 use lib.ListN.{length, take, drop, getD}
-use borrow.Author.Tests.{leb-true, eqb-true, eq-eqb, le-ltb}
+use borrow.Author.Tests.{leb-true, eqb-true, eq-eqb, le-leb, le-ltb}
 use Rattle.lists.specs.Lists.{same}
 use Rattle.lists.specs.Laws.Filter.{and-left, and-right}
 use Rattle.lists.specs.Laws.Rising.{same-eq, same-refl}
@@ -45,6 +45,11 @@ usable-is h columns index u =
       enough = leb-true _ _ (and-right e₅ _ u₆);
       room = leb-true _ _ (and-right e₆ _ u);
     }
+
+pub usable-of : (h : Header) (columns index : List ℕ) → Usable h columns index → usable h columns index ≡ true
+unfolding usable
+usable-of h columns index u =
+    rw (eq-eqb _ _ (u .first), eq-eqb _ _ (u .generation), eq-eqb _ _ (u .named .count), u .named .names, same-refl columns, le-leb _ _ (u .seen), le-leb _ _ (u .enough), le-leb _ _ (u .room))
 
 -- a sound store is an index of the rows that it has seen
 pub usable-index : {h : Header} {rows columns index : List ℕ} → Lendable h rows columns index → usable h columns index ≡ true → IndexSound h rows columns index → IndexOf h rows index

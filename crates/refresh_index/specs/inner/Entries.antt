@@ -10,8 +10,8 @@ use Rattle.lists.specs.Lists.{splice, all, elem, rowAt}
 use Rattle.constraints.specs.Constraints.{isLive}
 use Rattle.table.specs.declared.Header.{Header}
 use Rattle.table.specs.Refusing.{outside}
-use Rattle.refresh_spec.specs.Index.{isNew, bucketOf, chain, Current}
-use Rattle.refresh_spec.specs.inner.Finding.{Lendable}
+use Rattle.refresh_spec.specs.Index.{isNew, rowsSeen, bucketOf, chain, Current}
+use Rattle.refresh_spec.specs.inner.Finding.{Lendable, usable}
 
 -- rows and named columns that a refresh may read
 pub record Readable (h : Header) (rows columns : List ℕ) : Type 0 where
@@ -66,9 +66,15 @@ unfoldable pub fronted : Header → List ℕ → ℕ → List ℕ → List ℕ
 fronted h columns buckets index =
     set (splice (splice index 0 (1 ∷ h .generation ∷ h .rows ∷ length columns ∷ [])) 4 columns) 12 buckets
 
+-- a store that has seen all rows, and that the next refresh continues with
+pub record UpToDate (h : Header) (columns index : List ℕ) : Type 0 where
+  pub usable-now : usable h columns index ≡ true
+  pub seen-all : rowsSeen index ≡ h .rows
+
 -- the rows from one on are pushed, and the words before the entries are written
 pub record Filled (h : Header) (rows columns : List ℕ) (buckets from : ℕ) (index index′ : List ℕ) : Type 0 where
   pub written : isNew index′ ≡ false
+  pub up-to-date : UpToDate h columns index′
   pub current : Listed h rows columns buckets (from * length columns) index → Current h rows columns index′
   pub same-below : (entry : ℕ) → entry < from * length columns → getD index′ (16 + entry) 0 ≡ getD index (16 + entry) 0
   pub buckets-are : getD index′ 12 0 ≡ buckets

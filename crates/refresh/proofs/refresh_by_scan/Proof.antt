@@ -1,0 +1,52 @@
+-- `refresh::refresh_by_scan` meets its contract. Assumes nothing.
+use mathlib.Core.Path.{sym, _∙_}
+use native.Mathlib.Omega.{arith}
+use lib.ListN.{length}
+use Rattle.bitmap.specs.Laws.Bitmaps.{bitmap-none}
+use Rattle.refresh_spec.specs.inner.Finding.{Lendable}
+use borrow.Author.Needs.{needs}
+use Rattle.refresh.proofs.TestSteps.{Passed, passed, lendable}
+use Rattle.refresh.proofs.RefreshSteps.{WordsFew, words-few, refused-full, stageable, done}
+use Rattle.refresh.proofs.refresh_by_scan.Statement.{statement}
+use Rattle.refresh.proofs.refresh_by_scan.Tie as tie
+
+-- no test before 7 refuses it
+accepts : (s : tie.Start) → let a = s .args in Passed (a .h) (length (a .rows .now)) (length (a .pending .now)) (length (a .index .now)) (record { columns = a .columns .now; values = a .values .now; stamp = a .stamp })
+accepts s = passed _ _ _ _ _ (s .pre .checked)
+
+lent : (s : tie.Start) → let a = s .args in Lendable (a .h) (a .rows .now) (a .columns .now) (a .index .now)
+lent s = lendable _ _ _ _ _ (accepts s)
+
+fits : (c : tie.After-words2) → WordsFew (c .before .before .before .before .before .before .before .before .before .args .h) (c .before .mark-mentioning .result)
+fits c = let s = c .before .before .before .before .before .before .before .before .before in let a = s .args in words-few (a .h) (a .rows .now) (a .pending .now) (a .index .now) _ (accepts s) (c .before .mark-mentioning .ensures)
+
+returns : tie.Need-returns
+returns c = refused-full _ _ _ _ _ (accepts (c .before .before .before .before .before .before .before .before .before .before .before .before .before)) (c .before .before .before .before .before .mark-mentioning .ensures) (sym (c .before .is-overfull .ensures) ∙ c .if1 .taken)
+
+stage-marked-requires : tie.Need-stage-marked-requires
+stage-marked-requires c κs =
+    let s = c .before .before .before .before .before .before .before .before .before .before .before .before .before .before .before .before .before .before .before in
+    let a = s .args in
+    let free = sym (c .before .before .before .before .before .before .before .is-overfull .ensures) ∙ c .before .before .before .before .before .before .if1 .left in
+    stageable (a .h) (a .rows .now) (a .pending .now) (a .index .now) _ (accepts s) (c .before .before .before .before .before .before .before .before .before .before .before .mark-mentioning .ensures) free
+
+returns-2 : tie.Need-returns-2
+returns-2 c =
+    let free = sym (c .before .before .before .before .before .before .before .before .before .before .is-overfull .ensures) ∙ c .before .before .before .before .before .before .before .before .before .if1 .left in
+    done _ _ _ _ _ (accepts (c .before .before .before .before .before .before .before .before .before .before .before .before .before .before .before .before .before .before .before .before .before .before)) (c .before .before .before .before .before .before .before .before .before .before .before .before .before .before .mark-mentioning .ensures) free (c .before .before .before .before .before .before .before .catch-up .ensures) (c .before .before .stage-marked .ensures)
+
+pub refresh-by-scan-spec : {M : Type 1} → statement M
+refresh-by-scan-spec =
+    tie.close
+    (tie.spec
+    (λ c. search needs)
+    (λ c κs. let s = c .before .before .before .before .before .before .before in (lent s, s .pre .continues, bitmap-none))
+    (λ c. omega (arith, fits (c .before))) (λ c. omega (arith, fits (c .before)))
+    (λ c. omega (arith, fits (c .before .before))) (λ c. omega (arith, fits (c .before .before)))
+    (λ c κs. search needs) (λ c. search needs)
+    returns
+    (λ c κs. let s = c .before .before .before .before .before .before .before .before .before .before .before .before .before .before in (lent s, s .pre .continues))
+    (λ c. search needs)
+    stage-marked-requires
+    (λ c. search needs) (λ c. search needs)
+    returns-2)
