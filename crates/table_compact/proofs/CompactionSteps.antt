@@ -37,14 +37,16 @@ use Rattle.table.specs.declared.Header.{Header}
 use Rattle.table.specs.declared.TableAnswer.the-variants.{Refused as TableRefused, Table}
 use Rattle.table_compact.specs.declared.KeptCounts.{KeptCounts}
 use Rattle.table.specs.Numbers.{tableView}
+use Rattle.plain_table.specs.Refusing.{Lengths}
 use Rattle.table.specs.Refusing.{compactRefusal}
 use Rattle.table.specs.Sound.{indexShapeOf}
 use Rattle.table.specs.inner.FullIndexShape.{fullIndexShapeOf}
 use Rattle.table.specs.Contracts.{body, compactionWords, PastNeeded, lengths, Compacting}
 use Rattle.table.specs.Laws.Refusals.{inside-full-shape, full-shape-fits, compact-accepted}
-use Rattle.table_compact.specs.inner.Compaction.{Lendable, KeysUpdated, Compaction}
+use Rattle.table_compact.specs.inner.Compaction.{Lendable, KeysUpdated, nextGeneration, Compaction}
 use Rattle.table_compact.specs.inner.ClosingUp.{Movable, Closable, Keepable, RowKept, Closing, blockWord, Block, BlockKept, Closed, liveStored, entriesFor, closedHeader}
 use Rattle.table_compact.specs.Laws.Compaction.{length-live, live-one, live-skip, later-row, close-one, entries-one, rebuild-one, Words, words-begin, words-next, words-number, compaction}
+use Rattle.table_compact.specs.Laws.NoneDead.{none-compaction}
 
 -- ---- a row is kept
 
@@ -405,6 +407,10 @@ module _ (h n : Header) {rows keys live base keys′ : List ℕ} (t : IndexShape
 
 -- ---- the entry point
 
+-- there is a next generation
+pub compact-next : (h : Header) (l : Lengths) (n : ℕ) → n ≡ compactRefusal h l → n ≡ 0 → h .generation ≤ 4294967295 → h .generation < 4294967295
+compact-next h l n e z g = omega (arith, compact-accepted h l (sym e ∙ z) .not-last)
+
 module _ (h : Header) (rows keys sorts live base : List ℕ) where
   -- a refused compaction
   pub compact-refused : (n : ℕ) → n ≡ compactRefusal h (lengths rows keys sorts [] live base) → (n ≡ 0 → ⊥)
@@ -431,8 +437,13 @@ module _ (h : Header) (rows keys sorts live base : List ℕ) where
             live-long = k .words .live-long;
             base-long = k .words .base-long;
           },
-          omega (arith, k .not-last),
+          compact-next h _ n number taken g,
         )
+
+    -- without dead rows
+    pub compact-none : h .dead ≡ 0 → h .generation ≤ 4294967295 → (h′ : Header) → h′ ≡ nextGeneration h
+        → Compaction h rows keys sorts live base h′ rows keys sorts live base
+    compact-none none g h′ e = rw e (none-compaction h rows keys sorts none (compact-next h _ n number taken g) live base)
 
     -- it is done
     pub compact-done : (h′ : Header) (rows′ keys′ sorts′ live′ base′ : List ℕ) → Compaction h rows keys sorts live base h′ rows′ keys′ sorts′ live′ base′

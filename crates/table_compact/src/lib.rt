@@ -1,6 +1,7 @@
 // Compaction: `rehash_impl` of table/mod.rs. One pass moves the live rows down, sets their bits in the compaction words and
 // rebuilds the sort entries. A second pass writes the new row numbers to the key store, slot by slot and without hashing. If the
-// remaining rows need fewer slots, the key store is rebuilt instead.
+// remaining rows need fewer slots, the key store is rebuilt instead. If no row is dead, only the generation rises.
+ghost use mathlib.Core.Path.{_≡_};
 ghost use Prim.Native.Nat.{_<_, _≤_};
 ghost use lib.ListN.{length};
 ghost use Rattle.key_index.specs.Slots.{slots};
@@ -8,7 +9,7 @@ ghost use Rattle.key_index.specs.inner.Index.{Fits};
 ghost use Rattle.key_renumber.specs.inner.Renumbering.{Ranked};
 ghost use Rattle.table.specs.Sound.{indexShapeOf};
 ghost use Rattle.table.specs.Contracts.{body, compactionWords, Compacting};
-ghost use Rattle.table_compact.specs.inner.Compaction.{Lendable, KeysUpdated, Compaction};
+ghost use Rattle.table_compact.specs.inner.Compaction.{Lendable, KeysUpdated, nextGeneration, Compaction};
 ghost use Rattle.table_compact.specs.inner.ClosingUp.{Keepable, RowKept, Block, BlockKept, Closable, Closed};
 use table::Header;
 use table::Lent;
@@ -133,7 +134,17 @@ pub fn compact_rows(
     n
 }
 
-// Compacts, whether or not there are dead rows: `rehash`.
+// The header after a compaction of a table without dead rows.
+fn next_generation(h: Header) -> Header
+    requires { ⌜ h .generation < 4294967295 ⌝ }
+    ensures { λ r. ⌜ r ≡ nextGeneration h ⌝ }
+{
+    let mut next = h;
+    next.generation += 1;
+    next
+}
+
+// Compacts, whether or not there are dead rows: `rehash`. Without dead rows, rows, key store and sort entries remain.
 pub fn compact(
     h: Header,
     rows: &mut [u32],
@@ -155,6 +166,9 @@ pub fn compact(
     let refusal = compact_refusal(h, l);
     if refusal != 0 {
         return TableAnswer::Refused(refusal);
+    }
+    if h.dead == 0 {
+        return TableAnswer::Table(next_generation(h));
     }
     TableAnswer::Table(compact_rows(h, rows, keys, sorts, live, base))
 }

@@ -30,6 +30,23 @@ pub record KeysUpdated (h h′ : Header) (rows′ keys live base keys′ : List 
   pub numbers : indexShapeOf h′ .room ≡ indexShapeOf h .room → keys′ ≡ mapFront (renumbered (indexShapeOf h) live base) (slots (indexShapeOf h)) keys
   pub rebuilt-keys : (indexShapeOf h′ .room ≡ indexShapeOf h .room → ⊥) → Rebuilt (indexShapeOf h′) rows′ keys keys′
 
+-- the header of the next generation
+abbrev pub nextGeneration : Header → Header
+nextGeneration h =
+    record {
+      columns = h .columns;
+      keys = h .keys;
+      sort = h .sort;
+      rule = h .rule;
+      capacity = h .capacity;
+      rows = h .rows;
+      dead = h .dead;
+      entries = h .entries;
+      pending = h .pending;
+      generation = h .generation + 1;
+      largest = h .largest;
+    }
+
 pub record ClosedUp (h : Header) (rows keys sorts : List ℕ) (h′ : Header) (rows′ keys′ sorts′ pending : List ℕ) (p : Plain) : Type 0 where
   pub header : h′ ≡ headerOf (compacted p)
   pub rows-after : rows′ ≡ rowStore (compacted p) [] rows
