@@ -1,49 +1,35 @@
 -- What a query is lent and passes on: a table's header and rows, a subset's head and ids, and conditions; and the output, which is
 -- lent and returned. Their machine values, what owning them is, and the steps by which a manual proof makes what a call requires of
 -- them. Assumes `Given`.
-use Rattle.query_loop.proofs.Prelude.{refl, ℕ, _<_, _^_, List, [], _∷_, length, URA, named, w64, Val, vint, Lft, Share, GName, Fml, fsep, flft, Heap, Atoms, Given, Goal}
-use Rattle.query_loop.proofs.Prelude.{Item, Step, step, ‵, _⊛_, _$_, move, drop, split, join, fsplit, fjoin, u32, Is, uint-makes, RefT, now, sliceVal, ShrSlice, MutSlice, Room}
-use package.mir.Syntax.{Width}
-use package.mir.Val.{Fits}
+use Rattle.query_loop.proofs.Prelude.{refl, ℕ, _<_, _^_, List, [], _∷_, length, URA, named, w64, Val, vint, Lft, Share, GName, Fml, fsep, flft, Heap, Atoms, Given, Goal, Item, Step, step, ‵, _⊛_, _$_, move, drop, split, join, fsplit, fjoin, u32, Is, uint-makes, RefT, now, sliceVal, ShrSlice}
+use Rattle.query_loop.proofs.Prelude.{MutSlice, Room, Width, Fits, Constraint, SubsetHead, subsetOf, Header, Scan, QueryKind, Test}
 use denote.Plain.{UInt, uint-lawful, uint-tells}
 use denote.Enum.Laws as EL
 use denote.Struct.Laws as LL
-use Rattle.constraints.specs.declared.Constraint.{Constraint}
 use Rattle.constraints.proofs.Constraint as CT
-use Rattle.offsets.specs.declared.SubsetHead.{SubsetHead}
-use Rattle.offsets.specs.Answers.{subsetOf}
 use Rattle.offsets.specs.Subsets.{Subset}
 use Rattle.offsets.proofs.SubsetHead as DT
-use Rattle.offsets.proofs.SubsetHead.Laws as DT′
-use Rattle.table.specs.declared.Header.{Header}
 use Rattle.table.proofs.Header as HT
-use Rattle.table.proofs.Header.Laws as HT′
-use Rattle.query_scan.specs.declared.Scan.{Scan}
-use Rattle.query_scan.specs.declared.QueryKind.{QueryKind}
 use Rattle.query_scan.proofs.Scan as ST
-use Rattle.query_scan.proofs.Scan.Laws as ST′
-use Rattle.query_scan.specs.declared.Test.{Test}
 use Rattle.query_scan.proofs.QueryKind as QT
-use Rattle.query_scan.proofs.QueryKind.Laws as QT′
 use Rattle.query_scan.proofs.Test as TT
-use Rattle.query_scan.proofs.Test.Laws as TT′
 use Rattle.query_loop.proofs.Walking.{Value, enum-value, own, struct-value, twice}
 
 -- the types of plain values that are passed
 abbrev pub headers : Value
-headers = struct-value HT.the-type HT′.the-laws HT′.the-plain (λ x f. refl)
+headers = struct-value HT.the-type HT.Laws.the-laws HT.Laws.the-plain (λ x f. refl)
 
 abbrev pub heads : Value
-heads = struct-value DT.the-type DT′.the-laws DT′.the-plain (λ x f. refl)
+heads = struct-value DT.the-type DT.Laws.the-laws DT.Laws.the-plain (λ x f. refl)
 
 abbrev pub scans : Value
-scans = struct-value ST.the-type ST′.the-laws ST′.the-plain (λ x f. refl)
+scans = struct-value ST.the-type ST.Laws.the-laws ST.Laws.the-plain (λ x f. refl)
 
 abbrev pub query-kinds : Value
-query-kinds = enum-value QT.the-type QT′.the-laws QT′.the-plain tt (λ x f. refl)
+query-kinds = enum-value QT.the-type QT.Laws.the-laws QT.Laws.the-plain tt (λ x f. refl)
 
 abbrev pub tests : Value
-tests = enum-value TT.the-type TT′.the-laws TT′.the-plain tt (λ x f. refl)
+tests = enum-value TT.the-type TT.Laws.the-laws TT.Laws.the-plain tt (λ x f. refl)
 
 abbrev pub numbers : Width → Value
 numbers w = record { row = UInt w; val = vint w; tells = uint-tells w; silent = λ x f. refl; makes = λ 𝓤 H A W. uint-makes 𝓤 H A W w; lawful = λ 𝓤 H A W. uint-lawful 𝓤 H A W w }
@@ -69,19 +55,19 @@ abbrev pub slice-val : {X : Type 0} → RefT (List X) → Val
 slice-val x = sliceVal (x .ptr) (length (x .now))
 
 abbrev pub query-val : QueryKind → Val
-query-val query = EL.val QT.the-type QT′.the-laws query
+query-val query = EL.val QT.the-type QT.Laws.the-laws query
 
 abbrev pub scan-val : Scan → Val
-scan-val s = ST′.lowered s
+scan-val s = ST.Laws.lowered s
 
 abbrev pub header-val : Header → Val
-header-val h = LL.val HT.the-type HT′.the-laws h
+header-val h = LL.val HT.the-type HT.Laws.the-laws h
 
 abbrev pub head-val : SubsetHead → Val
-head-val head = DT′.lowered head
+head-val head = DT.Laws.lowered head
 
 abbrev pub test-val : Test → Val
-test-val test = EL.val TT.the-type TT′.the-laws test
+test-val test = EL.val TT.the-type TT.Laws.the-laws test
 
 module _ (p : Lent) where
   abbrev pub subset : Subset

@@ -1,26 +1,12 @@
 -- Conditions met one after another from the front, and the orders by which the loops with manual proofs end. Assumes nothing.
-use Prim.Native.Nat.{ℕ, zero, suc, _+_, _-_, _<_}
-use mathlib.Core.Path.{_≡_, refl, sym, ap, _∙_}
+use Rattle.query_loop.proofs.Prelude.{ℕ, zero, suc, _+_, _-_, _<_, _≡_, refl, sym, ap, _∙_, Bool, true, false, _&&_, false≢true, List, [], _∷_, add-one, ltb, length, getD, take, take-all, take-suc, ltb-false, and-left, and-right, Constraint, Header, Scan, Known, Row, matches, starts, passes, allPass}
 use mathlib.Core.Logic.{inl, inr}
-use mathlib.Core.Bool.{Bool, true, false, _&&_, false≢true}
-use mathlib.Core.List.{List, [], _∷_}
 use mathlib.Core.WellFounded.{WellFounded, InvImage·wf}
-use native.Mathlib.Numerals.{add-one}
-use lib.Dec.{ltb}
-use lib.ListN.{length, getD, take}
-use lib.Seq.{take-all, take-suc}
 use lib.WfN.{Nat·lt-wfRel}
-use borrow.Author.Tests.{ltb-false}
 use Rattle.lists.specs.Lists.{all}
-use Rattle.lists.specs.Laws.Filter.{split, and-left, and-right}
+use Rattle.lists.specs.Laws.Filter.{split}
 use Rattle.lists.specs.Laws.All.{all-more, all-head, all-tail, all-cons}
-use Rattle.constraints.specs.declared.Constraint.{Constraint}
 use Rattle.constraints.specs.Constraints.{known, meets}
-use Rattle.table.specs.declared.Header.{Header}
-use Rattle.query_scan.specs.declared.Scan.{Scan}
-use Rattle.query_scan.specs.declared.Test.the-variants.{Known, Row}
-use Rattle.query_spec.specs.Queries.{matches}
-use Rattle.query_scan.specs.inner.Scanning.{starts, passes, allPass}
 
 -- what is read past the end of a list of conditions
 abbrev pub none : Constraint

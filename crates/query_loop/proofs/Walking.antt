@@ -15,22 +15,15 @@
 -- Assumes `Given`.
 use Rattle.query_loop.proofs.Prelude.{_≡_, refl, ap, subst, _∙_, ℕ, Bool, List, [], _∷_, URA, fullShare, Body, Place, Ty, Operand, call, seq, Val, vbool, SProp, ent, id⊢, Lft, Share, ftrue, flft, fat, froom, fdies, Heap, Calls, Env, Loops, WpFn, Atoms, Fun, givenOf, tables, tablesOf, Given, Goal}
 use Rattle.query_loop.proofs.Prelude.{Item, Post, Seq, Step, lands, regoal, runs, settles, step, ‵, raw, _⊛_, some, later, _$_, move, use1, split, pick, await, Opds, look, stop, from, load, and-then, FmC, bool, yes, Is, shows, RattleType, RefT, plain, ShrSlice, facts, owned, only, Clauses, onEntry}
-use Prim.Native.Nat.{zero, suc}
-use mir.Syntax.{Fn, Lifetime, Local, local, place, copy}
-use base.Logic.{sep}
+use Rattle.query_loop.proofs.Prelude.{zero, suc, Fn, Lifetime, Local, local, place, copy, sep, Closed, spotOf, Soaks, mean, nth, recast, flat, Slot, AllWithin, meetAt, mutSliceOf, nameOf, shrSliceOf, typeAt, typesAt, slice-vals, shr-slice-copy, shr-slice-tells, mut-slice-tells}
 use prog.Model.{Model}
 use prog.Routine.{Name, Env as Names}
-use prog.Wp.{Closed, spotOf}
 use contract.Lifetimes.{Lfts, Shares, AllOutlive, toks}
 use contract.Monad.{fact}
 use contract.Running.{GhostRules, Running}
 use sound.WpLaws.{WpFn-mono}
-use types.Kit.{Soaks, mean, nth, recast}
 use denote.Exit.{Kept, Last, left}
-use denote.RattleType.{flat}
 use denote.Laws.{Are, Ises, Lawful, Makes, Spells, Tells, Tellss, Typed, valss}
-use denote.Signature.{Slot, AllWithin, meetAt, mutSliceOf, nameOf, shrSliceOf, typeAt, typesAt}
-use denote.Slice.{slice-vals, shr-slice-copy, shr-slice-tells, mut-slice-tells}
 use denote.Steps.{heard}
 use denote.Struct.Declared as SD
 use denote.Struct.Laws as LL

@@ -1,46 +1,22 @@
 -- `query_loop::all_pass` meets its contract: a manual proof over its MIR. The loop's state at i: `ok` is whether the first i conditions
 -- pass. Each iteration copies one record out of the slice and passes it to `passes_test`, of which the proof knows only its
 -- contract. Assumes nothing.
-use Rattle.query_loop.proofs.Prelude.{_≡_, refl, sym, _∙_, ℕ, _<_, _^_, Bool, true, false, List, [], _∷_, ltb, lit<, length, URA, fullShare, named, tyBool, w64, Val, vbool, vint, SProp, ent, id⊢, Lft, Share, GName, Fml, ftrue, fsep, flft, fat, Memory, Routine, Heap, Env, Tables, Wp, WpFn, afterBlock, afterSeq}
-use Rattle.query_loop.proofs.Prelude.{atReturn, afterTurn, Atoms, Fun, givenOf, tables, tablesOf, Given, Item, Sq, anyQ, atRet, runs, ‵, raw, ⋆, _$_, _∵_, !, qed, move, drop, group, use1, split, join, rewrite, fsplit, fjoin, suffices, frame, done, whole, sub, look-in, Below, look, store, init, forget, stop, hop, fld, from}
-use Rattle.query_loop.proofs.Prelude.{load, lit, of-opd, bin, no-more, assigns, land, again, blocks, exec, first, leaves-loop, loops, goes-on, returns, enter, alloc1, alloc0, params1, pass1, pass0, free1, free0, fmOf, u32, bool, Is, shows, bool-makes, RefT, now, sliceVal, ShrSlice, Room, owned, nothing, Clauses, onEntry, cited, says, needs, ends-at}
-use Prim.Native.Nat.{_+_, _*_}
-use native.Mathlib.Numerals.{add-one-dec}
-use native.Mathlib.Omega.{arith}
-use mathlib.Core.Bool.{_&&_}
-use lib.ListN.{getD}
-use package.mir.Syntax.{tyPtr}
-use package.mir.Val.{vptr}
+use Rattle.query_loop.proofs.Prelude.{_≡_, refl, sym, _∙_, ℕ, _<_, _^_, Bool, true, false, List, [], _∷_, ltb, lit<, length, URA, fullShare, named, tyBool, w64, Val, vbool, vint, SProp, ent, id⊢, Lft, Share, GName, Fml, ftrue, fsep, flft, fat, Memory, Routine, Heap, Env, Tables, Wp, WpFn, afterBlock}
+use Rattle.query_loop.proofs.Prelude.{afterSeq, atReturn, afterTurn, Atoms, Fun, givenOf, tables, tablesOf, Given, Item, Sq, anyQ, atRet, runs, ‵, raw, ⋆, _$_, _∵_, !, qed, move, drop, group, use1, split, join, rewrite, fsplit, fjoin, suffices, frame, done, whole, sub, look-in, Below, look, store}
+use Rattle.query_loop.proofs.Prelude.{init, forget, stop, hop, fld, from, load, lit, of-opd, bin, no-more, assigns, land, again, blocks, exec, first, leaves-loop, loops, goes-on, returns, enter, alloc1, alloc0, params1, pass1, pass0, free1, free0, fmOf, u32, bool, Is, shows, bool-makes, RefT, now}
+use Rattle.query_loop.proofs.Prelude.{sliceVal, ShrSlice, Room, owned, nothing, Clauses, onEntry, cited, says, needs, ends-at, _+_, _*_, add-one-dec, arith, _&&_, getD, tyPtr, vptr, look-raw, assigns-last, ltb-true, place-is, elem-out, elem-back, looks-slice, shuts-slice, and-left, and-right}
+use Rattle.query_loop.proofs.Prelude.{Constraint, Header, Test, RowNeeded, starts, passes, allPass}
 use types.Kit as Kit
-use types.Run.{look-raw, assigns-last}
-use borrow.Author.Tests.{ltb-true}
-use denote.Index.{place-is, elem-out, elem-back, looks-slice, shuts-slice}
 use denote.Struct.Laws as LL
-use Rattle.lists.specs.Laws.Filter.{and-left, and-right}
-use Rattle.constraints.specs.declared.Constraint.{Constraint}
 use Rattle.constraints.proofs.Constraint as CT
-use Rattle.constraints.proofs.Constraint.Laws as CT′
-use Rattle.table.specs.declared.Header.{Header}
 use Rattle.table.proofs.Header as HT
-use Rattle.query_scan.specs.declared.Test.{Test}
-use Rattle.query_scan.specs.inner.Scanning.{RowNeeded, starts, passes, allPass}
 use Rattle.query_scan.proofs.Test as TT
 use Rattle.query_loop.proofs.Lent.{fits, header-val, headers, slice-val, test-val, tests}
 use Rattle.query_loop.proofs.LoopSteps.{none, passed, passed-none, passed-next, passed-all, Up, up-wf}
 use Rattle.query_loop.proofs.Walking.{AllPassed, Callee, Cell, Cells, Cites, Tokens, Walked, arg, bool-lands, by-value, calls, empty, env-of, holds, lent-slice, own, stays, twice, typed, walk-runs}
 use Rattle.query_scan.proofs.can_pass as can
-use Rattle.query_scan.proofs.can_pass.Symbol as can-def
-use Rattle.query_scan.proofs.can_pass.Symbol.{name as #query-scan·can-pass}
-use Rattle.query_scan.proofs.can_pass.Met as can-thm
 use Rattle.query_scan.proofs.passes_test as too
-use Rattle.query_scan.proofs.passes_test.Symbol as too-def
-use Rattle.query_scan.proofs.passes_test.Symbol.{name as #query-scan·passes-test}
-use Rattle.query_scan.proofs.passes_test.Met as too-thm
-use Rattle.query_loop.proofs.all_pass.Key.{name as #query-loop·all-pass}
 use Rattle.query_loop.proofs.all_pass as f
-use Rattle.query_loop.proofs.all_pass.Statement as stated
-use Rattle.query_loop.proofs.all_pass.Code as code
-use Rattle.query_loop.proofs.all_pass.Code.Mir as mir
 
 abbrev params : AllPassed (f.ended .signature .params) (f.ended .kept)
 params = (by-value tests, (by-value headers, (lent-slice u32 0 tt, (lent-slice CT.the-row 1 tt, tt))))
@@ -92,20 +68,20 @@ module _ {M : Type 1} (𝓤 : URA M) (H : Heap 𝓤) (A : Atoms 𝓤) (W : Given
   to-can = (((κ, tt), (q, tt), tt, (test, (h, (x, tt))), (test-val test ∷ [], (header-val h ∷ [], (slice-val x ∷ [], tt)))), tt)
 
   abbrev to : ℕ → Callee 𝓤 H A too.ended testing .Ghost
-  to i = (((κ, tt), (q, tt), tt, (test, (h, (x, (c i, tt)))), (test-val test ∷ [], (header-val h ∷ [], (slice-val x ∷ [], (LL.vals CT.the-type CT′.the-laws (c i), tt))))), tt)
+  to i = (((κ, tt), (q, tt), tt, (test, (h, (x, (c i, tt)))), (test-val test ∷ [], (header-val h ∷ [], (slice-val x ∷ [], (LL.vals CT.the-type CT.Laws.the-laws (c i), tt))))), tt)
 
   module _ (is-t : Is TT.the-row test (test-val test ∷ [])) (is-h : Is HT.the-row h (header-val h ∷ [])) (need : RowNeeded test h (length (now x))) where
     pre-can : ent 𝓤 (⋆ 𝓤 H A (‵ (flft κ q) ∷ ‵ OwnRows ∷ [])) (Callee 𝓤 H A can.ended starting .pre to-can)
     pre-can = qed W (‵ (flft κ q) ∷ ‵ OwnRows ∷ []) ∵ says ! need $ nothing ! $ move ! (2 ∷ 0 ∷ []) $ fjoin ! $ own ! headers h is-h $ fjoin ! $ own ! tests test is-t $ fjoin ! $ nothing ! $ move ! (2 ∷ 0 ∷ []) $ join ! $ join ! $ done !
 
-    pre-test : (i : ℕ) → Is CT.the-row (c i) (LL.vals CT.the-type CT′.the-laws (c i)) → ent 𝓤 (⋆ 𝓤 H A (‵ (flft κ q) ∷ ‵ OwnRows ∷ [])) (Callee 𝓤 H A too.ended testing .pre (to i))
+    pre-test : (i : ℕ) → Is CT.the-row (c i) (LL.vals CT.the-type CT.Laws.the-laws (c i)) → ent 𝓤 (⋆ 𝓤 H A (‵ (flft κ q) ∷ ‵ OwnRows ∷ [])) (Callee 𝓤 H A too.ended testing .pre (to i))
     pre-test i g =
-        qed W (‵ (flft κ q) ∷ ‵ OwnRows ∷ []) ∵ says ! need $ nothing ! $ owned ! CT.the-row (Is CT.the-row) (LL.makes CT.the-type CT′.the-plain 𝓤 H A) (c i) _ g $ fjoin ! $
+        qed W (‵ (flft κ q) ∷ ‵ OwnRows ∷ []) ∵ says ! need $ nothing ! $ owned ! CT.the-row (Is CT.the-row) (LL.makes CT.the-type CT.Laws.the-plain 𝓤 H A) (c i) _ g $ fjoin ! $
         move ! (2 ∷ 0 ∷ []) $ fjoin ! $ own ! headers h is-h $ fjoin ! $ own ! tests test is-t $ fjoin ! $ nothing ! $ move ! (2 ∷ 0 ∷ []) $ join ! $ join ! $ done !
 
-    module _ (𝓣 : Tables 𝓤 H) (known-can : Cites 𝓤 H A can.ended starting (𝓣 .C) #query-scan·can-pass) (known : Cites 𝓤 H A too.ended testing (𝓣 .C) #query-scan·passes-test) (room : Room CT.the-row n) (l₀ l₁ l₂ l₃ l₄ l₅ l₆ l₇ l₈ l₉ l₁₀ l₁₁ : ℕ) where
+    module _ (𝓣 : Tables 𝓤 H) (known-can : Cites 𝓤 H A can.ended starting (𝓣 .C) can.Symbol.name) (known : Cites 𝓤 H A too.ended testing (𝓣 .C) too.Symbol.name) (room : Room CT.the-row n) (l₀ l₁ l₂ l₃ l₄ l₅ l₆ l₇ l₈ l₉ l₁₀ l₁₁ : ℕ) where
       abbrev E : Env 𝓤 H
-      E = env-of mir.locals (l₀ ∷ l₁ ∷ l₂ ∷ l₃ ∷ l₄ ∷ l₅ ∷ l₆ ∷ l₇ ∷ l₈ ∷ l₉ ∷ l₁₀ ∷ l₁₁ ∷ [])
+      E = env-of f.Code.Mir.locals (l₀ ∷ l₁ ∷ l₂ ∷ l₃ ∷ l₄ ∷ l₅ ∷ l₆ ∷ l₇ ∷ l₈ ∷ l₉ ∷ l₁₀ ∷ l₁₁ ∷ [])
 
       -- the tokens, what the slices own, and the locals, with what is in _5 and _6
       abbrev Around : Cell → Cell → List (Item 𝓤)
@@ -117,9 +93,9 @@ module _ {M : Type 1} (𝓤 : URA M) (H : Heap 𝓤) (A : Atoms 𝓤) (W : Given
 
       -- what is to hold where a turn ends
       abbrev Turned : ℕ → Kit.Post 𝓤 H
-      Turned i = anyQ (afterTurn 𝓤 H (Below 𝓤 H A (Up n) I i) (afterBlock 𝓤 H (afterSeq 𝓤 H (Wp 𝓤 H (𝓣 .C) (𝓣 .Λ) E mir.t-4 (atReturn 𝓤 H E Post)) (atReturn 𝓤 H E Post))))
+      Turned i = anyQ (afterTurn 𝓤 H (Below 𝓤 H A (Up n) I i) (afterBlock 𝓤 H (afterSeq 𝓤 H (Wp 𝓤 H (𝓣 .C) (𝓣 .Λ) E f.Code.Mir.t-4 (atReturn 𝓤 H E Post)) (atReturn 𝓤 H E Post))))
 
-      more : (i : ℕ) → (ok i && ltb i n) ≡ true → i < n → Sq W (I i) (runs (𝓣 .C) (𝓣 .Λ) E mir.turn-1 (Turned i))
+      more : (i : ℕ) → (ok i && ltb i n) ≡ true → i < n → Sq W (I i) (runs (𝓣 .C) (𝓣 .Λ) E f.Code.Mir.turn-1 (Turned i))
       unfolding afterTurn
       more i go l =
           assigns ! (of-opd ! (load ! (from ! (fld ! refl (stop !))) (look-in ! 18 (sub ! 1 refl (whole !))))) (from ! (stop !)) (init ! 12 refl (tt, record { fits = room .0 })) $
@@ -131,11 +107,11 @@ module _ {M : Type 1} (𝓤 : URA M) (H : Heap 𝓤) (A : Atoms 𝓤) (W : Given
           rewrite ! 6 (λ (p : ℕ). ‵ (fat fullShare tyPtr l₁₀ 0 (vptr b p))) (sym (place-is 12 o i)) refl $
           -- a copy of what the conditions own is looked into, and the record at i is read
           move ! (3 ∷ []) $ twice ! (named 1) κ′ CT.the-row conditions $ fsplit ! $ drop ! $ fsplit ! $ drop ! $ move ! (0 ∷ 3 ∷ []) $
-          looks-slice ! tt CT.the-row (Is CT.the-row) (shows 𝓤 H A CT.the-row) (LL.vals CT.the-type CT′.the-laws) (LL.tells CT.the-type CT′.the-laws) (LL.copy CT.the-type CT′.the-copy 𝓤 H A W) cs b o (λ q₁.
-          elem-out ! CT.the-row (Is CT.the-row) (shows 𝓤 H A CT.the-row) (LL.vals CT.the-type CT′.the-laws) (LL.tells CT.the-type CT′.the-laws) q₁ cs i none b o l (λ g.
+          looks-slice ! tt CT.the-row (Is CT.the-row) (shows 𝓤 H A CT.the-row) (LL.vals CT.the-type CT.Laws.the-laws) (LL.tells CT.the-type CT.Laws.the-laws) (LL.copy CT.the-type CT.Laws.the-copy 𝓤 H A W) cs b o (λ q₁.
+          elem-out ! CT.the-row (Is CT.the-row) (shows 𝓤 H A CT.the-row) (LL.vals CT.the-type CT.Laws.the-laws) (LL.tells CT.the-type CT.Laws.the-laws) q₁ cs i none b o l (λ g.
           -- [the record; what it owns; the others; what shuts; the fractured borrow; what the conditions own; κ's token; what rows owns; _11; …]
-          assigns ! (of-opd ! (load ! (from ! (hop ! (look ! 10 refl) (stop !))) (look-raw ! 0 refl))) (from ! (stop !)) (init ! 8 refl (LL.lawful CT.the-type CT′.the-laws 𝓤 H A W .typed (c i) _ g .0)) $
-          elem-back ! CT.the-row q₁ cs i none (LL.vals CT.the-type CT′.the-laws (c i)) b o l $ shuts-slice ! tt CT.the-row q₁ cs b o $ move ! (1 ∷ []) $ drop ! $
+          assigns ! (of-opd ! (load ! (from ! (hop ! (look ! 10 refl) (stop !))) (look-raw ! 0 refl))) (from ! (stop !)) (init ! 8 refl (LL.lawful CT.the-type CT.Laws.the-laws 𝓤 H A W .typed (c i) _ g .0)) $
+          elem-back ! CT.the-row q₁ cs i none (LL.vals CT.the-type CT.Laws.the-laws (c i)) b o l $ shuts-slice ! tt CT.the-row q₁ cs b o $ move ! (1 ∷ []) $ drop ! $
           -- [κ′'s token; what the conditions own; κ's token; what rows owns; _11; …]
           move ! (3 ∷ []) $ twice ! (named 0) κ u32 x $ move ! (4 ∷ 0 ∷ []) $ group ! 2 $ use1 W (raw (Callee 𝓤 H A too.ended testing .pre (to i))) (pre-test i g) $
           calls too.ended testing (to i) (λ r ws. r ≡ pass (c i)) (λ r ws. id⊢ 𝓤 _) ! (fmOf 𝓤 H (W .laws) 𝓣) known (arg ! 24 refl (arg ! 22 refl (arg ! 20 refl (arg ! 4 refl (no-more !))))) (λ w r ws e.
@@ -149,51 +125,51 @@ module _ {M : Type 1} (𝓤 : URA M) (H : Heap 𝓤) (A : Atoms 𝓤) (W : Given
           next : i + 1 < 2 ^ 64
           next = omega (arith, l, room .0)
 
-      ends : (i : ℕ) → (ok i && ltb i n) ≡ false → Sq W (I i) (runs (𝓣 .C) (𝓣 .Λ) E mir.turn-1 (Turned i))
+      ends : (i : ℕ) → (ok i && ltb i n) ≡ false → Sq W (I i) (runs (𝓣 .C) (𝓣 .Λ) E f.Code.Mir.turn-1 (Turned i))
       unfolding afterTurn allPass
       ends i stop-is =
           assigns ! (of-opd ! (load ! (from ! (fld ! refl (stop !))) (look-in ! 18 (sub ! 1 refl (whole !))))) (from ! (stop !)) (init ! 12 refl (tt, record { fits = room .0 })) $
           assigns ! (bin ! (load ! (from ! (stop !)) (look ! 14 refl)) (load ! (from ! (stop !)) (look ! 12 refl)) tt) (from ! (stop !)) (init ! 10 refl (tt, tt)) $
           assigns ! (bin ! (load ! (from ! (stop !)) (look ! 16 refl)) (load ! (from ! (stop !)) (look ! 10 refl)) tt) (from ! (stop !)) (init ! 8 refl (tt, tt)) $
-          rewrite ! 8 (λ (t : Bool). ‵ (fat fullShare tyBool l₉ 0 (vbool t))) stop-is refl $ leaves-loop ! (load ! (from ! (stop !)) (look ! 8 refl)) $ exec ! (𝓣 .C) (𝓣 .Λ) E mir.t-4 (atRet E Post) $
+          rewrite ! 8 (λ (t : Bool). ‵ (fat fullShare tyBool l₉ 0 (vbool t))) stop-is refl $ leaves-loop ! (load ! (from ! (stop !)) (look ! 8 refl)) $ exec ! (𝓣 .C) (𝓣 .Λ) E f.Code.Mir.t-4 (atRet E Post) $
           assigns ! (of-opd ! (load ! (from ! (stop !)) (look ! 16 refl))) (from ! (stop !)) (init ! 26 refl (tt, tt)) $ returns ! (look ! 26 refl) $ forget ! 8 refl $ forget ! 10 refl $ forget ! 12 refl $ forget ! 14 refl $ forget ! 16 refl $ forget ! 18 refl $ forget ! 20 refl $ forget ! 22 refl $ forget ! 24 refl $ forget ! 26 refl $
           move ! (26 ∷ 27 ∷ []) $ free1 ! $ move ! (24 ∷ 25 ∷ []) $ free1 ! $ move ! (22 ∷ 23 ∷ []) $ free1 ! $ move ! (20 ∷ 21 ∷ []) $ free1 ! $ move ! (18 ∷ 19 ∷ []) $ free1 ! $ move ! (16 ∷ 17 ∷ []) $ free1 ! $ move ! (14 ∷ 15 ∷ []) $ free1 ! $ move ! (12 ∷ 13 ∷ []) $ free1 ! $ move ! (10 ∷ 11 ∷ []) $ free1 ! $ move ! (8 ∷ 9 ∷ []) $ free1 ! $ move ! (6 ∷ 7 ∷ []) $ free1 ! $ move ! (4 ∷ 5 ∷ []) $ free1 ! $ free0 ! $
           suffices ! _ (ends-at 𝓤 H A f.ended (stays (f.ended .signature .params) (f.ended .kept) params) clauses W y (vbool (ok i)) (ok i) (tt, (tt, (tt, (tt, tt)))) (tt, (tt, (tt, (tt, tt))))) $ says ! (passed-all start pass cs i stop-is) $
           nothing ! $ move ! (2 ∷ 0 ∷ []) $ join ! $ move ! (1 ∷ 0 ∷ []) $ join ! $ frame ! $ nothing ! $ move ! (2 ∷ 0 ∷ []) $ fjoin ! $ move ! (1 ∷ 0 ∷ []) $ fjoin ! $ own ! headers h is-h $ fjoin ! $ own ! tests test is-t $ fjoin ! $ frame ! $
           owned ! bool (Is bool) (bool-makes 𝓤 H A W) (ok i) _ refl $ done !
 
-      turn : (i : ℕ) (t : Bool) → (ok i && ltb i n) ≡ t → Sq W (I i) (runs (𝓣 .C) (𝓣 .Λ) E mir.turn-1 (Turned i))
+      turn : (i : ℕ) (t : Bool) → (ok i && ltb i n) ≡ t → Sq W (I i) (runs (𝓣 .C) (𝓣 .Λ) E f.Code.Mir.turn-1 (Turned i))
       turn i true e = more i e (ltb-true i n (and-right (ok i) (ltb i n) e))
       turn i false e = ends i e
 
       -- the test before any condition has returned: the loop
-      loop : Sq W (Around (holds (vbool start)) empty) (runs (𝓣 .C) (𝓣 .Λ) E mir.t-2 (atRet E Post))
+      loop : Sq W (Around (holds (vbool start)) empty) (runs (𝓣 .C) (𝓣 .Λ) E f.Code.Mir.t-2 (atRet E Post))
       loop =
           assigns ! (of-opd ! (lit ! tt)) (from ! (stop !)) (init ! 14 refl (tt, record { fits = lit< tt })) $ rewrite ! 16 (λ (t : Bool). ‵ (fat fullShare tyBool l₅ 0 (vbool t))) (passed-none start pass cs) refl $
           first ! $ blocks ! $ loops ! 𝓣 (Up n) (up-wf n) I (λ i. turn i (ok i && ltb i n) refl) 0
 
       -- the body: `can_pass`
-      begins : Sq W (Around empty empty) (runs (𝓣 .C) (𝓣 .Λ) E mir.t-1 (atRet E Post))
+      begins : Sq W (Around empty empty) (runs (𝓣 .C) (𝓣 .Λ) E f.Code.Mir.t-1 (atRet E Post))
       begins =
           move ! (2 ∷ []) $ twice ! (named 0) κ u32 x $ move ! (2 ∷ 0 ∷ []) $ group ! 2 $ use1 W (raw (Callee 𝓤 H A can.ended starting .pre to-can)) pre-can $
           calls can.ended starting to-can (λ r ws. r ≡ start) (λ r ws. id⊢ 𝓤 _) ! (fmOf 𝓤 H (W .laws) 𝓣) known-can (arg ! 24 refl (arg ! 22 refl (arg ! 20 refl (no-more !)))) (λ w r ws e.
           move ! (2 ∷ []) $ drop ! $ move ! (1 ∷ []) $ bool-lands ! r w e $ split ! $ move ! (1 ∷ []) $ drop ! $ move ! (0 ∷ 2 ∷ []) $ land ! (from ! (stop !)) (init ! 16 refl (tt, tt)) $ loop)
 
-    walk : (𝓣 : Tables 𝓤 H) → Cites 𝓤 H A can.ended starting (𝓣 .C) #query-scan·can-pass → Cites 𝓤 H A too.ended testing (𝓣 .C) #query-scan·passes-test → Room u32 (length (now x)) → Room CT.the-row n
-        → ent 𝓤 (onEntry 𝓤 H A f.signature (y .0 .0) (y .0 .1) (y .0 .3) (y .0 .4)) (WpFn 𝓤 H (𝓣 .C) (𝓣 .Λ) code.function (Walked f.ended params 𝓤 H A clauses .args y) Post)
+    walk : (𝓣 : Tables 𝓤 H) → Cites 𝓤 H A can.ended starting (𝓣 .C) can.Symbol.name → Cites 𝓤 H A too.ended testing (𝓣 .C) too.Symbol.name → Room u32 (length (now x)) → Room CT.the-row n
+        → ent 𝓤 (onEntry 𝓤 H A f.signature (y .0 .0) (y .0 .1) (y .0 .3) (y .0 .4)) (WpFn 𝓤 H (𝓣 .C) (𝓣 .Λ) f.Code.function (Walked f.ended params 𝓤 H A clauses .args y) Post)
     walk 𝓣 known-can known room-rows room =
         qed W (Tokens 𝓤 H A 2 (y .0 .0) (y .0 .1) ∷ ‵ (fsep (TT.the-row .own test (test-val test ∷ [])) (fsep (HT.the-row .own h (header-val h ∷ [])) (fsep OwnRows (fsep OwnConditions ftrue)))) ∷ []) ∵
         split ! $ move ! (1 ∷ []) $ split ! $ move ! (1 ∷ []) $ drop ! $ move ! (2 ∷ []) $ fsplit ! $ drop ! $ fsplit ! $ drop ! $ fsplit ! $ move ! (1 ∷ []) $ fsplit ! $ move ! (1 ∷ []) $ drop ! $ move ! (3 ∷ 2 ∷ 1 ∷ 0 ∷ []) $
-        enter ! (𝓣 .C) (𝓣 .Λ) code.function (Walked f.ended params 𝓤 H A clauses .args y) _ $
+        enter ! (𝓣 .C) (𝓣 .Λ) f.Code.function (Walked f.ended params 𝓤 H A clauses .args y) _ $
         alloc1 ! (λ l₀. alloc1 ! (λ l₁. alloc1 ! (λ l₂. alloc1 ! (λ l₃. alloc1 ! (λ l₄. alloc1 ! (λ l₅. alloc1 ! (λ l₆. alloc1 ! (λ l₇. alloc1 ! (λ l₈. alloc1 ! (λ l₉. alloc1 ! (λ l₁₀. alloc1 ! (λ l₁₁. alloc0 ! $ params1 ! $
         pass1 ! (init ! 20 refl (typed W tests test is-t .0)) $ pass1 ! (init ! 18 refl (typed W headers h is-h .0)) $ pass1 ! (init ! 16 refl (fits (room-rows .0))) $ pass1 ! (init ! 14 refl (fits (room .0))) $ pass0 ! $
         move ! (24 ∷ 25 ∷ 26 ∷ 27 ∷ []) $ begins 𝓣 known-can known room l₀ l₁ l₂ l₃ l₄ l₅ l₆ l₇ l₈ l₉ l₁₀ l₁₁))))))))))))
 
-pub all-pass-spec : {M : Type 1} → stated.statement M
-unfolding code.routine tablesOf
+pub all-pass-spec : {M : Type 1} → f.Statement.statement M
+unfolding f.Code.routine tablesOf
 all-pass-spec 𝓤 H 𝓜 𝓖 𝓡 =
-    walk-runs f.ended params 𝓤 H 𝓜 𝓖 𝓡 (f.clauses 𝓤 H (𝓖 .A) (𝓜 .mem) (𝓡 .run)) code.env #query-loop·all-pass code.function (code.unfolded 𝓤 H 𝓜 𝓡) (λ κs qs bounds a g are. needs 𝓤 (RowNeeded (a .0) (a .1 .0) (length (now (a .1 .1 .0)))) _ (λ need.
+    walk-runs f.ended params 𝓤 H 𝓜 𝓖 𝓡 (f.clauses 𝓤 H (𝓖 .A) (𝓜 .mem) (𝓡 .run)) f.Code.env f.Key.name f.Code.function (f.Code.unfolded 𝓤 H 𝓜 𝓡) (λ κs qs bounds a g are. needs 𝓤 (RowNeeded (a .0) (a .1 .0) (length (now (a .1 .1 .0)))) _ (λ need.
     walk 𝓤 H (𝓖 .A) (givenOf 𝓤 H 𝓜 𝓖) (𝓜 .mem) (𝓡 .run) (κs .0) (κs .1 .0) (qs .0) (qs .1 .0) (a .0) (a .1 .0) (a .1 .1 .0) (a .1 .1 .1 .0 .ptr .0) (a .1 .1 .1 .0 .ptr .1) (a .1 .1 .1 .0 .name) (a .1 .1 .1 .0 .now)
-    (are .0) (are .1 .0) need (tablesOf 𝓤 H 𝓜 (tables 𝓤 H 𝓜 𝓡 code.env))
-    (cited 𝓤 H _ 𝓜 𝓡 code.env #query-scan·can-pass can-def.routine code.calls-query-scan·can-pass (can-thm.met 𝓤 H 𝓜 𝓖 𝓡))
-    (cited 𝓤 H _ 𝓜 𝓡 code.env #query-scan·passes-test too-def.routine code.calls-query-scan·passes-test (too-thm.met 𝓤 H 𝓜 𝓖 𝓡)) (are .1 .1 .0 .0 .1) (are .1 .1 .1 .0 .0 .1)))
+    (are .0) (are .1 .0) need (tablesOf 𝓤 H 𝓜 (tables 𝓤 H 𝓜 𝓡 f.Code.env))
+    (cited 𝓤 H _ 𝓜 𝓡 f.Code.env can.Symbol.name can.Symbol.routine f.Code.calls-query-scan·can-pass (can.Met.met 𝓤 H 𝓜 𝓖 𝓡))
+    (cited 𝓤 H _ 𝓜 𝓡 f.Code.env too.Symbol.name too.Symbol.routine f.Code.calls-query-scan·passes-test (too.Met.met 𝓤 H 𝓜 𝓖 𝓡)) (are .1 .1 .0 .0 .1) (are .1 .1 .1 .0 .0 .1)))

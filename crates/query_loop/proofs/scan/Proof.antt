@@ -1,49 +1,26 @@
 -- `query_loop::scan` meets its contract: a manual proof over its MIR, cut at each call. The list of conditions is passed on whole. The
 -- loop's state is the scan and the output, which each iteration lends again to `step`. Assumes nothing.
-use Rattle.query_loop.proofs.Prelude.{_≡_, refl, sym, subst, _∙_, ℕ, _<_, _≤_, Bool, true, false, List, [], _∷_, ltb, length, URA, fullShare, Body, Place, Ty, Operand, call, erased, mut, named, seq, tyBool, tyInt, tyRef, w32, w64, Val, vbool, vint, SProp, ent, emp}
-use Rattle.query_loop.proofs.Prelude.{id⊢, via, fst∗, Lft, Share, GName, ftrue, fsep, flft, fat, Memory, Routine, Heap, Env, Loops, Tables, Wp, WpFn, afterBlock, afterSeq, atReturn, afterTurn, Atoms, Fun, givenOf, tables, tablesOf, Given, Item, Seq, Sq, anyQ, atRet, lands, runs, ‵, raw, ⋆}
-use Rattle.query_loop.proofs.Prelude.{_$_, _∵_, !, qed, move, keep, drop, group, use1, split, join, rewrite, fsplit, fjoin, feqL, suffices, frame, done, agg, whole, sub, look-in, Below, Opds, look, store, init, forget, stop, hop, fld, from, load, addr, lit, of-opd, bin, and-then}
-use Rattle.query_loop.proofs.Prelude.{no-more, assigns, land, again, blocks, exec, first, leaves-loop, loops, goes-on, returns, enter, alloc1, alloc0, params1, pass1, pass0, free1, free0, fmOf, u32, bool, Is, bool-makes, now, sliceTy, sliceVal, Room, owned, nothing, Clauses, onEntry, cited, says, ends-at}
+use Rattle.query_loop.proofs.Prelude.{_≡_, refl, sym, subst, _∙_, ℕ, _<_, _≤_, Bool, true, false, List, [], _∷_, ltb, length, URA, fullShare, Body, Place, Ty, Operand, call, erased, mut, named, seq, tyBool, tyInt, tyRef, w32, w64, Val, vbool, vint, SProp, ent, emp, id⊢, via, fst∗, Lft, Share, GName}
+use Rattle.query_loop.proofs.Prelude.{ftrue, fsep, flft, fat, Memory, Routine, Heap, Env, Loops, Tables, Wp, WpFn, afterBlock, afterSeq, atReturn, afterTurn, Atoms, Fun, givenOf, tables, tablesOf, Given, Item, Seq, Sq, anyQ, atRet, lands, runs, ‵, raw, ⋆, _$_, _∵_, !, qed, move, keep, drop, group}
+use Rattle.query_loop.proofs.Prelude.{use1, split, join, rewrite, fsplit, fjoin, feqL, suffices, frame, done, agg, whole, sub, look-in, Below, Opds, look, store, init, forget, stop, hop, fld, from, load, addr, lit, of-opd, bin, and-then, no-more, assigns, land, again, blocks, exec, first}
+use Rattle.query_loop.proofs.Prelude.{leaves-loop, loops, goes-on, returns, enter, alloc1, alloc0, params1, pass1, pass0, free1, free0, fmOf, u32, bool, Is, bool-makes, now, sliceTy, sliceVal, Room, owned, nothing, Clauses, onEntry, cited, says, ends-at, land-last, le-ltb, lt-ltb, ltb-false}
+use Rattle.query_loop.proofs.Prelude.{ltb-true, matches, QueryKind, Scan, Test, Known, Row, RowInStore, RowNeeded, ScanStarts, ScanSteps, CanStart, ScanInvariant, allPass, scanned-all}
 use types.Kit as Kit
-use types.Run.{land-last}
-use borrow.Author.Tests.{le-ltb, lt-ltb, ltb-false, ltb-true}
 use denote.Enum.Laws as EL
 use denote.Struct.Laws as LL
 use Rattle.constraints.proofs.Constraint as CT
-use Rattle.query_spec.specs.Queries.{matches}
-use Rattle.query_scan.specs.declared.QueryKind.{QueryKind}
-use Rattle.query_scan.specs.declared.Scan.{Scan}
-use Rattle.query_scan.specs.declared.Test.{Test}
-use Rattle.query_scan.specs.declared.Test.the-variants.{Known, Row}
-use Rattle.query_scan.specs.inner.Scanning.{RowInStore, RowNeeded, ScanStarts, ScanSteps, CanStart, ScanInvariant, allPass}
-use Rattle.query_scan.proofs.AnswerSteps.{scanned-all}
 use Rattle.query_scan.proofs.ScanSteps.{can-step, finished, next-in-store, stepped, steps-less, scanned-begin}
 use Rattle.query_scan.proofs.QueryKind as QT
 use Rattle.query_scan.proofs.Scan as ST
-use Rattle.query_scan.proofs.Scan.Laws as ST′
 use Rattle.query_scan.proofs.Test as TT
-use Rattle.query_scan.proofs.Test.Laws as TT′
 use Rattle.query_loop.proofs.Again.{lends, gets-back}
 use Rattle.query_loop.proofs.Lent.{Lent, OwnConditions, OwnIds, OwnOut, OwnRows, Owns, Ranged, Rooms, Slices, Tokens₃, apart, fits, head-val, header-val, headers, heads, lent-of, lifetimes, numbers, out-at, owns-on, query-val, query-kinds, shares, slice-val, slices-off, slices-on, subset, scan-val, scans, test-val, tests, together, tokens-off, tokens-on}
 use Rattle.query_loop.proofs.LoopSteps.{Fewer, all-known, fewer-wf, row-matches}
 use Rattle.query_loop.proofs.Walking.{AllPassed, Callee, Cell, Cells, Cites, Tokens, Walked, arg, bool-lands, by-value, calls, calls-last, empty, env-of, holds, kept-slice, lent-slice, own, stays, typed, value-lands, value-settles, walk-runs}
 use Rattle.query_loop.proofs.all_pass as all
-use Rattle.query_loop.proofs.all_pass.Symbol as all-def
-use Rattle.query_loop.proofs.all_pass.Symbol.{name as #query-loop·all-pass}
-use Rattle.query_loop.proofs.all_pass.Met as all-thm
 use Rattle.query_scan.proofs.begin as opn
-use Rattle.query_scan.proofs.begin.Symbol as opn-def
-use Rattle.query_scan.proofs.begin.Symbol.{name as #query-scan·begin}
-use Rattle.query_scan.proofs.begin.Met as opn-thm
 use Rattle.query_scan.proofs.step as stp
-use Rattle.query_scan.proofs.step.Symbol as stp-def
-use Rattle.query_scan.proofs.step.Symbol.{name as #query-scan·step}
-use Rattle.query_scan.proofs.step.Met as stp-thm
-use Rattle.query_loop.proofs.scan.Key.{name as #query-loop·scan}
 use Rattle.query_loop.proofs.scan as f
-use Rattle.query_loop.proofs.scan.Statement as stated
-use Rattle.query_loop.proofs.scan.Code as code
-use Rattle.query_loop.proofs.scan.Code.Mir as mir
 
 -- the type of the local that holds the output as it is lent on
 abbrev LentTy : Ty
@@ -76,9 +53,9 @@ module _ {M : Type 1} (𝓤 : URA M) (H : Heap 𝓤) (A : Atoms 𝓤) (W : Given
         own ! tests test is-t $ fjoin ! $ nothing ! $ move ! (3 ∷ 0 ∷ []) $ join ! $ move ! (2 ∷ 0 ∷ []) $ join ! $ join ! $ done !
 
     -- the call of `all_pass`
-    calls-all : {K : Type 0} {Γ : List (Item 𝓤)} {E : Env 𝓤 H} {Λ : Loops 𝓤 H} {post : Kit.Post 𝓤 H} {d : Place} {xs : List Operand} {rest : Body} → K → (𝓣 : Tables 𝓤 H) → Cites 𝓤 H A all.ended passing (𝓣 .C) #query-loop·all-pass
+    calls-all : {K : Type 0} {Γ : List (Item 𝓤)} {E : Env 𝓤 H} {Λ : Loops 𝓤 H} {post : Kit.Post 𝓤 H} {d : Place} {xs : List Operand} {rest : Body} → K → (𝓣 : Tables 𝓤 H) → Cites 𝓤 H A all.ended passing (𝓣 .C) all.Symbol.name
         → Opds K W (pre-all test ∷ ‵ (flft (p .κ₁) (p .q₁)) ∷ Slices p ∷ Γ) E xs (Callee 𝓤 H A all.ended passing .args (to-all test)) → Seq K W (Tokens₃ p ∷ Slices p ∷ Γ) (lands (𝓣 .C) Λ E d (vbool (all-pass test)) rest post)
-        → Seq K W (Tokens₃ p ∷ Slices p ∷ Γ) (runs (𝓣 .C) Λ E (seq (call #query-loop·all-pass xs d) rest) post)
+        → Seq K W (Tokens₃ p ∷ Slices p ∷ Γ) (runs (𝓣 .C) Λ E (seq (call all.Symbol.name xs d) rest) post)
     calls-all t 𝓣 known os k =
         apart p t $ move t (4 ∷ []) $ drop t $ move t (0 ∷ 2 ∷ 3 ∷ 4 ∷ []) $ group t 4 $ use1 W (pre-all test) can-scan $
         calls all.ended passing (to-all test) (λ r ws. r ≡ all-pass test) (λ r ws. id⊢ 𝓤 _) t (fmOf 𝓤 H (W .laws) 𝓣) known os (λ w r ws e.
@@ -138,10 +115,10 @@ module _ {M : Type 1} (𝓤 : URA M) (H : Heap 𝓤) (A : Atoms 𝓤) (W : Given
           move ! (2 ∷ 0 ∷ []) $ fjoin ! $ own ! heads (p .head) (is .1) $ fjoin ! $ own ! (numbers w64) (length rows) (refl, rooms .0 .0) $ fjoin ! $ own ! headers (p .header) (is .0) $ fjoin ! $ own ! query-kinds query is-q $ fjoin ! $
           nothing ! $ move ! (2 ∷ 0 ∷ []) $ join ! $ join ! $ frame ! $ done !
 
-      module _ (𝓣 : Tables 𝓤 H) (known-all : Cites 𝓤 H A all.ended passing (𝓣 .C) #query-loop·all-pass) (known-open : Cites 𝓤 H A opn.ended begin (𝓣 .C) #query-scan·begin) (known-step : Cites 𝓤 H A stp.ended stepping (𝓣 .C) #query-scan·step)
+      module _ (𝓣 : Tables 𝓤 H) (known-all : Cites 𝓤 H A all.ended passing (𝓣 .C) all.Symbol.name) (known-open : Cites 𝓤 H A opn.ended begin (𝓣 .C) opn.Symbol.name) (known-step : Cites 𝓤 H A stp.ended stepping (𝓣 .C) stp.Symbol.name)
           (l₀ l₁ l₂ l₃ l₄ l₅ l₆ l₇ l₈ l₉ l₁₀ l₁₁ l₁₂ l₁₃ l₁₄ l₁₅ l₁₆ l₁₇ : ℕ) where
         abbrev E : Env 𝓤 H
-        E = env-of mir.locals (l₀ ∷ l₁ ∷ l₂ ∷ l₃ ∷ l₄ ∷ l₅ ∷ l₆ ∷ l₇ ∷ l₈ ∷ l₉ ∷ l₁₀ ∷ l₁₁ ∷ l₁₂ ∷ l₁₃ ∷ l₁₄ ∷ l₁₅ ∷ l₁₆ ∷ l₁₇ ∷ [])
+        E = env-of f.Code.Mir.locals (l₀ ∷ l₁ ∷ l₂ ∷ l₃ ∷ l₄ ∷ l₅ ∷ l₆ ∷ l₇ ∷ l₈ ∷ l₉ ∷ l₁₀ ∷ l₁₁ ∷ l₁₂ ∷ l₁₃ ∷ l₁₄ ∷ l₁₅ ∷ l₁₆ ∷ l₁₇ ∷ [])
 
         -- what is held, the output at a list, and the locals, with what is in _8 and _9
         abbrev Around : List ℕ → Cell → Cell → List (Item 𝓤)
@@ -181,9 +158,9 @@ module _ {M : Type 1} (𝓤 : URA M) (H : Heap 𝓤) (A : Atoms 𝓤) (W : Given
 
           -- what is to hold where a turn ends
           abbrev Turned : State → Kit.Post 𝓤 H
-          Turned t = anyQ (afterTurn 𝓤 H (Below 𝓤 H A Nearer I t) (afterBlock 𝓤 H (afterSeq 𝓤 H (Wp 𝓤 H (𝓣 .C) (𝓣 .Λ) E mir.t-7 (atReturn 𝓤 H E Post)) (atReturn 𝓤 H E Post))))
+          Turned t = anyQ (afterTurn 𝓤 H (Below 𝓤 H A Nearer I t) (afterBlock 𝓤 H (afterSeq 𝓤 H (Wp 𝓤 H (𝓣 .C) (𝓣 .Λ) E f.Code.Mir.t-7 (atReturn 𝓤 H E Post)) (atReturn 𝓤 H E Post))))
 
-          more : (s : Scan) (zs : List ℕ) (g : Held s zs) → s .next < s .end → Sq W (I (s, (zs, g))) (runs (𝓣 .C) (𝓣 .Λ) E mir.turn-1 (Turned (s, (zs, g))))
+          more : (s : Scan) (zs : List ℕ) (g : Held s zs) → s .next < s .end → Sq W (I (s, (zs, g))) (runs (𝓣 .C) (𝓣 .Λ) E f.Code.Mir.turn-1 (Turned (s, (zs, g))))
           unfolding afterTurn
           more s zs g l =
               assigns ! (bin ! (load ! (from ! (fld ! refl (stop !))) (look-in ! 20 (sub ! 1 refl (whole !)))) (load ! (from ! (fld ! refl (stop !))) (look-in ! 20 (sub ! 2 refl (whole !)))) tt) (from ! (stop !)) (init ! 10 refl (tt, tt)) $
@@ -212,13 +189,13 @@ module _ {M : Type 1} (𝓤 : URA M) (H : Heap 𝓤) (A : Atoms 𝓤) (W : Given
               lies = next-in-store (p .header) rows (subset p) test s₀ os can s zs (g .0) l
 
               is-t : Is TT.the-row (Row (s .id)) (test-val (Row (s .id)) ∷ [])
-              is-t = EL.owes TT.the-type TT′.the-laws (Row (s .id)) ((refl, LL.owed ST.the-type ST′.the-laws s _ (g .1 .1) .1 .1 .1 .0 .1), tt)
+              is-t = EL.owes TT.the-type TT.Laws.the-laws (Row (s .id)) ((refl, LL.owed ST.the-type ST.Laws.the-laws s _ (g .1 .1) .1 .1 .1 .0 .1), tt)
 
-          ends : (s : Scan) (zs : List ℕ) (g : Held s zs) → s .end ≤ s .next → Sq W (I (s, (zs, g))) (runs (𝓣 .C) (𝓣 .Λ) E mir.turn-1 (Turned (s, (zs, g))))
+          ends : (s : Scan) (zs : List ℕ) (g : Held s zs) → s .end ≤ s .next → Sq W (I (s, (zs, g))) (runs (𝓣 .C) (𝓣 .Λ) E f.Code.Mir.turn-1 (Turned (s, (zs, g))))
           unfolding afterTurn
           ends s zs g l =
               assigns ! (bin ! (load ! (from ! (fld ! refl (stop !))) (look-in ! 20 (sub ! 1 refl (whole !)))) (load ! (from ! (fld ! refl (stop !))) (look-in ! 20 (sub ! 2 refl (whole !)))) tt) (from ! (stop !)) (init ! 10 refl (tt, tt)) $
-              rewrite ! 10 (λ (t : Bool). ‵ (fat fullShare tyBool l₁₄ 0 (vbool t))) (le-ltb (s .next) (s .end) l) refl $ leaves-loop ! (load ! (from ! (stop !)) (look ! 10 refl)) $ exec ! (𝓣 .C) (𝓣 .Λ) E mir.t-7 (atRet E Post) $
+              rewrite ! 10 (λ (t : Bool). ‵ (fat fullShare tyBool l₁₄ 0 (vbool t))) (le-ltb (s .next) (s .end) l) refl $ leaves-loop ! (load ! (from ! (stop !)) (look ! 10 refl)) $ exec ! (𝓣 .C) (𝓣 .Λ) E f.Code.Mir.t-7 (atRet E Post) $
               assigns ! (of-opd ! (load ! (from ! (stop !)) (look ! 20 refl))) (from ! (stop !)) (init ! 38 refl (typed W scans s (g .1 .1) .0)) $ returns ! (look ! 38 refl) $ forget ! 10 refl $ forget ! 20 refl $ forget ! 22 refl $ forget ! 24 refl $ forget ! 26 refl $ forget ! 28 refl $ forget ! 30 refl $ forget ! 32 refl $ forget ! 34 refl $ forget ! 36 refl $ forget ! 38 refl $
               move ! (38 ∷ 39 ∷ []) $ free1 ! $ move ! (36 ∷ 37 ∷ []) $ free1 ! $ move ! (34 ∷ 35 ∷ []) $ free1 ! $ move ! (32 ∷ 33 ∷ []) $ free1 ! $ move ! (30 ∷ 31 ∷ []) $ free1 ! $ move ! (28 ∷ 29 ∷ []) $ free1 ! $ move ! (26 ∷ 27 ∷ []) $ free1 ! $ move ! (24 ∷ 25 ∷ []) $ free1 ! $ move ! (22 ∷ 23 ∷ []) $ free1 ! $ move ! (20 ∷ 21 ∷ []) $ free1 ! $ move ! (18 ∷ 19 ∷ []) $ free1 ! $ move ! (16 ∷ 17 ∷ []) $ free1 ! $ move ! (14 ∷ 15 ∷ []) $ free1 ! $ move ! (12 ∷ 13 ∷ []) $ free1 ! $ move ! (10 ∷ 11 ∷ []) $ free1 ! $ move ! (8 ∷ 9 ∷ []) $ free1 ! $ move ! (6 ∷ 7 ∷ []) $ free1 ! $ move ! (4 ∷ 5 ∷ []) $ free1 ! $ free0 ! $
               suffices ! _ (ends-at 𝓤 H A f.ended (stays (f.ended .signature .params) (f.ended .kept) params) clauses W y (scan-val s) s (tt, (tt, (tt, (tt, (tt, (tt, (zs, tt))))))) (tt, (tt, (tt, (tt, (tt, (tt, (g .1 .0, tt)))))))) $
@@ -226,15 +203,15 @@ module _ {M : Type 1} (𝓤 : URA M) (H : Heap 𝓤) (A : Atoms 𝓤) (W : Given
               rewrite ! 3 (λ (j : ℕ). ‵ (OwnOut κ (out-at b o γ zs) (sliceVal (b, o) j))) (g .1 .0) refl $ nothing ! $ move ! (3 ∷ 0 ∷ []) $ join ! $ move ! (1 ∷ 0 ∷ []) $ tokens-on p ! $ frame ! $
               nothing ! $ move ! (2 ∷ 0 ∷ []) $ fjoin ! $ move ! (1 ∷ 0 ∷ []) $ slices-on p ! is $ own ! query-kinds query is-q $ fjoin ! $ frame ! $ own ! scans s (g .1 .1) $ done !
 
-          turn : (s : Scan) (zs : List ℕ) (g : Held s zs) (t : Bool) → ltb (s .next) (s .end) ≡ t → Sq W (I (s, (zs, g))) (runs (𝓣 .C) (𝓣 .Λ) E mir.turn-1 (Turned (s, (zs, g))))
+          turn : (s : Scan) (zs : List ℕ) (g : Held s zs) (t : Bool) → ltb (s .next) (s .end) ≡ t → Sq W (I (s, (zs, g))) (runs (𝓣 .C) (𝓣 .Λ) E f.Code.Mir.turn-1 (Turned (s, (zs, g))))
           turn s zs g true e = more s zs g (ltb-true (s .next) (s .end) e)
           turn s zs g false e = ends s zs g (ltb-false (s .next) (s .end) e)
 
-          loop : (is-s : Is ST.the-row s₀ (scan-val s₀ ∷ [])) → Sq W (I (s₀, (os, (scanned-begin (p .header) rows (subset p) test s₀ os can, (refl, is-s))))) (runs (𝓣 .C) (𝓣 .Λ) E mir.t-6 (atRet E Post))
+          loop : (is-s : Is ST.the-row s₀ (scan-val s₀ ∷ [])) → Sq W (I (s₀, (os, (scanned-begin (p .header) rows (subset p) test s₀ os can, (refl, is-s))))) (runs (𝓣 .C) (𝓣 .Λ) E f.Code.Mir.t-6 (atRet E Post))
           loop is-s = first ! $ blocks ! $ loops ! 𝓣 Nearer (fewer-wf State at) I (λ t. turn (t .0) (t .1 .0) (t .1 .1) (ltb (t .0 .next) (t .0 .end)) refl) (s₀, (os, (scanned-begin (p .header) rows (subset p) test s₀ os can, (refl, is-s))))
 
         -- the test of the conditions has returned: `begin`
-        opens : Sq W (Around os knows empty) (runs (𝓣 .C) (𝓣 .Λ) E mir.t-3 (atRet E Post))
+        opens : Sq W (Around os knows empty) (runs (𝓣 .C) (𝓣 .Λ) E f.Code.Mir.t-3 (atRet E Post))
         opens =
             assigns ! (of-opd ! (load ! (from ! (fld ! refl (stop !))) (look-in ! 32 (sub ! 1 refl (whole !))))) (from ! (stop !)) (init ! 14 refl (tt, record { fits = rooms .0 .0 })) $
             assigns ! (of-opd ! (load ! (from ! (fld ! refl (stop !))) (look-in ! 24 (sub ! 1 refl (whole !))))) (from ! (stop !)) (init ! 12 refl (tt, record { fits = room .0 })) $
@@ -245,31 +222,31 @@ module _ {M : Type 1} (𝓤 : URA M) (H : Heap 𝓤) (A : Atoms 𝓤) (W : Given
             land ! (from ! (stop !)) (init ! 20 refl (typed W scans s is-s .0)) $ forget ! 12 refl $ forget ! 14 refl $ loop s begun is-s))
 
         -- the body: `all_pass`
-        begins : Sq W (Around os empty empty) (runs (𝓣 .C) (𝓣 .Λ) E mir.t-1 (atRet E Post))
+        begins : Sq W (Around os empty empty) (runs (𝓣 .C) (𝓣 .Λ) E f.Code.Mir.t-1 (atRet E Post))
         begins =
             assigns ! (agg ! (and-then ! (lit ! tt) (no-more !))) (from ! (stop !)) (init ! 16 refl (typed W tests Known is-t .0)) $
             calls-all Known is-t tt ! 𝓣 known-all (arg ! 17 refl (arg ! 35 refl (arg ! 33 refl (arg ! 27 refl (no-more !))))) (land ! (from ! (stop !)) (init ! 22 refl (tt, tt)) $ forget ! 16 refl $ opens)
           where
             is-t : Is TT.the-row Known (test-val Known ∷ [])
-            is-t = EL.owes TT.the-type TT′.the-laws Known tt
+            is-t = EL.owes TT.the-type TT.Laws.the-laws Known tt
 
-      walk : (𝓣 : Tables 𝓤 H) → Cites 𝓤 H A all.ended passing (𝓣 .C) #query-loop·all-pass → Cites 𝓤 H A opn.ended begin (𝓣 .C) #query-scan·begin → Cites 𝓤 H A stp.ended stepping (𝓣 .C) #query-scan·step
-          → ent 𝓤 (onEntry 𝓤 H A f.signature (y .0 .0) (y .0 .1) (y .0 .3) (y .0 .4)) (WpFn 𝓤 H (𝓣 .C) (𝓣 .Λ) code.function (Walked f.ended params 𝓤 H A clauses .args y) Post)
+      walk : (𝓣 : Tables 𝓤 H) → Cites 𝓤 H A all.ended passing (𝓣 .C) all.Symbol.name → Cites 𝓤 H A opn.ended begin (𝓣 .C) opn.Symbol.name → Cites 𝓤 H A stp.ended stepping (𝓣 .C) stp.Symbol.name
+          → ent 𝓤 (onEntry 𝓤 H A f.signature (y .0 .0) (y .0 .1) (y .0 .3) (y .0 .4)) (WpFn 𝓤 H (𝓣 .C) (𝓣 .Λ) f.Code.function (Walked f.ended params 𝓤 H A clauses .args y) Post)
       walk 𝓣 known-all known-open known-step =
           qed W (Tokens 𝓤 H A 4 (y .0 .0) (y .0 .1) ∷ ‵ (fsep (QT.the-row .own query (query-val query ∷ [])) (Owns p (fsep (OwnConditions p) (fsep (OwnOut κ (out-at b o γ os) sz) ftrue)))) ∷ []) ∵
           tokens-off p ! $ move ! (1 ∷ []) $ split ! $ move ! (3 ∷ []) $ fsplit ! $ drop ! $ slices-off p ! $ move ! (1 ∷ []) $ fsplit ! $ keep ! (5 ∷ 2 ∷ 3 ∷ 0 ∷ []) $
-          enter ! (𝓣 .C) (𝓣 .Λ) code.function (Walked f.ended params 𝓤 H A clauses .args y) _ $
+          enter ! (𝓣 .C) (𝓣 .Λ) f.Code.function (Walked f.ended params 𝓤 H A clauses .args y) _ $
           alloc1 ! (λ l₀. alloc1 ! (λ l₁. alloc1 ! (λ l₂. alloc1 ! (λ l₃. alloc1 ! (λ l₄. alloc1 ! (λ l₅. alloc1 ! (λ l₆. alloc1 ! (λ l₇. alloc1 ! (λ l₈. alloc1 ! (λ l₉. alloc1 ! (λ l₁₀. alloc1 ! (λ l₁₁. alloc1 ! (λ l₁₂. alloc1 ! (λ l₁₃. alloc1 ! (λ l₁₄. alloc1 ! (λ l₁₅. alloc1 ! (λ l₁₆. alloc1 ! (λ l₁₇. alloc0 ! $ params1 ! $
           pass1 ! (init ! 32 refl (typed W query-kinds query is-q .0)) $ pass1 ! (init ! 30 refl (typed W headers (p .header) (is .0) .0)) $ pass1 ! (init ! 28 refl (fits (rooms .0 .0))) $ pass1 ! (init ! 26 refl (typed W heads (p .head) (is .1) .0)) $ pass1 ! (init ! 24 refl (fits (rooms .1 .0 .0))) $ pass1 ! (init ! 22 refl (fits (rooms .1 .1 .0))) $ pass1 ! (init ! 20 refl (fits (room .0))) $ pass0 ! $
           move ! (36 ∷ 37 ∷ 38 ∷ 39 ∷ []) $ begins 𝓣 known-all known-open known-step l₀ l₁ l₂ l₃ l₄ l₅ l₆ l₇ l₈ l₉ l₁₀ l₁₁ l₁₂ l₁₃ l₁₄ l₁₅ l₁₆ l₁₇))))))))))))))))))
 
-pub scan-spec : {M : Type 1} → stated.statement M
-unfolding code.routine tablesOf
+pub scan-spec : {M : Type 1} → f.Statement.statement M
+unfolding f.Code.routine tablesOf
 scan-spec 𝓤 H 𝓜 𝓖 𝓡 =
-    walk-runs f.ended params 𝓤 H 𝓜 𝓖 𝓡 (f.clauses 𝓤 H (𝓖 .A) (𝓜 .mem) (𝓡 .run)) code.env #query-loop·scan code.function (code.unfolded 𝓤 H 𝓜 𝓡) (λ κs qs bounds a g are. via 𝓤 _ (fst∗ 𝓤 _ (emp 𝓤))
+    walk-runs f.ended params 𝓤 H 𝓜 𝓖 𝓡 (f.clauses 𝓤 H (𝓖 .A) (𝓜 .mem) (𝓡 .run)) f.Code.env f.Key.name f.Code.function (f.Code.unfolded 𝓤 H 𝓜 𝓡) (λ κs qs bounds a g are. via 𝓤 _ (fst∗ 𝓤 _ (emp 𝓤))
     (walk 𝓤 H (𝓖 .A) (givenOf 𝓤 H 𝓜 𝓖) (𝓜 .mem) (𝓡 .run) (lent-of κs qs (a .1) (a .1 .1 .1 .1 .1 .0)) (are .1 .0, are .1 .1 .1 .0) (a .0) (κs .1 .1 .1 .0) (qs .1 .1 .1 .0)
     (a .1 .1 .1 .1 .1 .1 .0 .ptr .0) (a .1 .1 .1 .1 .1 .1 .0 .ptr .1) (a .1 .1 .1 .1 .1 .1 .0 .name) (a .1 .1 .1 .1 .1 .1 .0 .now)
-    (are .0) (are .1 .1 .0 .0 .1, (are .1 .1 .1 .1 .0 .0 .1, are .1 .1 .1 .1 .1 .0 .0 .1)) (are .1 .1 .1 .1 .1 .1 .0 .0 .1) (tablesOf 𝓤 H 𝓜 (tables 𝓤 H 𝓜 𝓡 code.env))
-    (cited 𝓤 H _ 𝓜 𝓡 code.env #query-loop·all-pass all-def.routine code.calls-query-loop·all-pass (all-thm.met 𝓤 H 𝓜 𝓖 𝓡))
-    (cited 𝓤 H _ 𝓜 𝓡 code.env #query-scan·begin opn-def.routine code.calls-query-scan·begin (opn-thm.met 𝓤 H 𝓜 𝓖 𝓡))
-    (cited 𝓤 H _ 𝓜 𝓡 code.env #query-scan·step stp-def.routine code.calls-query-scan·step (stp-thm.met 𝓤 H 𝓜 𝓖 𝓡))))
+    (are .0) (are .1 .1 .0 .0 .1, (are .1 .1 .1 .1 .0 .0 .1, are .1 .1 .1 .1 .1 .0 .0 .1)) (are .1 .1 .1 .1 .1 .1 .0 .0 .1) (tablesOf 𝓤 H 𝓜 (tables 𝓤 H 𝓜 𝓡 f.Code.env))
+    (cited 𝓤 H _ 𝓜 𝓡 f.Code.env all.Symbol.name all.Symbol.routine f.Code.calls-query-loop·all-pass (all.Met.met 𝓤 H 𝓜 𝓖 𝓡))
+    (cited 𝓤 H _ 𝓜 𝓡 f.Code.env opn.Symbol.name opn.Symbol.routine f.Code.calls-query-scan·begin (opn.Met.met 𝓤 H 𝓜 𝓖 𝓡))
+    (cited 𝓤 H _ 𝓜 𝓡 f.Code.env stp.Symbol.name stp.Symbol.routine f.Code.calls-query-scan·step (stp.Met.met 𝓤 H 𝓜 𝓖 𝓡))))
