@@ -1,25 +1,21 @@
 -- A query run: the call of `query_loop::scan` in a manual proof, with what the caller is lent passed on. Assumes `Given`.
 --     calls-ask      the output is given up
 --     asked          the output is lent for the call, and returned
-use Rattle.query_loop.proofs.Prelude.{_≡_, ℕ, List, [], _∷_, length, URA, fullShare, Body, Place, Operand, call, named, seq, Val, SProp, ent, id⊢, Lft, Share, GName, flft, Memory, Routine, Heap, Calls, Env, Loops, Atoms, Fun, Given, Item, Post}
-use Rattle.query_loop.proofs.Prelude.{Seq, lands, runs, ‵, raw, ⋆, _$_, _∵_, !, qed, move, drop, group, use1, split, join, fsplit, fjoin, feqL, frame, done, Opds, FmC, u32, Is, RefT, now, sliceVal, Room, finally, nothing, Clauses}
-use Rattle.query_scan.specs.declared.QueryKind.{QueryKind}
-use Rattle.query_scan.specs.declared.Scan.{Scan}
-use Rattle.query_scan.specs.inner.Scanning.{ScanAnswered}
+use Rattle.query_loop.proofs.Prelude.{_≡_, ℕ, List, [], _∷_, length, URA, fullShare, Body, Place, Operand, call, named, seq, Val, SProp, ent, id⊢, Lft, Share, GName, flft, Memory, Routine, Heap, Calls, Env, Loops, Atoms, Fun, Given, Item, Post, Seq, lands, runs, ‵, raw, ⋆, _$_, _∵_, !, qed, move}
+use Rattle.query_loop.proofs.Prelude.{drop, group, use1, split, join, fsplit, fjoin, feqL, frame, done, Opds, FmC, u32, Is, RefT, now, sliceVal, Room, finally, nothing, Clauses, QueryKind, Scan, ScanAnswered}
 use Rattle.query_scan.proofs.QueryKind as QT
 use Rattle.query_scan.proofs.Scan as ST
 use Rattle.query_loop.proofs.Again.{LentAgain, lends, gets-back}
 use Rattle.query_loop.proofs.Lent.{Lent, OwnOut, Ranged, Slices, Tokens₃, head-val, header-val, lifetimes, out-at, query-val, query-kinds, shares, slice-val, slices-on, slices-twice, subset, scan-val, scans, tokens-off, tokens-on}
 use Rattle.query_loop.proofs.Walking.{Callee, Cites, calls, own, value-lands}
 use Rattle.query_loop.proofs.scan as scan
-use Rattle.query_loop.proofs.scan.Symbol.{name as #query-loop·scan}
 
 module _ {M : Type 1} (𝓤 : URA M) (H : Heap 𝓤) (A : Atoms 𝓤) (mem : Memory → SProp 𝓤) (run : Routine → Fun 𝓤) where
   abbrev scan-clauses : Clauses 𝓤 scan.ended
   scan-clauses = scan.clauses 𝓤 H A mem run
 
   abbrev pub CitesScan : Calls 𝓤 H → Type 1
-  CitesScan C = Cites 𝓤 H A scan.ended scan-clauses C #query-loop·scan
+  CitesScan C = Cites 𝓤 H A scan.ended scan-clauses C scan.Symbol.name
 
   module _ (p : Lent) (query : QueryKind) where
     -- what the call's triple binds outside, with the output at a lifetime
@@ -45,7 +41,7 @@ module _ {M : Type 1} (𝓤 : URA M) (H : Heap 𝓤) (A : Atoms 𝓤) (mem : Mem
       module _ {K : Type 0} {Γ : List (Item 𝓤)} {E : Env 𝓤 H} {C : Calls 𝓤 H} {Λ : Loops 𝓤 H} {post : Post 𝓤 H} {d : Place} {xs : List Operand} {rest : Body} where
         pub calls-scan : K → FmC 𝓤 H (W .laws) C → CitesScan C → (κ : Lft) (q : Share) (z : RefT (List ℕ)) → Opds K W (scan-pre κ q z ∷ Slices p ∷ Γ) E xs (scan-args κ q z)
             → ((s : Scan) (ws : List ℕ) → ScanResult (now z) s ws → length ws ≡ length (now z) → Is ST.the-row s (scan-val s ∷ []) → Seq K W (Tokens₃ p ∷ Slices p ∷ ‵ (flft κ q) ∷ ‵ (finally u32 (z .name) ws) ∷ Γ) (lands C Λ E d (scan-val s) rest post))
-            → Seq K W (Tokens₃ p ∷ Slices p ∷ ‵ (flft κ q) ∷ ‵ (OwnOut κ z (slice-val z)) ∷ Γ) (runs C Λ E (seq (call #query-loop·scan xs d) rest) post)
+            → Seq K W (Tokens₃ p ∷ Slices p ∷ ‵ (flft κ q) ∷ ‵ (OwnOut κ z (slice-val z)) ∷ Γ) (runs C Λ E (seq (call scan.Symbol.name xs d) rest) post)
         calls-scan t fm known κ q z os k =
             move t (1 ∷ []) $ slices-twice p t $ move t (2 ∷ 0 ∷ 3 ∷ 4 ∷ []) $ group t 4 $ use1 W (scan-pre κ q z) (can-scan κ q z) $
             calls scan.ended scan-clauses (to-scan κ q z) (λ s ws. ScanResult (now z) s (ws .1 .1 .1 .1 .1 .1 .0)) (λ s ws. id⊢ 𝓤 _) t fm known os (λ w s ws e.
@@ -57,7 +53,7 @@ module _ {M : Type 1} (𝓤 : URA M) (H : Heap 𝓤) (A : Atoms 𝓤) (mem : Mem
         pub calls-scan-lent : K → FmC 𝓤 H (W .laws) C → CitesScan C → (κ : Lft) (q : Share) (γ : GName) (b o : ℕ) (os : List ℕ) → Room u32 (length os)
             → ((ν : ℕ) (δ : GName) → Opds K W (scan-pre (ν ∷ []) fullShare (out-at b o δ os) ∷ Slices p ∷ ‵ (LentAgain u32 κ q γ b o (ν ∷ []) δ os) ∷ Γ) E xs (scan-args (ν ∷ []) fullShare (out-at b o δ os)))
             → ((s : Scan) (ws : List ℕ) → ScanResult os s ws → length ws ≡ length os → Is ST.the-row s (scan-val s ∷ []) → Seq K W (Tokens₃ p ∷ Slices p ∷ ‵ (flft κ q) ∷ ‵ (OwnOut κ (out-at b o γ ws) (sliceVal (b, o) (length os))) ∷ Γ) (lands C Λ E d (scan-val s) rest post))
-            → Seq K W (Tokens₃ p ∷ Slices p ∷ ‵ (flft κ q) ∷ ‵ (OwnOut κ (out-at b o γ os) (sliceVal (b, o) (length os))) ∷ Γ) (runs C Λ E (seq (call #query-loop·scan xs d) rest) post)
+            → Seq K W (Tokens₃ p ∷ Slices p ∷ ‵ (flft κ q) ∷ ‵ (OwnOut κ (out-at b o γ os) (sliceVal (b, o) (length os))) ∷ Γ) (runs C Λ E (seq (call scan.Symbol.name xs d) rest) post)
         calls-scan-lent t fm known κ q γ b o os room args k =
             move t (2 ∷ 3 ∷ []) $ lends u32 κ q γ b o (named 3) (named 3) os t tt (λ ν δ.
             -- [ν's token; the output at ν; what is lent; the tokens; what is lent as `&`]

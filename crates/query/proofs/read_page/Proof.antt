@@ -1,33 +1,22 @@
 -- `query::read_page` meets its contract: a manual proof over its MIR. The list of conditions is passed on whole; out is lent to
 -- `scan` and returned, and is given up to `close_page`. Assumes nothing.
-use Rattle.query_loop.proofs.Prelude.{refl, _∙_, ℕ, _<_, _^_, List, [], _∷_, length, URA, named, w32, w64, Val, vint, SProp, ent, emp, id⊢, via, fst∗, Lft, Share, GName, ftrue, fsep, flft, Memory, Routine, Heap, Tables, WpFn, Atoms, Fun}
-use Rattle.query_loop.proofs.Prelude.{givenOf, tables, tablesOf, Given, ‵, raw, ⋆, _$_, _∵_, !, qed, move, keep, drop, group, use1, split, join, fsplit, fjoin, feqL, suffices, frame, done, agg, whole, sub, look-in, look, init, forget, stop, hop, fld}
-use Rattle.query_loop.proofs.Prelude.{from, load, addr, lit, and-then, no-more, assigns, land, returns, enter, alloc1, alloc0, params1, pass1, pass0, free1, free0, fmOf, u32, usize, Is, shows, now, sliceVal, Room, peeks, nothing, Clauses, onEntry, cited, says, ends-at}
+use Rattle.query_loop.proofs.Prelude.{refl, _∙_, ℕ, _<_, _^_, List, [], _∷_, length, URA, named, w32, w64, Val, vint, SProp, ent, emp, id⊢, via, fst∗, Lft, Share, GName, ftrue, fsep, flft, Memory, Routine, Heap, Tables, WpFn, Atoms, Fun, givenOf, tables, tablesOf, Given, ‵, raw, ⋆, _$_, _∵_, !, qed}
+use Rattle.query_loop.proofs.Prelude.{move, keep, drop, group, use1, split, join, fsplit, fjoin, feqL, suffices, frame, done, agg, whole, sub, look-in, look, init, forget, stop, hop, fld, from, load, addr, lit, and-then, no-more, assigns, land, returns, enter, alloc1, alloc0, params1, pass1, pass0}
+use Rattle.query_loop.proofs.Prelude.{free1, free0, fmOf, u32, usize, Is, shows, now, sliceVal, Room, peeks, nothing, Clauses, onEntry, cited, says, ends-at, Scan, Page, PageClosed}
 use denote.Enum.Laws as EL
 use Rattle.constraints.proofs.Constraint as CT
 use Rattle.query_spec.proofs.PageAnswer as AT
-use Rattle.query_spec.proofs.PageAnswer.Laws as AT′
-use Rattle.query_scan.specs.declared.Scan.{Scan}
-use Rattle.query_scan.specs.declared.QueryKind.the-variants.{Page}
-use Rattle.query_scan.specs.inner.Scanning.{PageClosed}
 use Rattle.query_scan.proofs.PageSteps.{can-page, page-answered}
 use Rattle.query_scan.proofs.Scan as ST
 use Rattle.query_scan.proofs.QueryKind as QT
-use Rattle.query_scan.proofs.QueryKind.Laws as QT′
 use Rattle.query_loop.proofs.Lent.{Lent, OwnConditions, OwnIds, OwnOut, Owns, Ranged, Rooms, fits, head-val, header-val, headers, heads, lent-of, lifetimes, numbers, out-at, owns-off, owns-on, query-val, query-kinds, shares, slice-val, subset, scan-val, scans, tokens-off}
 use Rattle.query_loop.proofs.Walking.{AllPassed, Callee, Cites, Tokens, Walked, arg, by-value, calls, given-slice, lent-slice, own, stays, twice, typed, walk-runs}
 use Rattle.query_loop.proofs.scan.Symbol as scan-def
 use Rattle.query_loop.proofs.scan.Symbol.{name as #query-loop·scan}
 use Rattle.query_loop.proofs.scan.Met as scan-thm
 use Rattle.query_scan.proofs.close_page as cls
-use Rattle.query_scan.proofs.close_page.Symbol as cls-def
-use Rattle.query_scan.proofs.close_page.Symbol.{name as #query-scan·close-page}
-use Rattle.query_scan.proofs.close_page.Met as cls-thm
 use Rattle.query.proofs.ScanCall.{CitesScan, ScanResult, calls-scan-lent}
-use Rattle.query.proofs.read_page.Key.{name as #query·read-page}
 use Rattle.query.proofs.read_page as f
-use Rattle.query.proofs.read_page.Statement as stated
-use Rattle.query.proofs.read_page.Code as code
 
 abbrev params : AllPassed (f.ended .signature .params) (f.ended .kept)
 params = (by-value headers, (lent-slice u32 0 tt, (by-value heads, (lent-slice u32 1 tt, (by-value (numbers w32), (by-value (numbers w64), (lent-slice CT.the-row 2 tt, (given-slice u32 3 tt, tt))))))))
@@ -51,7 +40,7 @@ module _ {M : Type 1} (𝓤 : URA M) (H : Heap 𝓤) (A : Atoms 𝓤) (W : Given
 
   module _ (is : Ranged p) (rooms : Rooms p) (start-fits : start < 2 ^ 32) (n-fits : n < 2 ^ 64) (room : Room u32 (length os)) where
     is-q : Is QT.the-row (Page start n) (query-val (Page start n) ∷ [])
-    is-q = EL.owes QT.the-type QT′.the-laws (Page start n) ((refl, start-fits), ((refl, n-fits), tt))
+    is-q = EL.owes QT.the-type QT.Laws.the-laws (Page start n) ((refl, start-fits), ((refl, n-fits), tt))
 
     pre-close : (s : Scan) (ws : List ℕ) → Is ST.the-row s (scan-val s ∷ []) → ScanResult 𝓤 H A mem run p (Page start n) os s ws
         → ent 𝓤 (⋆ 𝓤 H A (‵ (flft (p .κ₁) (p .q₁)) ∷ ‵ (OwnIds p) ∷ ‵ (flft κ q) ∷ ‵ (OwnOut κ (out-at b o γ ws) sz) ∷ [])) (Callee 𝓤 H A cls.ended closing .pre (to-close s ws))
@@ -59,12 +48,12 @@ module _ {M : Type 1} (𝓤 : URA M) (H : Heap 𝓤) (A : Atoms 𝓤) (W : Given
         qed W (‵ (flft (p .κ₁) (p .q₁)) ∷ ‵ (OwnIds p) ∷ ‵ (flft κ q) ∷ ‵ (OwnOut κ (out-at b o γ ws) sz) ∷ []) ∵ says ! (can-page (p .header) (now (p .rows)) (subset p) start n (now (p .conditions)) os s ws e) $
         nothing ! $ move ! (4 ∷ 0 ∷ []) $ fjoin ! $ own ! scans s is-s $ fjoin ! $ move ! (2 ∷ 0 ∷ []) $ fjoin ! $ own ! heads (p .head) (is .1) $ fjoin ! $ nothing ! $ move ! (3 ∷ 0 ∷ []) $ join ! $ move ! (2 ∷ 0 ∷ []) $ join ! $ join ! $ done !
 
-    walk : (𝓣 : Tables 𝓤 H) → CitesScan 𝓤 H A mem run (𝓣 .C) → Cites 𝓤 H A cls.ended closing (𝓣 .C) #query-scan·close-page
-        → ent 𝓤 (onEntry 𝓤 H A f.signature (y .0 .0) (y .0 .1) (y .0 .3) (y .0 .4)) (WpFn 𝓤 H (𝓣 .C) (𝓣 .Λ) code.function (Walked f.ended params 𝓤 H A clauses .args y) (Walked f.ended params 𝓤 H A clauses .post y))
+    walk : (𝓣 : Tables 𝓤 H) → CitesScan 𝓤 H A mem run (𝓣 .C) → Cites 𝓤 H A cls.ended closing (𝓣 .C) cls.Symbol.name
+        → ent 𝓤 (onEntry 𝓤 H A f.signature (y .0 .0) (y .0 .1) (y .0 .3) (y .0 .4)) (WpFn 𝓤 H (𝓣 .C) (𝓣 .Λ) f.Code.function (Walked f.ended params 𝓤 H A clauses .args y) (Walked f.ended params 𝓤 H A clauses .post y))
     walk 𝓣 known-scan known-close =
         qed W (Tokens 𝓤 H A 4 (y .0 .0) (y .0 .1) ∷ ‵ (Owns p (fsep (u32 .own start (vint w32 start ∷ [])) (fsep (usize .own n (vint w64 n ∷ [])) (fsep (OwnConditions p) (fsep (OwnOut κ (out-at b o γ os) sz) ftrue))))) ∷ []) ∵
         tokens-off p ! $ move ! (1 ∷ []) $ split ! $ move ! (3 ∷ []) $ owns-off p ! $ move ! (2 ∷ []) $ fsplit ! $ drop ! $ fsplit ! $ drop ! $ fsplit ! $ move ! (3 ∷ 0 ∷ []) $ join ! $ move ! (2 ∷ 0 ∷ []) $ join ! $ move ! (1 ∷ []) $ fsplit ! $ keep ! (5 ∷ 2 ∷ 3 ∷ 0 ∷ []) $
-        enter ! (𝓣 .C) (𝓣 .Λ) code.function (Walked f.ended params 𝓤 H A clauses .args y) _ $
+        enter ! (𝓣 .C) (𝓣 .Λ) f.Code.function (Walked f.ended params 𝓤 H A clauses .args y) _ $
         alloc1 ! (λ l₀. alloc1 ! (λ l₁. alloc1 ! (λ l₂. alloc1 ! (λ l₃. alloc1 ! (λ l₄. alloc1 ! (λ l₅. alloc1 ! (λ l₆. alloc1 ! (λ l₇. alloc1 ! (λ l₈. alloc1 ! (λ l₉. alloc1 ! (λ l₁₀. alloc1 ! (λ l₁₁. alloc1 ! (λ l₁₂. alloc1 ! (λ l₁₃. alloc1 ! (λ l₁₄. alloc0 ! $ params1 ! $
         pass1 ! (init ! 26 refl (typed W headers (p .header) (is .0) .0)) $ pass1 ! (init ! 24 refl (fits (rooms .0 .0))) $ pass1 ! (init ! 22 refl (typed W heads (p .head) (is .1) .0)) $ pass1 ! (init ! 20 refl (fits (rooms .1 .0 .0))) $ pass1 ! (init ! 18 refl (tt, record { fits = start-fits })) $ pass1 ! (init ! 16 refl (tt, record { fits = n-fits })) $ pass1 ! (init ! 14 refl (fits (rooms .1 .1 .0))) $ pass1 ! (init ! 12 refl (fits (room .0))) $ pass0 ! $
         -- [_14; …; the tokens; what is lent as `&`; κ's token; what out owns]
@@ -83,7 +72,7 @@ module _ {M : Type 1} (𝓤 : URA M) (H : Heap 𝓤) (A : Atoms 𝓤) (W : Given
         calls cls.ended closing (to-close s ws) (λ t zs. PageClosed (subset p) s ws t (zs .1 .1 .1 .0)) (λ t zs. id⊢ 𝓤 _) ! (fmOf 𝓤 H (W .laws) 𝓣) known-close (arg ! 28 refl (arg ! 26 refl (arg ! 16 refl (arg ! 6 refl (no-more !))))) (λ w t zs e₂.
         move ! (2 ∷ []) $ fsplit ! $ drop ! $ fsplit ! $ drop ! $ fsplit ! $ drop ! $ fsplit ! $ fsplit ! $ move ! (1 ∷ []) $ feqL ! (λ l₂. move ! (3 ∷ []) $ peeks ! AT.the-row (Is AT.the-row) (shows 𝓤 H A AT.the-row) t (w ∷ []) (λ is-t.
         -- [the result; the last list; true; κ₁'s token and κ's; κ₂'s, κ₀'s; what ids, conditions and rows own; _14; …]
-        land ! (from ! (stop !)) (init ! 37 refl (EL.lawful AT.the-type AT′.the-laws 𝓤 H A W tt .typed t _ is-t .0)) $
+        land ! (from ! (stop !)) (init ! 37 refl (EL.lawful AT.the-type AT.Laws.the-laws 𝓤 H A W tt .typed t _ is-t .0)) $
         returns ! (look ! 37 refl) $ forget ! 9 refl $ forget ! 11 refl $ forget ! 13 refl $ forget ! 15 refl $ forget ! 17 refl $ forget ! 19 refl $ forget ! 21 refl $ forget ! 23 refl $ forget ! 25 refl $ forget ! 27 refl $ forget ! 29 refl $ forget ! 31 refl $ forget ! 33 refl $ forget ! 35 refl $ forget ! 37 refl $
         move ! (37 ∷ 38 ∷ []) $ free1 ! $ move ! (35 ∷ 36 ∷ []) $ free1 ! $ move ! (33 ∷ 34 ∷ []) $ free1 ! $ move ! (31 ∷ 32 ∷ []) $ free1 ! $ move ! (29 ∷ 30 ∷ []) $ free1 ! $ move ! (27 ∷ 28 ∷ []) $ free1 ! $ move ! (25 ∷ 26 ∷ []) $ free1 ! $ move ! (23 ∷ 24 ∷ []) $ free1 ! $ move ! (21 ∷ 22 ∷ []) $ free1 ! $ move ! (19 ∷ 20 ∷ []) $ free1 ! $ move ! (17 ∷ 18 ∷ []) $ free1 ! $ move ! (15 ∷ 16 ∷ []) $ free1 ! $ move ! (13 ∷ 14 ∷ []) $ free1 ! $ move ! (11 ∷ 12 ∷ []) $ free1 ! $ move ! (9 ∷ 10 ∷ []) $ free1 ! $ free0 ! $
         suffices ! _ (ends-at 𝓤 H A f.ended (stays (f.ended .signature .params) (f.ended .kept) params) clauses W y w t (tt, (tt, (tt, (tt, (tt, (tt, (tt, (zs .1 .1 .1 .0, tt)))))))) (tt, (tt, (tt, (tt, (tt, (tt, (tt, (l₂ ∙ l, tt))))))))) $
@@ -92,11 +81,11 @@ module _ {M : Type 1} (𝓤 : URA M) (H : Heap 𝓤) (A : Atoms 𝓤) (W : Given
         -- [the result; the last list; true; what ids, conditions and rows own]
         move ! (1 ∷ 2 ∷ []) $ fjoin ! $ move ! (3 ∷ 0 ∷ []) $ fjoin ! $ own ! (numbers w64) n (refl, n-fits) $ fjoin ! $ own ! (numbers w32) start (refl, start-fits) $ fjoin ! $ move ! (3 ∷ 2 ∷ 0 ∷ []) $ owns-on p ! is $ done !)))))))))))))))))))
 
-pub read-page-spec : {M : Type 1} → stated.statement M
-unfolding code.routine tablesOf
+pub read-page-spec : {M : Type 1} → f.Statement.statement M
+unfolding f.Code.routine tablesOf
 read-page-spec 𝓤 H 𝓜 𝓖 𝓡 =
-    walk-runs f.ended params 𝓤 H 𝓜 𝓖 𝓡 (f.clauses 𝓤 H (𝓖 .A) (𝓜 .mem) (𝓡 .run)) code.env #query·read-page code.function (code.unfolded 𝓤 H 𝓜 𝓡) (λ κs qs bounds a g are. via 𝓤 _ (fst∗ 𝓤 _ (emp 𝓤))
+    walk-runs f.ended params 𝓤 H 𝓜 𝓖 𝓡 (f.clauses 𝓤 H (𝓖 .A) (𝓜 .mem) (𝓡 .run)) f.Code.env f.Key.name f.Code.function (f.Code.unfolded 𝓤 H 𝓜 𝓡) (λ κs qs bounds a g are. via 𝓤 _ (fst∗ 𝓤 _ (emp 𝓤))
     (walk 𝓤 H (𝓖 .A) (givenOf 𝓤 H 𝓜 𝓖) (𝓜 .mem) (𝓡 .run) (lent-of κs qs a (a .1 .1 .1 .1 .1 .1 .0)) (a .1 .1 .1 .1 .0) (a .1 .1 .1 .1 .1 .0) (κs .1 .1 .1 .0) (qs .1 .1 .1 .0) (a .1 .1 .1 .1 .1 .1 .1 .0 .ptr .0) (a .1 .1 .1 .1 .1 .1 .1 .0 .ptr .1) (a .1 .1 .1 .1 .1 .1 .1 .0 .name) (a .1 .1 .1 .1 .1 .1 .1 .0 .now)
-    (are .0, are .1 .1 .0) (are .1 .0 .0 .1, (are .1 .1 .1 .0 .0 .1, are .1 .1 .1 .1 .1 .1 .0 .0 .1)) (are .1 .1 .1 .1 .0 .1) (are .1 .1 .1 .1 .1 .0 .1) (are .1 .1 .1 .1 .1 .1 .1 .0 .0 .1) (tablesOf 𝓤 H 𝓜 (tables 𝓤 H 𝓜 𝓡 code.env))
-    (cited 𝓤 H _ 𝓜 𝓡 code.env #query-loop·scan scan-def.routine code.calls-query-loop·scan (scan-thm.met 𝓤 H 𝓜 𝓖 𝓡))
-    (cited 𝓤 H _ 𝓜 𝓡 code.env #query-scan·close-page cls-def.routine code.calls-query-scan·close-page (cls-thm.met 𝓤 H 𝓜 𝓖 𝓡))))
+    (are .0, are .1 .1 .0) (are .1 .0 .0 .1, (are .1 .1 .1 .0 .0 .1, are .1 .1 .1 .1 .1 .1 .0 .0 .1)) (are .1 .1 .1 .1 .0 .1) (are .1 .1 .1 .1 .1 .0 .1) (are .1 .1 .1 .1 .1 .1 .1 .0 .0 .1) (tablesOf 𝓤 H 𝓜 (tables 𝓤 H 𝓜 𝓡 f.Code.env))
+    (cited 𝓤 H _ 𝓜 𝓡 f.Code.env #query-loop·scan scan-def.routine f.Code.calls-query-loop·scan (scan-thm.met 𝓤 H 𝓜 𝓖 𝓡))
+    (cited 𝓤 H _ 𝓜 𝓡 f.Code.env cls.Symbol.name cls.Symbol.routine f.Code.calls-query-scan·close-page (cls.Met.met 𝓤 H 𝓜 𝓖 𝓡))))

@@ -1,41 +1,21 @@
 -- `query::array::refine_first` meets its contract: a manual proof over its MIR. The array is copied to a local, whose first
 -- conditions are lent for a lifetime that the proof makes; out is given up to the query. Assumes nothing.
-use Rattle.query_loop.proofs.Prelude.{_≡_, refl, sym, ℕ, _≤_, List, [], _∷_, lit<, length, URA, fullShare, Ty, erased, imm, named, tyRef, w64, Val, vint, SProp, ent, id⊢, Lft, Share, GName, flft, fat, froom, Memory, Routine, Heap, Tables, WpFn, Atoms, Fun, givenOf, tables, tablesOf}
-use Rattle.query_loop.proofs.Prelude.{Given, ‵, raw, _⊛_, ⋆, some, later, _$_, _∵_, !, qed, move, keep, drop, group, use1, use2, split, join, pick, rewrite, fsplit, fjoin, feqL, suffices, frame, await, done, agg, whole, sub, look-in, look, init, forget, stop, hop, fld, from}
-use Rattle.query_loop.proofs.Prelude.{load, addr, of-opd, and-then, no-more, assigns, land, returns, enter, alloc1, alloc0, params1, pass1, pass0, free1, free0, lft-new, lft-end, fmOf, u32, usize, Is, shows, pointee, RattleType, RefT, now, sliceTy, sliceVal, Room, peeks, nothing, only, Clauses, onEntry, cited, says, needs, ends-at}
-use lib.ListN.{take}
-use lib.Seq.{length-take-le}
-use native.Mathlib.Omega.{arith}
-use package.mir.Syntax.{tyArray}
-use denote.Array.{Array, array-vals, array-tells, array-lawful, array-makes}
-use denote.Memory.{lone}
-use denote.RattleType.{owns}
-use denote.Signature.{typesAt}
+use Rattle.query_loop.proofs.Prelude.{_≡_, refl, sym, ℕ, _≤_, List, [], _∷_, lit<, length, URA, fullShare, Ty, erased, imm, named, tyRef, w64, Val, vint, SProp, ent, id⊢, Lft, Share, GName, flft, fat, froom, Memory, Routine, Heap, Tables, WpFn, Atoms, Fun, givenOf, tables, tablesOf, Given, ‵, raw}
+use Rattle.query_loop.proofs.Prelude.{_⊛_, ⋆, some, later, _$_, _∵_, !, qed, move, keep, drop, group, use1, use2, split, join, pick, rewrite, fsplit, fjoin, feqL, suffices, frame, await, done, agg, whole, sub, look-in, look, init, forget, stop, hop, fld, from, load, addr, of-opd, and-then, no-more}
+use Rattle.query_loop.proofs.Prelude.{assigns, land, returns, enter, alloc1, alloc0, params1, pass1, pass0, free1, free0, lft-new, lft-end, fmOf, u32, usize, Is, shows, pointee, RattleType, RefT, now, sliceTy, sliceVal, Room, peeks, nothing, only, Clauses, onEntry, cited, says, needs, ends-at, take}
+use Rattle.query_loop.proofs.Prelude.{length-take-le, arith, tyArray, Array, array-vals, array-tells, array-lawful, array-makes, lone, owns, typesAt, Constraint, SubsetHead, subsetOf, Header, RefinedList}
 use denote.Enum.Laws as EL
 use denote.Struct.Laws as LL
-use Rattle.constraints.specs.declared.Constraint.{Constraint}
 use Rattle.constraints.proofs.Constraint as CT
-use Rattle.constraints.proofs.Constraint.Laws as CT′
-use Rattle.offsets.specs.declared.SubsetHead.{SubsetHead}
-use Rattle.offsets.specs.Answers.{subsetOf}
 use Rattle.offsets.proofs.SubsetAnswer as AT
-use Rattle.offsets.proofs.SubsetAnswer.Laws as AT′
 use Rattle.offsets.proofs.SubsetHead as DT
-use Rattle.table.specs.declared.Header.{Header}
 use Rattle.table.proofs.Header as HT
-use Rattle.query_spec.specs.Queries.{RefinedList}
 use Rattle.query_loop.proofs.Lent.{Lent, OwnOut, Ranged, Slices, Tokens₃, fits, head-val, header-val, headers, heads, lifetimes, numbers, owns-off, owns-on, shares, slice-val, slices-on, slices-twice, together, tokens-off, tokens-on}
 use Rattle.query_loop.proofs.Walking.{AllPassed, Callee, Cites, Tokens, Value, Walked, arg, by-value, calls, given-slice, lent-slice, own, stays, typed, walk-runs}
 use Rattle.query.proofs.refine_ref as callee
-use Rattle.query.proofs.refine_ref.Symbol as callee-def
-use Rattle.query.proofs.refine_ref.Symbol.{name as #query·refine-ref}
-use Rattle.query.proofs.refine_ref.Met as callee-thm
 use Rattle.query_loop.proofs.LentArray.{Kept, lends-front, front-back}
 use Rattle.query_loop.proofs.LentArray.{Lent as LentFront}
-use Rattle.query.proofs.array.refine_first.Key.{name as #query·array·refine-first}
 use Rattle.query.proofs.array.refine_first as f
-use Rattle.query.proofs.array.refine_first.Statement as stated
-use Rattle.query.proofs.array.refine_first.Code as code
 
 -- the array's type, and that of the local that holds the slice of its first conditions
 abbrev Arr : RattleType
@@ -45,10 +25,10 @@ abbrev FrontTy : Ty
 FrontTy = sliceTy (tyRef erased imm (pointee (CT.the-row .written)))
 
 abbrev vals : List Constraint → List Val
-vals = array-vals (LL.vals CT.the-type CT′.the-laws)
+vals = array-vals (LL.vals CT.the-type CT.Laws.the-laws)
 
 abbrev arrays : Value
-arrays = record { row = Arr; val = λ cs. only (vals cs); tells = array-tells CT.the-row (LL.vals CT.the-type CT′.the-laws) (LL.tells CT.the-type CT′.the-laws) 16; silent = λ x f. refl; makes = λ 𝓤 H A W. array-makes 𝓤 H A W CT.the-row (LL.makes CT.the-type CT′.the-plain 𝓤 H A) 16; lawful = λ 𝓤 H A W. array-lawful 𝓤 H A W CT.the-row (LL.lawful CT.the-type CT′.the-laws 𝓤 H A W) 16 }
+arrays = record { row = Arr; val = λ cs. only (vals cs); tells = array-tells CT.the-row (LL.vals CT.the-type CT.Laws.the-laws) (LL.tells CT.the-type CT.Laws.the-laws) 16; silent = λ x f. refl; makes = λ 𝓤 H A W. array-makes 𝓤 H A W CT.the-row (LL.makes CT.the-type CT.Laws.the-plain 𝓤 H A) 16; lawful = λ 𝓤 H A W. array-lawful 𝓤 H A W CT.the-row (LL.lawful CT.the-type CT.Laws.the-laws 𝓤 H A W) 16 }
 
 abbrev params : AllPassed (f.ended .signature .params) (f.ended .kept)
 params = (by-value headers, (lent-slice u32 0 tt, (by-value heads, (lent-slice u32 1 tt, (by-value arrays, (by-value (numbers w64), (given-slice u32 2 tt, tt)))))))
@@ -85,11 +65,11 @@ module _ {M : Type 1} (𝓤 : URA M) (H : Heap 𝓤) (A : Atoms 𝓤) (W : Given
     counted : length (take k cs) ≡ k
     counted = length-take-le k cs (omega (arith, long, can))
 
-    walk : (𝓣 : Tables 𝓤 H) → Cites 𝓤 H A callee.ended callee-clauses (𝓣 .C) #query·refine-ref → Room u32 (length (now rows)) → Room u32 (length (now ids)) → Room u32 (length (now z))
-        → ent 𝓤 (onEntry 𝓤 H A f.signature (y .0 .0) (y .0 .1) (y .0 .3) (y .0 .4)) (WpFn 𝓤 H (𝓣 .C) (𝓣 .Λ) code.function (Walked f.ended params 𝓤 H A clauses .args y) (Walked f.ended params 𝓤 H A clauses .post y))
+    walk : (𝓣 : Tables 𝓤 H) → Cites 𝓤 H A callee.ended callee-clauses (𝓣 .C) callee.Symbol.name → Room u32 (length (now rows)) → Room u32 (length (now ids)) → Room u32 (length (now z))
+        → ent 𝓤 (onEntry 𝓤 H A f.signature (y .0 .0) (y .0 .1) (y .0 .3) (y .0 .4)) (WpFn 𝓤 H (𝓣 .C) (𝓣 .Λ) f.Code.function (Walked f.ended params 𝓤 H A clauses .args y) (Walked f.ended params 𝓤 H A clauses .post y))
     walk 𝓣 known room-rows room-ids room =
         let wt = typed W arrays cs is-c .0 in
-        qed W (Tokens 𝓤 H A 3 (y .0 .0) (y .0 .1) ∷ ‵ (owns (typesAt (f.signature .params) (y .0 .0)) (y .0 .3) (y .0 .4)) ∷ []) ∵ enter ! (𝓣 .C) (𝓣 .Λ) code.function (Walked f.ended params 𝓤 H A clauses .args y) _ $
+        qed W (Tokens 𝓤 H A 3 (y .0 .0) (y .0 .1) ∷ ‵ (owns (typesAt (f.signature .params) (y .0 .0)) (y .0 .3) (y .0 .4)) ∷ []) ∵ enter ! (𝓣 .C) (𝓣 .Λ) f.Code.function (Walked f.ended params 𝓤 H A clauses .args y) _ $
         alloc1 ! (λ l₀. alloc1 ! (λ l₁. alloc1 ! (λ l₂. alloc1 ! (λ l₃. alloc1 ! (λ l₄. alloc1 ! (λ l₅. alloc1 ! (λ l₆. alloc1 ! (λ l₇. alloc1 ! (λ l₈. alloc1 ! (λ l₉. alloc1 ! (λ l₁₀. alloc1 ! (λ l₁₁. alloc1 ! (λ l₁₂. alloc0 ! $ params1 ! $
         pass1 ! (init ! 22 refl (typed W headers h (is .0) .0)) $ pass1 ! (init ! 20 refl (fits (room-rows .0))) $ pass1 ! (init ! 18 refl (typed W heads head (is .1) .0)) $ pass1 ! (init ! 16 refl (fits (room-ids .0))) $ pass1 ! (init ! 14 refl wt) $ pass1 ! (init ! 12 refl (tt, record { fits = is-k .1 })) $ pass1 ! (init ! 10 refl (fits (room .0))) $ pass0 ! $
         -- the array is copied, the slice of its first conditions made, and out lent on
@@ -109,7 +89,7 @@ module _ {M : Type 1} (𝓤 : URA M) (H : Heap 𝓤) (A : Atoms 𝓤) (W : Given
         calls callee.ended callee-clauses (to (p ν l₈ γ)) (λ r zs. RefinedList h (now rows) (subsetOf head (now ids)) (take k cs) (now z) r (zs .1 .1 .1 .1 .1 .0)) (λ r zs. id⊢ 𝓤 _) ! (fmOf 𝓤 H (W .laws) 𝓣) known (arg ! 26 refl (arg ! 24 refl (arg ! 22 refl (arg ! 20 refl (arg ! 9 refl (arg ! 5 refl (no-more !))))))) (λ w r zs e.
         move ! (2 ∷ []) $ fsplit ! $ drop ! $ fsplit ! $ drop ! $ fsplit ! $ drop ! $ fsplit ! $ drop ! $ fsplit ! $ drop ! $ fsplit ! $ fsplit ! $ move ! (1 ∷ []) $ feqL ! (λ l. move ! (3 ∷ []) $ peeks ! AT.the-row (Is AT.the-row) (shows 𝓤 H A AT.the-row) r (w ∷ []) (λ is-r.
         -- [the result; the last list; true; the tokens; true; what is lent as `&`; true; what is kept; _12; …]
-        land ! (from ! (stop !)) (init ! 31 refl (EL.lawful AT.the-type AT′.the-laws 𝓤 H A W tt .typed r _ is-r .0)) $
+        land ! (from ! (stop !)) (init ! 31 refl (EL.lawful AT.the-type AT.Laws.the-laws 𝓤 H A W tt .typed r _ is-r .0)) $
         -- the lifetime is ended, and the memory of the array's local is free again
         move ! (3 ∷ []) $ tokens-off (p ν l₈ γ) ! $ split ! $ move ! (1 ∷ []) $ split ! $ move ! (1 ∷ []) $ lft-end ! tt $
         move ! (0 ∷ 10 ∷ []) $ use2 W (later (‵ (froom (tyArray (lone (CT.the-row .mir)) 16) l₈ 0))) (front-back CT.the-row k l₈ cs 𝓤 H A W 16 (ν ∷ []) long) $ await ! tt $
@@ -122,10 +102,10 @@ module _ {M : Type 1} (𝓤 : URA M) (H : Heap 𝓤) (A : Atoms 𝓤) (W : Given
         move ! (1 ∷ 2 ∷ []) $ fjoin ! $ own ! (numbers w64) k is-k $ fjoin ! $ own ! arrays cs is-c $ fjoin ! $
         move ! (3 ∷ []) $ split ! $ move ! (1 ∷ []) $ split ! $ keep ! (2 ∷ 0 ∷ 3 ∷ 4 ∷ []) $ owns-on (p ν l₈ γ) ! is $ done !))))))))))))))))))
 
-pub refine-first-spec : {M : Type 1} → stated.statement M
-unfolding code.routine tablesOf
+pub refine-first-spec : {M : Type 1} → f.Statement.statement M
+unfolding f.Code.routine tablesOf
 refine-first-spec 𝓤 H 𝓜 𝓖 𝓡 =
-    walk-runs f.ended params 𝓤 H 𝓜 𝓖 𝓡 (f.clauses 𝓤 H (𝓖 .A) (𝓜 .mem) (𝓡 .run)) code.env #query·array·refine-first code.function (code.unfolded 𝓤 H 𝓜 𝓡) (λ κs qs bounds a g are. needs 𝓤 (a .1 .1 .1 .1 .1 .0 ≤ 16) _ (λ can.
+    walk-runs f.ended params 𝓤 H 𝓜 𝓖 𝓡 (f.clauses 𝓤 H (𝓖 .A) (𝓜 .mem) (𝓡 .run)) f.Code.env f.Key.name f.Code.function (f.Code.unfolded 𝓤 H 𝓜 𝓡) (λ κs qs bounds a g are. needs 𝓤 (a .1 .1 .1 .1 .1 .0 ≤ 16) _ (λ can.
     walk 𝓤 H (𝓖 .A) (givenOf 𝓤 H 𝓜 𝓖) (𝓜 .mem) (𝓡 .run) (κs .0) (κs .1 .0) (κs .1 .1 .0) (qs .0) (qs .1 .0) (qs .1 .1 .0) (a .0) (a .1 .0) (a .1 .1 .0) (a .1 .1 .1 .0) (a .1 .1 .1 .1 .0) (a .1 .1 .1 .1 .1 .0) (a .1 .1 .1 .1 .1 .1 .0)
-    (are .0, are .1 .1 .0) (are .1 .1 .1 .1 .0) (are .1 .1 .1 .1 .1 .0) can (tablesOf 𝓤 H 𝓜 (tables 𝓤 H 𝓜 𝓡 code.env))
-    (cited 𝓤 H _ 𝓜 𝓡 code.env #query·refine-ref callee-def.routine code.calls-query·refine-ref (callee-thm.met 𝓤 H 𝓜 𝓖 𝓡)) (are .1 .0 .0 .1) (are .1 .1 .1 .0 .0 .1) (are .1 .1 .1 .1 .1 .1 .0 .0 .1)))
+    (are .0, are .1 .1 .0) (are .1 .1 .1 .1 .0) (are .1 .1 .1 .1 .1 .0) can (tablesOf 𝓤 H 𝓜 (tables 𝓤 H 𝓜 𝓡 f.Code.env))
+    (cited 𝓤 H _ 𝓜 𝓡 f.Code.env callee.Symbol.name callee.Symbol.routine f.Code.calls-query·refine-ref (callee.Met.met 𝓤 H 𝓜 𝓖 𝓡)) (are .1 .0 .0 .1) (are .1 .1 .1 .0 .0 .1) (are .1 .1 .1 .1 .1 .1 .0 .0 .1)))
