@@ -1,4 +1,5 @@
+pub mod Arrays
 pub mod BorrowedSteps
 pub mod Locals
+pub mod Prelude
 pub mod Walking
-pub mod Arrays
