@@ -1,13 +1,7 @@
 -- The lowest wrong number is where two rising lists first part. Assumes nothing.
-use Prim.Native.Nat.{ℕ, _≤_, _<_, min}
-use mathlib.Core.Path.{_≡_, refl, sym, ap, ap₂, _∙_}
-use mathlib.Core.Bool.{Bool, true, false, not, false≢true}
-use mathlib.Core.List.{List, [], _∷_}
+use Rattle.listing_check.proofs.Prelude.{ℕ, _≤_, _<_, min, _≡_, refl, sym, ap, ap₂, _∙_, Bool, true, false, not, false≢true, List, [], _∷_, decLt, ℕ-discrete, arith, eq-eqb, ne-eqb}
 use mathlib.Core.Option.{Option, none, some}
-use native.Mathlib.Decide.{decLt, ℕ-discrete}
 use native.Mathlib.Nat.{min-eq-left, min-eq-right}
-use native.Mathlib.Omega.{arith}
-use borrow.Author.Tests.{eq-eqb, ne-eqb}
 use Rattle.lists.specs.Lists.{above, rising, elem}
 use Rattle.lists.specs.Laws.Rising.{above-elem, above-rising, elem-here, elem-there, rising-ext}
 use Rattle.listing_check.specs.Answers.{wrongNumbers, lowest}

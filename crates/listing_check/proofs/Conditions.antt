@@ -1,11 +1,6 @@
 -- A row's cells in an array of eight, tested as the first row of a store. Assumes nothing.
-use Prim.Native.Nat.{ℕ, _≤_}
-use mathlib.Core.Path.{_≡_, ap, _∙_}
-use mathlib.Core.List.{List}
+use Rattle.listing_check.proofs.Prelude.{ℕ, _≤_, _≡_, ap, _∙_, List, arith, length, take, take-all}
 use native.Mathlib.Nat.{zero-mul}
-use native.Mathlib.Omega.{arith}
-use lib.ListN.{length, take}
-use lib.Seq.{take-all}
 use Rattle.lists.specs.Laws.Rows.{rowAt-zero}
 use Rattle.constraints.specs.declared.Constraint.{Constraint}
 use Rattle.constraints.specs.Constraints.{meets}

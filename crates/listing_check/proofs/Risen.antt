@@ -1,10 +1,5 @@
 -- Numbers that rise up to a place: the loop of `first_misplaced`. Assumes nothing.
-use Prim.Native.Nat.{ℕ, _+_, _-_, _≤_, _<_}
-use mathlib.Core.Path.{_≡_}
-use mathlib.Core.List.{List}
-use native.Mathlib.Decide.{decLt}
-use native.Mathlib.Omega.{arith}
-use lib.ListN.{length, getD}
+use Rattle.listing_check.proofs.Prelude.{ℕ, _+_, _-_, _≤_, _<_, _≡_, List, decLt, arith, length, getD}
 use Rattle.lists.specs.Laws.Rising.{rising-of}
 use Rattle.listing_check.specs.inner.Scanning.{MisplacedAt}
 use Rattle.listing_check.specs.Laws.Numbers.{misplaced-rising, misplaced-at}

@@ -1,14 +1,7 @@
 -- A D line that is read: what `row_at` finds. Assumes nothing.
-use Prim.Native.Nat.{ℕ, suc, _+_, _-_, _≤_, _<_}
-use mathlib.Core.Path.{_≡_, refl, sym, ap, subst, _∙_}
+use Rattle.listing_check.proofs.Prelude.{ℕ, suc, _+_, _-_, _≤_, _<_, _≡_, refl, sym, ap, subst, _∙_, true, List, [], _∷_, arith, leb-true, le-leb, length, take, drop, getD, length-drop, length-take-le}
 use mathlib.Core.Logic.{inl, inr}
-use mathlib.Core.Bool.{true}
-use mathlib.Core.List.{List, [], _∷_}
-use native.Mathlib.Omega.{arith}
 use lib.Dec.{leb}
-use lib.ListN.{length, take, drop, getD, length-drop}
-use lib.Seq.{length-take-le}
-use borrow.Author.Tests.{leb-true, le-leb}
 use Rattle.lists.specs.Lists.{splice, above, rising}
 use Rattle.lists.specs.Laws.All.{all-head}
 use Rattle.lists.specs.Laws.Filter.{and-right}

@@ -1,16 +1,8 @@
 -- The transitions of the scan: its start, one row processed, and its final state. Assumes nothing.
-use Prim.Native.Nat.{ℕ, suc, _+_, _-_, _≤_, _<_}
-use mathlib.Core.Path.{_≡_, refl, sym, ap, _∙_}
-use mathlib.Core.Bool.{Bool, true, false, cond, not, Bool·beq, false≢true}
-use mathlib.Core.List.{List, [], _∷_}
+use Rattle.listing_check.proofs.Prelude.{ℕ, suc, _+_, _-_, _≤_, _<_, _≡_, refl, sym, ap, _∙_, Bool, true, false, cond, not, Bool·beq, false≢true, List, [], _∷_, decLt, ℕ-discrete, arith, lt-ltb, le-ltb, eq-eqb, ne-eqb, eqb-true, length, take, drop, getD, drop-of-length-le, List·getD-eq-default, drop-cons}
 use mathlib.Core.Option.{Option, none, some}
 use native.Mathlib.Numerals.{add-one}
-use native.Mathlib.Decide.{decLt, ℕ-discrete}
-use native.Mathlib.Omega.{arith}
 use lib.Dec.{eqb}
-use lib.ListN.{length, take, drop, getD, drop-of-length-le, List·getD-eq-default}
-use lib.Seq.{drop-cons}
-use borrow.Author.Tests.{lt-ltb, le-ltb, eq-eqb, ne-eqb, eqb-true}
 use Rattle.lists.specs.Lists.{filter, all, above}
 use Rattle.lists.specs.Laws.Rising.{above-head, above-cons, above-weaker}
 use Rattle.refusals.specs.Refusals.{firstRefusal, accepted, reply}

@@ -1,7 +1,5 @@
 -- `listing_check::begin` meets its contract. Assumes nothing.
-use mathlib.Core.Path.{sym, _∙_}
-use borrow.Author.Needs.{needs}
-use borrow.Author.Tests.{not-true, not-false}
+use Rattle.listing_check.proofs.Prelude.{sym, _∙_, not-true, not-false, needs}
 use Rattle.listing_check.proofs.Steps.{settle, no-listing, unknown, out-of-place, begin}
 use Rattle.listing_check.proofs.begin.Statement.{statement}
 use Rattle.listing_check.proofs.begin.Tie as tie

@@ -3,15 +3,12 @@
 use Rattle.query_loop.proofs.Prelude.{_≡_, refl, sym, ap, subst, _∙_, ℕ, _<_, _≤_, Bool, true, false, List, [], _∷_, ltb, length, URA, fullShare, named, tyBool, w32, w64, Val, vbool, vint, SProp, ent, emp, id⊢, via, fst∗, Lft, Share, Fml, ftrue, fsep, flft, fat, Memory, Routine, Heap, Env, Tables, Wp, WpFn, afterBlock, afterSeq}
 use Rattle.query_loop.proofs.Prelude.{atReturn, afterTurn, Atoms, Fun, givenOf, tables, tablesOf, Given, Item, Sq, anyQ, atRet, runs, ‵, raw, ⋆, _$_, _∵_, !, qed, move, drop, group, use1, split, join, rewrite, fsplit, fjoin, suffices, frame, done, agg, whole, sub, look-in, Below, look, store, init, forget, stop, fld, from}
 use Rattle.query_loop.proofs.Prelude.{load, lit, bin, and-then, no-more, assigns, land, again, blocks, exec, first, leaves-loop, loops, goes-on, returns, enter, alloc1, alloc0, params1, pass1, pass0, free1, free0, fmOf, u32, bool, Is, bool-makes, RefT, now, ShrSlice, Room, owned, nothing, Clauses, onEntry, cited, says, ends-at}
-use Prim.Native.Nat.{_-_}
-use mathlib.Core.List.{map, map-id}
+use Rattle.listing_check.proofs.Prelude.{_-_, map, map-id, le-ltb, lt-ltb, ltb-false, ltb-true, take}
 use mathlib.Core.WellFounded.{InvImage·wf}
-use lib.ListN.{take}
 use lib.WfN.{Nat·lt-wfRel}
 use ghost.Atoms.{sem}
 use types.Kit as Kit
 use types.Run.{land-last, true-lit}
-use borrow.Author.Tests.{le-ltb, lt-ltb, ltb-false, ltb-true}
 use denote.Builtin.{u8}
 use denote.Enum.Laws as EL
 use denote.Struct.Laws as LL

@@ -1,9 +1,6 @@
 -- `listing_check::first_misplaced` meets its contract. Assumes nothing.
-use Prim.Native.Nat.{_-_, _≤_}
-use native.Mathlib.Omega.{arith}
-use lib.ListN.{length}
+use Rattle.listing_check.proofs.Prelude.{_-_, _≤_, arith, length, needs}
 use Rattle.listing_check.proofs.Risen.{Risen, risen-more, risen-not, risen-end}
-use borrow.Author.Needs.{needs}
 use Rattle.listing_check.proofs.first_misplaced.Statement.{statement}
 use Rattle.listing_check.proofs.first_misplaced.Tie as tie
 

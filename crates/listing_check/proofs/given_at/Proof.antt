@@ -1,8 +1,5 @@
 -- `listing_check::given_at` meets its contract. Assumes nothing.
-use mathlib.Core.Path.{sym}
-use native.Mathlib.Omega.{arith}
-use lib.ListN.{List·getD-eq-default}
-use borrow.Author.Needs.{needs}
+use Rattle.listing_check.proofs.Prelude.{sym, arith, List·getD-eq-default, needs}
 use Rattle.listing_check.proofs.Steps.{getD-there}
 use Rattle.listing_check.proofs.given_at.Statement.{statement}
 use Rattle.listing_check.proofs.given_at.Tie as tie

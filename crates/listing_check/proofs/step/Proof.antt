@@ -1,8 +1,6 @@
 -- `listing_check::step` meets its contract. Assumes nothing.
-use native.Mathlib.Omega.{arith}
-use borrow.Author.Tests.{eqb-true}
+use Rattle.listing_check.proofs.Prelude.{arith, eqb-true, needs}
 use Rattle.listing_check.proofs.Steps.{is-left, step-given, step-row, step-on, step-past}
-use borrow.Author.Needs.{needs}
 use Rattle.listing_check.proofs.step.Statement.{statement}
 use Rattle.listing_check.proofs.step.Tie as tie
 
