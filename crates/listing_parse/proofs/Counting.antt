@@ -1,13 +1,7 @@
 -- The ways through `count_rows`: what is to come from a place is what was to come from the start. Assumes nothing.
-use Prim.Native.Nat.{ℕ, _+_, _-_, _≤_, _<_}
-use mathlib.Core.Path.{_≡_, refl, ap, _∙_}
+use Rattle.listing_parse.proofs.Prelude.{ℕ, _+_, _-_, _≤_, _<_, _≡_, refl, ap, _∙_, Bool, false, List, [], _∷_, arith, length, drop, getD, length-drop, drop-of-length-le, ne-eqb, lt-ltb}
 use mathlib.Core.Logic.{inl, inr}
-use mathlib.Core.Bool.{Bool, false}
-use mathlib.Core.List.{List, [], _∷_}
 use native.Mathlib.Numerals.{add-one}
-use native.Mathlib.Omega.{arith}
-use lib.ListN.{length, drop, getD, length-drop, drop-of-length-le}
-use borrow.Author.Tests.{ne-eqb, lt-ltb}
 use Rattle.lists.specs.Laws.Filter.{split}
 use Rattle.listing_spec.specs.inner.Checking.{pieces, isNil, rowsGood, linesToRows}
 use Rattle.listing_spec.specs.Laws.Pieces.{joined, joined-pieces}

@@ -1,13 +1,5 @@
 -- The ways through `line_end` and `line_at`. Assumes nothing.
-use Prim.Native.Nat.{ℕ, suc, _+_, _-_, _≤_, _<_}
-use mathlib.Core.Path.{_≡_, refl, sym, ap, _∙_}
-use mathlib.Core.Bool.{false, _&&_, _||_, and-false}
-use mathlib.Core.List.{List, [], _∷_, _++_}
-use native.Mathlib.Omega.{arith}
-use lib.Dec.{eqb}
-use lib.ListN.{length, take, drop, getD, length-drop}
-use lib.Seq.{take-suc, split-at, drop-drop, getD-drop, take-all}
-use borrow.Author.Tests.{ne-eqb, eq-eqb}
+use Rattle.listing_parse.proofs.Prelude.{ℕ, suc, _+_, _-_, _≤_, _<_, _≡_, refl, sym, ap, _∙_, false, _&&_, _||_, and-false, List, [], _∷_, _++_, arith, length, take, drop, getD, length-drop, ne-eqb, eq-eqb, eqb, take-suc, split-at, drop-drop, getD-drop, take-all}
 use Rattle.lists.specs.Lists.{splice, elem}
 use Rattle.lists.specs.Laws.Rising.{elem-append}
 use Rattle.lists.specs.Laws.Search.{take-put}

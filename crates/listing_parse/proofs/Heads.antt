@@ -1,14 +1,6 @@
 -- The ways through `keeps_bounds`, `head_at` and `scan_text`. Assumes nothing.
-use Prim.Native.Nat.{ℕ, _≤_, _<_}
-use mathlib.Core.Path.{_≡_, refl, sym, ap, _∙_}
-use mathlib.Core.Bool.{Bool, true, false, cond, not, _&&_, and-false, false≢true}
-use mathlib.Core.List.{List, [], _∷_}
+use Rattle.listing_parse.proofs.Prelude.{ℕ, _≤_, _<_, _≡_, refl, sym, ap, _∙_, Bool, true, false, cond, not, _&&_, and-false, false≢true, List, [], _∷_, arith, length, take, drop, getD, List·getD-eq-default, eq-eqb, ne-eqb, le-leb, lt-leb, lt-ltb, le-ltb, leb, eqb, getD-take, length-take-le, take-suc}
 use native.Mathlib.Decide.{ℕ-discrete}
-use native.Mathlib.Omega.{arith}
-use lib.Dec.{leb, eqb}
-use lib.ListN.{length, take, drop, getD, List·getD-eq-default}
-use lib.Seq.{getD-take, length-take-le, take-suc}
-use borrow.Author.Tests.{eq-eqb, ne-eqb, le-leb, lt-leb, lt-ltb, le-ltb}
 use Rattle.listing_spec.specs.Listings.{headLetter, headWidth, keepsBounds, isHead}
 use Rattle.listing_spec.specs.inner.Checking.{pieces, begins, rowsGood, linesToRows, piecesGood, listingOf, textGood, listingIn}
 use Rattle.listing_spec.specs.Laws.Texts.{bounds-columns}

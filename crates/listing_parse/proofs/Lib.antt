@@ -1,3 +1,4 @@
+mod Prelude
 pub mod Ends
 pub mod Rows
 pub mod Counting

@@ -1,13 +1,5 @@
 -- The ways through `row_at` and `row_fits`. Assumes nothing.
-use Prim.Native.Nat.{ℕ, suc, _+_, _-_, _≤_, _<_}
-use mathlib.Core.Path.{_≡_, sym, ap, _∙_}
-use mathlib.Core.Bool.{Bool, true, false, not, _&&_, and-true, and-false}
-use mathlib.Core.List.{List, _∷_}
-use native.Mathlib.Omega.{arith}
-use lib.Dec.{ltb, eqb}
-use lib.ListN.{length, take, drop, getD, length-drop}
-use lib.Seq.{getD-take}
-use borrow.Author.Tests.{ne-eqb, eq-eqb, le-leb, lt-leb}
+use Rattle.listing_parse.proofs.Prelude.{ℕ, suc, _+_, _-_, _≤_, _<_, _≡_, sym, ap, _∙_, Bool, true, false, not, _&&_, and-true, and-false, List, _∷_, arith, length, take, drop, getD, length-drop, ne-eqb, eq-eqb, le-leb, lt-leb, ltb, eqb, getD-take}
 use Rattle.levels_text.specs.Lines.{numbers}
 use Rattle.listing_spec.specs.Listings.{prefixWidth}
 use Rattle.listing_spec.specs.inner.Checking.{pieces, begins, rowFits, rowsGood}

@@ -1,9 +1,6 @@
 -- `listing_parse::count_rows` meets its contract. Assumes nothing.
-use Prim.Native.Nat.{_-_}
-use native.Mathlib.Omega.{arith}
-use lib.ListN.{length}
+use Rattle.listing_parse.proofs.Prelude.{_-_, arith, length, needs}
 use Rattle.listing_parse.proofs.Counting.{Counting, counting-begin, counting-full, counting-wrong, counting-more, counting-end}
-use borrow.Author.Needs.{needs}
 use Rattle.listing_parse.proofs.count_rows.Statement.{statement}
 use Rattle.listing_parse.proofs.count_rows.Tie as tie
 

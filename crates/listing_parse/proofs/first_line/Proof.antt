@@ -4,16 +4,11 @@ use borrow.Author.Needs.{needs}
 use Rattle.listing_parse.proofs.first_line.Statement.{statement}
 use Rattle.listing_parse.proofs.first_line.Tie as tie
 
-returns : tie.Need-returns
-unfolding headLetter headWidth
-returns c = rw (c .before .before .before .before .if1 .taken) (c .before .before .line-at .ensures)
-
-returns-2 : tie.Need-returns-2
-unfolding headLetter headWidth
-returns-2 c = rw (c .before .before .before .before .if1 .left) (c .before .before .line-at2 .ensures)
-
 pub first-line-spec : {M : Type 1} → statement M
+unfolding headLetter headWidth
 first-line-spec =
     tie.close
     (tie.spec
-    (λ c κs. search needs) (λ c. search needs) returns (λ c κs. search needs) (λ c. search needs) returns-2)
+    (λ c κs. search needs) (λ c. search needs)
+    (λ c. rw (c .before .before .before .before .if1 .taken) (c .before .before .line-at .ensures)) (λ c κs. search needs)
+    (λ c. search needs) (λ c. rw (c .before .before .before .before .if1 .left) (c .before .before .line-at2 .ensures)))

@@ -1,8 +1,6 @@
 -- `listing_parse::line_end` meets its contract. Assumes nothing.
-use Prim.Native.Nat.{_-_}
-use lib.ListN.{length}
+use Rattle.listing_parse.proofs.Prelude.{_-_, length, needs}
 use Rattle.listing_parse.proofs.Ends.{Clean, clean-begin, clean-more, ended-newline, ended-text}
-use borrow.Author.Needs.{needs}
 use Rattle.listing_parse.proofs.line_end.Statement.{statement}
 use Rattle.listing_parse.proofs.line_end.Tie as tie
 

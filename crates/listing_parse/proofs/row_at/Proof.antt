@@ -1,8 +1,6 @@
 -- `listing_parse::row_at` meets its contract. Assumes nothing.
-use native.Mathlib.Omega.{arith}
-use lib.ListN.{length-take}
+use Rattle.listing_parse.proofs.Prelude.{arith, length-take, needs}
 use Rattle.listing_parse.proofs.Rows.{row-no-line, row-unfit, row-found, lead-below}
-use borrow.Author.Needs.{needs}
 use Rattle.listing_parse.proofs.row_at.Statement.{statement}
 use Rattle.listing_parse.proofs.row_at.Tie as tie
 

@@ -1,8 +1,6 @@
 -- `listing_parse::scan_text` meets its contract. Assumes nothing.
-use mathlib.Core.Path.{refl}
-use native.Mathlib.Omega.{arith}
+use Rattle.listing_parse.proofs.Prelude.{refl, arith, needs}
 use Rattle.listing_parse.proofs.Heads.{surveyed-none, surveyed}
-use borrow.Author.Needs.{needs}
 use Rattle.listing_parse.proofs.scan_text.Statement.{statement}
 use Rattle.listing_parse.proofs.scan_text.Tie as tie
 
