@@ -1,3 +1,4 @@
+mod Prelude
 pub mod TableRule
 pub mod Slices
 pub mod Words

@@ -1,9 +1,5 @@
 -- The steps of a word as the sum of its bytes' entries, and the register after one word and two. Assumes nothing.
-use Prim.Native.Nat.{ℕ, _+_, _*_, _/_, _%_, _^_, _<_}
-use mathlib.Core.Path.{_≡_, sym, ap, _∙_}
-use mathlib.Core.List.{foldl}
-use native.Mathlib.Omega.{arith}
-use lib.Bits.{bitXor}
+use Rattle.crc32.proofs.Prelude.{ℕ, _+_, _*_, _/_, _%_, _^_, _<_, _≡_, sym, ap, _∙_, foldl, arith, bitXor}
 use Rattle.crc32.specs.Crc.{bitSteps, byteStep, wordBytes}
 use Rattle.crc32.specs.Laws.Xor.{xor-assoc}
 use Rattle.crc32.specs.Laws.Steps.{steps-xor, steps-add}

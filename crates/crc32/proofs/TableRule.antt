@@ -1,12 +1,7 @@
 -- The tables computed from the steps of powers of two, and their rule. Assumes nothing.
-use Prim.Native.Nat.{ℕ, zero, suc, _+_, _*_, _/_, _%_, _^_, _<_}
-use mathlib.Core.Path.{_≡_, refl, sym, ap, _∙_, subst}
+use Rattle.crc32.proofs.Prelude.{ℕ, zero, suc, _+_, _*_, _/_, _%_, _^_, _<_, _≡_, refl, sym, ap, _∙_, subst, List, [], _∷_, _++_, arith, bitXor, xor-shifted, length, getD, List·getD-append}
 use mathlib.Core.Logic.{_⊎_, inl, inr}
-use mathlib.Core.List.{List, [], _∷_, _++_}
 use native.Mathlib.Nat.{suc-add, zero-add, pow-suc}
-use native.Mathlib.Omega.{arith}
-use lib.Bits.{bitXor, xor-shifted}
-use lib.ListN.{length, getD, List·getD-append}
 use lib.Seq.{getD-append-add}
 use Rattle.crc32.specs.Crc.{bitStep, bitSteps}
 use Rattle.crc32.specs.inner.Tables.{Tables}

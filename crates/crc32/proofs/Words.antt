@@ -1,10 +1,6 @@
 -- The register over words: the turns of `after_words`. Assumes nothing.
-use Prim.Native.Nat.{ℕ, _+_, _≤_, _<_}
-use mathlib.Core.Path.{_≡_, ap, _∙_}
-use mathlib.Core.List.{List, foldl, foldl-append}
+use Rattle.crc32.proofs.Prelude.{ℕ, _+_, _≤_, _<_, _≡_, ap, _∙_, List, foldl, foldl-append, arith, length, drop, getD, drop-of-length-le}
 use native.Mathlib.Numerals.{add-one}
-use native.Mathlib.Omega.{arith}
-use lib.ListN.{length, drop, getD, drop-of-length-le}
 use lib.Seq.{drop-cons}
 use Rattle.lists.specs.Lists.{flatten}
 use Rattle.crc32.specs.Crc.{byteStep, wordBytes, bytesOf}

@@ -1,7 +1,5 @@
 -- `crc32::after_two` meets its contract. Assumes nothing.
-use mathlib.Core.Path.{sym, ap₂, _∙_}
-use borrow.Author.Needs.{needs}
-use lib.Bits.{bitXor}
+use Rattle.crc32.proofs.Prelude.{sym, ap₂, _∙_, bitXor, needs}
 use Rattle.crc32.proofs.Slices.{two-words}
 use Rattle.crc32.proofs.after_two.Statement.{statement}
 use Rattle.crc32.proofs.after_two.Tie as tie

@@ -1,10 +1,6 @@
 -- `crc32::after_words` meets its contract. The loop's invariant: the register after the words to come, from the register so
 -- far, is that after all words. Assumes nothing.
-use Prim.Native.Nat.{_-_, _≤_}
-use mathlib.Core.Path.{_≡_, refl, sym, _∙_}
-use mathlib.Core.List.{foldl}
-use borrow.Author.Needs.{needs}
-use lib.ListN.{length, drop}
+use Rattle.crc32.proofs.Prelude.{_-_, _≤_, _≡_, refl, sym, _∙_, foldl, length, drop, needs}
 use Rattle.crc32.specs.Crc.{byteStep, register, bytesOf}
 use Rattle.crc32.proofs.Words.{two-next, one-left, none-left}
 use Rattle.crc32.proofs.after_words.Statement.{statement}
@@ -29,14 +25,12 @@ returns c =
     c .after-word .ensures
     ∙ sym (l .inv .1 ∙ one-left _ (l .i) (l .register) (c .before .before .if1 .taken) (c .before .before .before .loop-test .left))
 
-returns-2 : tie.Need-returns-2 Inv-loop μ-loop
-unfolding register
-returns-2 c = let l = c .before .before .loop in sym (l .inv .1 ∙ none-left _ (l .i) (l .register) (c .if1 .left))
-
 pub after-words-spec : {M : Type 1} → statement M
+unfolding register
 after-words-spec =
     tie.close
     (tie.spec
     Inv-loop μ-loop (λ c. (search needs, refl)) (λ c. search needs) (λ c. search needs) (λ c. search needs)
     (λ c. search needs) (λ c. search needs) (λ c. search needs) (λ c κs. search needs) (λ c. search needs)
-    (λ c. search needs) loop-again (λ c. search needs) (λ c. search needs) (λ c κs. search needs) returns returns-2)
+    (λ c. search needs) loop-again (λ c. search needs) (λ c. search needs) (λ c κs. search needs) returns
+    (λ c. let l = c .before .before .loop in sym (l .inv .1 ∙ none-left _ (l .i) (l .register) (c .if1 .left))))

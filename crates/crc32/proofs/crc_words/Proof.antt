@@ -1,7 +1,5 @@
 -- `crc32::crc_words` meets its contract: antt computes the test of all entries of the tables. Assumes nothing.
-use Prim.Native.Nat.{ℕ}
-use mathlib.Core.Path.{refl, ap}
-use lib.Bits.{bitXor}
+use Rattle.crc32.proofs.Prelude.{ℕ, refl, ap, bitXor}
 use Rattle.crc32.specs.Crc.{bitStep, bitSteps, crc32}
 use Rattle.crc32.proofs.TableRule.{pairs, table, tablesFrom, tables-rule}
 use Rattle.crc32.proofs.crc_words.Statement.{statement}

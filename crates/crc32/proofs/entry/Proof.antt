@@ -1,7 +1,5 @@
 -- `crc32::entry` meets its contract. Assumes nothing.
-use Prim.Native.Nat.{_%_}
-use borrow.Author.Needs.{needs}
-use native.Mathlib.Omega.{arith}
+use Rattle.crc32.proofs.Prelude.{_%_, arith, needs}
 use Rattle.crc32.proofs.entry.Statement.{statement}
 use Rattle.crc32.proofs.entry.Tie as tie
 

@@ -1,7 +1,5 @@
 -- `crc32::four_bytes` meets its contract. Assumes nothing.
-use mathlib.Core.Path.{ap₂, _∙_}
-use borrow.Author.Needs.{needs}
-use lib.Bits.{bitXor}
+use Rattle.crc32.proofs.Prelude.{ap₂, _∙_, bitXor, needs}
 use Rattle.crc32.proofs.Slices.{four-entries}
 use Rattle.crc32.proofs.four_bytes.Statement.{statement}
 use Rattle.crc32.proofs.four_bytes.Tie as tie
