@@ -1,11 +1,6 @@
 -- The ways through `convert_rows`: what is to be written from a place on ends where all of it does. Assumes nothing.
-use Prim.Native.Nat.{ℕ, _+_, _≤_, _<_}
-use mathlib.Core.Path.{_≡_, refl, ap, _∙_}
-use mathlib.Core.Bool.{Bool}
-use mathlib.Core.List.{List, _∷_, _++_, map}
+use Rattle.listing_convert.proofs.Prelude.{ℕ, _+_, _≤_, _<_, _≡_, refl, ap, _∙_, Bool, List, _∷_, _++_, map, arith, length, take, length-append}
 use native.Mathlib.Numerals.{add-one}
-use native.Mathlib.Omega.{arith}
-use lib.ListN.{length, take, length-append}
 use Rattle.lists.specs.Lists.{flatten}
 use Rattle.levels_text.specs.Written.{textLine}
 use Rattle.levels_text.specs.inner.Appending.{Appended, appended-none, appended-then}

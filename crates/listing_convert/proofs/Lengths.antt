@@ -1,11 +1,6 @@
 -- The ways through `numbers_length` and `convert_row`. Assumes nothing.
-use Prim.Native.Nat.{ℕ, _+_, _-_, _*_, _≤_, _<_}
-use mathlib.Core.Path.{_≡_, refl}
-use mathlib.Core.Bool.{Bool, true, false}
-use mathlib.Core.List.{List, _∷_, map}
+use Rattle.listing_convert.proofs.Prelude.{ℕ, _+_, _-_, _*_, _≤_, _<_, _≡_, refl, Bool, true, false, List, _∷_, map, arith, length, take, drop, length-append}
 use native.Mathlib.Nat.{zero-add}
-use native.Mathlib.Omega.{arith}
-use lib.ListN.{length, take, drop, length-append}
 use Rattle.lists.specs.Lists.{flatten, iota}
 use Rattle.lists.specs.Laws.Parts.{take-drop}
 use Rattle.lists.specs.Laws.Rising.{iota-snoc, length-iota}

@@ -1,3 +1,4 @@
+mod Prelude
 pub mod Lengths
 pub mod Converting
 pub mod Answers

@@ -1,7 +1,6 @@
 -- `listing_convert::convert_listing` meets its contract. Assumes nothing.
-use mathlib.Core.Path.{sym, _∙_}
+use Rattle.listing_convert.proofs.Prelude.{sym, _∙_, needs}
 use Rattle.listing_convert.proofs.Answers.{converted-wrong}
-use borrow.Author.Needs.{needs}
 use Rattle.listing_convert.proofs.convert_listing.Statement.{statement}
 use Rattle.listing_convert.proofs.convert_listing.Tie as tie
 

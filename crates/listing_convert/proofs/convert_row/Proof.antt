@@ -1,8 +1,6 @@
 -- `listing_convert::convert_row` meets its contract. Assumes nothing.
-use native.Mathlib.Omega.{arith}
-use lib.ListN.{length-take}
+use Rattle.listing_convert.proofs.Prelude.{arith, length-take, needs}
 use Rattle.listing_convert.proofs.Lengths.{row-back, row-forth, long-back, long-forth}
-use borrow.Author.Needs.{needs}
 use Rattle.listing_convert.proofs.convert_row.Statement.{statement}
 use Rattle.listing_convert.proofs.convert_row.Tie as tie
 

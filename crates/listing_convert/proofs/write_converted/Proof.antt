@@ -1,7 +1,6 @@
 -- `listing_convert::write_converted` meets its contract. Assumes nothing.
-use native.Mathlib.Omega.{arith}
+use Rattle.listing_convert.proofs.Prelude.{arith, needs}
 use Rattle.listing_convert.proofs.Answers.{valid-rows, rows-few, head-room, rows-room, all-converted}
-use borrow.Author.Needs.{needs}
 use Rattle.listing_convert.proofs.write_converted.Statement.{statement}
 use Rattle.listing_convert.proofs.write_converted.Tie as tie
 
