@@ -1,2 +1,3 @@
+mod Prelude
 pub mod Digits
 pub mod Numbers

@@ -1,11 +1,8 @@
 -- The ways through `read_line`: the numbers read so far, and what is to come behind them. Assumes nothing.
-use Prim.Native.Nat.{ℕ, _+_, _*_, _≤_, _<_}
-use mathlib.Core.Path.{_≡_, refl, sym, ap, _∙_}
+use Rattle.levels_text.proofs.Prelude.{ℕ, _+_, _*_, _≤_, _<_, _≡_, refl, sym, ap, _∙_, arith, length, take, drop, getD, set, length-set, length-take}
 use mathlib.Core.Bool.{true, false, _&&_}
 use mathlib.Core.List.{List, [], _∷_, _++_, map, append-nil, append-assoc}
 use native.Mathlib.Numerals.{add-one}
-use native.Mathlib.Omega.{arith}
-use lib.ListN.{length, take, drop, getD, set, length-set, length-take}
 use lib.Seq.{take-suc-set}
 use Rattle.lists.specs.Lists.{splice, all}
 use Rattle.lists.specs.Laws.Parts.{splice-nil}

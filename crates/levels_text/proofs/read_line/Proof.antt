@@ -1,9 +1,5 @@
 -- `levels_text::read_line` meets its contract. Assumes nothing.
-use Prim.Native.Nat.{_-_}
-use mathlib.Core.Path.{refl}
-use native.Mathlib.Omega.{arith}
-use borrow.Author.Needs.{needs}
-use lib.ListN.{length}
+use Rattle.levels_text.proofs.Prelude.{_-_, refl, arith, length, needs}
 use Rattle.levels_text.proofs.Numbers.{Numbers, numbers-begin, wrong-letter, wrong-number, fits, next-place, numbers-more, line-read}
 use Rattle.levels_text.specs.Lines.{letter}
 use Rattle.levels_text.specs.inner.Reading.{read-no-room, read-wrong}

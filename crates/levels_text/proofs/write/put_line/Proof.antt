@@ -1,8 +1,7 @@
 -- `levels_text::write::put_line` meets its contract. Assumes nothing.
-use native.Mathlib.Omega.{arith}
+use Rattle.levels_text.proofs.Prelude.{arith, needs}
 use Rattle.levels_text.specs.Laws.Decimals.{length-line}
 use Rattle.levels_text.specs.inner.Appending.{appended-line}
-use borrow.Author.Needs.{needs}
 use Rattle.levels_text.proofs.write.put_line.Statement.{statement}
 use Rattle.levels_text.proofs.write.put_line.Tie as tie
 

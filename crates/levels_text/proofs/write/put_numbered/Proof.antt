@@ -1,8 +1,7 @@
 -- `levels_text::write::put_numbered` meets its contract. Assumes nothing.
-use native.Mathlib.Omega.{arith}
+use Rattle.levels_text.proofs.Prelude.{arith, needs}
 use Rattle.levels_text.specs.Laws.Decimals.{length-numbered}
 use Rattle.levels_text.specs.inner.Appending.{appended-numbered}
-use borrow.Author.Needs.{needs}
 use Rattle.levels_text.proofs.write.put_numbered.Statement.{statement}
 use Rattle.levels_text.proofs.write.put_numbered.Tie as tie
 

@@ -1,8 +1,7 @@
 -- `levels_text::write::write_line` meets its contract. Assumes nothing.
 use Rattle.levels_text.specs.inner.Appending.{line-wrote}
-use native.Mathlib.Omega.{arith}
+use Rattle.levels_text.proofs.Prelude.{arith, needs}
 use Rattle.levels_text.specs.Laws.Decimals.{length-written}
-use borrow.Author.Needs.{needs}
 use Rattle.levels_text.proofs.write.write_line.Statement.{statement}
 use Rattle.levels_text.proofs.write.write_line.Tie as tie
 
