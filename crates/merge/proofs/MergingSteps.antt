@@ -28,8 +28,7 @@ use Rattle.table_compact.specs.inner.Compaction.{Lendable, Compaction}
 use Rattle.merge.specs.inner.Parts.{Applying, finishedAs, Finishing}
 use Rattle.table.specs.Laws.Refusals.{inside-full-shape, Mergeable, merge-accepted}
 use Rattle.table.specs.Laws.Opening.{unstaged-represents}
-use Rattle.merge_pending.specs.Laws.Steps.{steps-refl}
-use Rattle.merge.specs.Laws.Merging.{passes-table, stopped-not, due-not, due-compacts, compacted-rows, compacted-store, compacted-generation, merged-table}
+use Rattle.merge.specs.Laws.Merging.{passes-table, stopped-not, due-not, due-compacts, compacted-rows, compacted-generation, merged-table}
 
 -- ---- a compaction is due
 
@@ -130,11 +129,10 @@ module _ (m : MergeProgress) (before : ℕ) (rows keys sorts live base : List �
         table = λ pending p r.
             let u = unstaged-represents r in
             let e = same pending p r in
-            let z = steps-refl u in
             record {
               answer = rw e (ap (λ (h : Header). finishedAs m before h 0 0) (u .shown .header));
-              rows-after = rw e (z .rows-after);
-              sorts-after = rw e (z .sorts-after);
+              rows-after = rw e;
+              sorts-after = rw e;
               represents = rw e u;
               words = λ g. (refl, refl);
             };
@@ -164,7 +162,7 @@ module _ (m : MergeProgress) (before : ℕ) (rows keys sorts live base : List �
             let y : m .header .dead ≡ dead p = ap (λ (h : Header). h .dead) (r .shown .header) in
             record {
               answer = rw e (λ i. finishedAs m before (k .header i) (x i) (y i));
-              rows-after = rw e (k .rows-after ∙ compacted-store (unstaged p) _ rows);
+              rows-after = rw e (k .rows-after);
               sorts-after = rw e (k .sorts-after);
               represents = rw e (k .represents);
               words = λ g. absurd (compacted-generation p (rw e at g));

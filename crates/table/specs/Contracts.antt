@@ -16,7 +16,7 @@ use Rattle.sort_entries.specs.Entries.{entriesOf, entriesSound, fastRange}
 use Rattle.key_index.specs.Slots.{KeysSound}
 use Rattle.plain_table.specs.Staged.{Opening, Staged, wordsOf}
 use Rattle.plain_table.specs.Refusing.{Lengths, storesShort, openRefusal}
-use Rattle.plain_table.specs.Plain.{Plain, lookup, opened, applied, added, merged, mergeKeeps, mergeDrops, compacted, cleared}
+use Rattle.plain_table.specs.Plain.{Plain, lookup, opened, applied, added, compactsAfter, merged, mergeKeeps, mergeDrops, compacted, cleared}
 use Rattle.plain_table.specs.Proper.{Proper}
 use Rattle.table.specs.declared.Header.{Header}
 use Rattle.table.specs.declared.TableAnswer.{TableAnswer}
@@ -29,7 +29,7 @@ use Rattle.table.specs.declared.VersionAnswer.{VersionAnswer}
 use Rattle.table.specs.declared.SoundAnswer.{SoundAnswer}
 use Rattle.table.specs.Numbers.{openingOf, largestView, header, tableView, mergeView, rowView, cellView, rangeView, versionView, soundView}
 use Rattle.table.specs.Refusing.{stageRefusal, mergeRefusal, compactRefusal, clearRefusal, lookupRefusal, cellRefusal, fastRefusal, versionRefusal, sinceRefusal, notedRefusal, soundRefusal}
-use Rattle.table.specs.Stores.{headerOf, stored, rowStore, sortStore, recordWords, rowsIn, Shows}
+use Rattle.table.specs.Stores.{headerOf, rowStore, sortStore, recordWords, rowsIn, Shows}
 use Rattle.table.specs.Sound.{indexShapeOf, KeysDiffer, Sound}
 
 -- a table's header and stores
@@ -138,17 +138,16 @@ mergeOf p =
       dropped = mergeDrops p;
     }
 
--- the row store after a merge, given the rows that were stored before: the removals and inserts are written first, then the
--- compaction, if there is one
-unfoldable pub mergedRows : Plain → List (List ℕ) → List ℕ → List ℕ
-mergedRows p before store =
-    rowStore (merged p .table) (stored (applied p .table .rows) before) (rowStore (applied p .table) before store)
+-- a store after a merge, given what the removals and inserts wrote: the compaction, if there is one, writes over that
+unfoldable pub mergedStore : Plain → (List ℕ → List ℕ) → List ℕ → List ℕ
+mergedStore p compaction written = cond (compactsAfter (applied p .status) (applied p .table)) (compaction written) written
 
 module _ (s : Stores) (w : CompactionWords) (answer : MergeAnswer) (b′ : Body) (w′ : CompactionWords) where
   pub record MergedTable (p : Plain) : Type 0 where
     pub answers : mergeView answer ≡ accepted (mergeOf p)
-    pub rows-after : b′ .rows ≡ mergedRows p (rowsOf (s .header .columns) (s .header .rows) (s .rows)) (s .rows)
-    pub sorts-after : b′ .sorts ≡ sortStore (merged p .table) (sortStore (applied p .table) (s .sorts))
+    pub rows-after : b′ .rows
+        ≡ mergedStore p (rowStore (merged p .table) []) (rowStore (applied p .table) (rowsOf (s .header .columns) (s .header .rows) (s .rows)) (s .rows))
+    pub sorts-after : b′ .sorts ≡ mergedStore p (sortStore (merged p .table)) (sortStore (applied p .table) (s .sorts))
     pub represents : Represents (merged p .table) (joined (headerOf (merged p .table)) b′ (s .pending))
     -- compaction words are "unchanged where nothing is compacted"
     pub words : merged p .table .generation ≡ p .generation → w′ ≡ w

@@ -15,7 +15,7 @@ use Rattle.plain_table.specs.Calls.{Call, staging, merging, compacting, clearin
 use Rattle.table.specs.declared.Header.{Header}
 use Rattle.table.specs.Refusing.{compactRefusal}
 use Rattle.table.specs.Stores.{rowStore, sortStore, recordWords}
-use Rattle.table.specs.Contracts.{Stores, Body, bodyOf, joined, compactionWords, lengthsLent, Represents, mergedRows, MergedTable, CompactedTable}
+use Rattle.table.specs.Contracts.{Stores, Body, bodyOf, joined, compactionWords, lengthsLent, Represents, mergedStore, MergedTable, CompactedTable}
 use Rattle.table.specs.Laws.Checks.{stage-checks, merge-checks, compact-checks}
 use Rattle.table.specs.Laws.Refusals.{merge-accepted, compact-accepted}
 use Rattle.table.specs.Laws.Fronts.{pending-part, body-part}
@@ -36,7 +36,7 @@ pub record SameCells (s t : Stores) : Type 0 where
 -- the lent stores after an accepted call
 unfoldable rowsDone : Plain → Header → Call → List ℕ → List ℕ
 rowsDone p h (staging r) rows = rows
-rowsDone p h merging rows = mergedRows p (rowsOf (h .columns) (h .rows) rows) rows
+rowsDone p h merging rows = mergedStore p (rowStore (merged p .table) []) (rowStore (applied p .table) (rowsOf (h .columns) (h .rows) rows) rows)
 rowsDone p h compacting rows = rowStore (compacted p) [] rows
 rowsDone p h clearing rows = rows
 rowsDone p h (refreshing r index) rows = rows
@@ -44,7 +44,7 @@ rowsDone p h (feeding rs) rows = rows
 
 unfoldable sortsDone : Plain → Call → List ℕ → List ℕ
 sortsDone p (staging r) sorts = sorts
-sortsDone p merging sorts = sortStore (merged p .table) (sortStore (applied p .table) sorts)
+sortsDone p merging sorts = mergedStore p (sortStore (merged p .table)) (sortStore (applied p .table) sorts)
 sortsDone p compacting sorts = sortStore (compacted p) sorts
 sortsDone p clearing sorts = sorts
 sortsDone p (refreshing r index) sorts = sorts

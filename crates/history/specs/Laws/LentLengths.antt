@@ -22,7 +22,7 @@ use Rattle.table.specs.declared.MergeAnswer.the-variants.{Merged}
 use Rattle.table.specs.Numbers.{openingOf, largestOf, tableView, mergeView}
 use Rattle.table.specs.Refusing.{outside, pendingOutside, mergeRefusal, compactRefusal}
 use Rattle.table.specs.Stores.{entries, stored, rowStore, sortStore}
-use Rattle.table.specs.Contracts.{Stores, stores, Represents, body, CompactionWords, compactionWords, headerAfter, headerMerged, mergeOf, mergedRows, Opened, Merging, MergedTable, Compacting}
+use Rattle.table.specs.Contracts.{Stores, stores, Represents, body, CompactionWords, compactionWords, headerAfter, headerMerged, mergeOf, mergedStore, Opened, Merging, MergedTable, Compacting}
 use Rattle.table.specs.Laws.Opening.{emptyHeader, empty-represents, opened-done}
 use Rattle.history.specs.Histories.{merges as merge-called, compacts as compact-called, called, end, next, History}
 
@@ -91,7 +91,7 @@ unmoved = mergeOf (opened example 0)
 
 -- accepted, without effect
 example-stays : MergedTable exampleStores oneWord (Merged unmoved) (body (0 ∷ eleven) eight eight) oneWord (opened example 0)
-unfolding mergeView mergedRows opened merged applied inserts removed insertAll unstaged compactsAfter compactionDue dead count entries rebuilt rebuiltFrom stored rowStore sortStore rowsOf flatten entryWords splice wordsAll openable storesShort sizeClassFor sizeClass
+unfolding mergeView mergedStore opened merged applied inserts removed insertAll unstaged compactsAfter compactionDue dead count entries rebuilt rebuiltFrom stored rowStore sortStore rowsOf flatten entryWords splice wordsAll openable storesShort sizeClassFor sizeClass
 example-stays =
     record {
       answers = refl;

@@ -2,15 +2,13 @@
 -- Assumes nothing.
 use Prim.Native.Nat.{ℕ}
 use mathlib.Core.Path.{_≡_, sym, ap, ap₂, _∙_}
-use mathlib.Core.Bool.{true, false, cond}
+use mathlib.Core.Bool.{Bool, true, false, cond}
 use mathlib.Core.List.{List, [], foldl}
 use native.Mathlib.Omega.{arith}
 use lib.Dec.{ltb}
 use lib.ListN.{length}
 use borrow.Author.Tests.{eq-eqb, ne-eqb}
 use Rattle.refusals.specs.Refusals.{accepted}
-use Rattle.lists.specs.Lists.{splice, flatten}
-use Rattle.lists.specs.Laws.Filter.{all-filter}
 use Rattle.plain_table.specs.Staged.{Staged, compactionDue, inserts}
 use Rattle.plain_table.specs.Plain.{Inserted, insertAll, Plain, dead, withoutRow, removed, applied, added, live as liveCount, compacted, unstaged, compactsAfter, merged, mergeKeeps, mergeDrops}
 use Rattle.table.specs.declared.Header.{Header}
@@ -19,15 +17,14 @@ use Rattle.table.specs.declared.Merge.{Merge}
 use Rattle.merge_insert.specs.declared.MergeProgress.{MergeProgress}
 use Rattle.table.specs.declared.MergeAnswer.the-variants.{Merged}
 use Rattle.table.specs.Numbers.{mergeView}
-use Rattle.table.specs.Stores.{headerOf, rowStore}
-use Rattle.table.specs.Contracts.{Stores, stores, body, compactionWords, Represents, mergeOf, mergedRows, MergedTable}
+use Rattle.table.specs.Stores.{headerOf, rowStore, sortStore}
+use Rattle.table.specs.Contracts.{Stores, stores, body, compactionWords, Represents, mergeOf, mergedStore, MergedTable}
 use Rattle.merge_pending.specs.inner.Becoming.{Becomes}
 use Rattle.merge_insert.specs.inner.Insertions.{InsertedTable}
 use Rattle.merge_remove.specs.inner.Removals.{removedAll}
 use Rattle.merge.specs.inner.Parts.{AppliedTable, finished, FinishedTable}
-use Rattle.table.specs.Laws.Stored.{stored-live}
 use Rattle.table.specs.Laws.Shown.{rows-counted}
-use Rattle.merge_pending.specs.Laws.Steps.{steps-refl, first-stored, steps-then}
+use Rattle.merge_pending.specs.Laws.Steps.{steps-then}
 use Rattle.merge_remove.specs.Laws.Removals.{removedAll-keys, removedAll-rows}
 
 -- ---- the passes
@@ -77,19 +74,27 @@ pub compacted-rows : (p : Plain) → length (compacted (unstaged p) .rows) ≡ l
 unfolding liveCount unstaged
 compacted-rows p = compacted-live (unstaged p)
 
--- rows that were kept are live, so it does not matter what was stored before
-pub compacted-store : (p : Plain) (before : List (List ℕ)) (store : List ℕ) → rowStore (compacted p) [] store ≡ rowStore (compacted p) before store
-unfolding rowStore compacted
-compacted-store p before store =
-    let e = all-filter (λ row. row .live) (p .rows) in
-    ap (λ (rows : List (List ℕ)). splice store 0 (flatten rows)) (stored-live (compacted p .rows) [] e ∙ sym (stored-live (compacted p .rows) before e))
-
 -- a compaction changes the generation
 pub compacted-generation : (p : Plain) → compacted (unstaged p) .generation ≡ p .generation → ⊥
 unfolding compacted unstaged
 compacted-generation p e = omega arith
 
 -- ---- the whole
+
+-- a store after a merge: `shows` writes a compacted table over what the passes wrote
+merged-store : (p : Plain) (shows : Plain → List ℕ → List ℕ) {status : ℕ} {passed written store : List ℕ} → status ≡ applied p .status → passed ≡ written
+    → store ≡ cond (compactsAfter status (applied p .table)) (shows (compacted (unstaged (applied p .table))) passed) passed
+    → store ≡ mergedStore p (shows (merged p .table)) written
+unfolding mergedStore merged
+merged-store p shows {status} {passed} {written} {store} a w e = go (compactsAfter status q) (ap (λ (n : ℕ). compactsAfter n q) a) e
+  where
+    q : Plain
+    q = applied p .table
+
+    go : (b : Bool) → b ≡ compactsAfter (applied p .status) q → store ≡ cond b (shows (compacted (unstaged q)) passed) passed
+        → store ≡ mergedStore p (shows (merged p .table)) written
+    go true c f = rw (← c, ← w) f
+    go false c f = rw (← c, ← w) f
 
 module _ {h : Header} {rows keys sorts pending live base : List ℕ} {m : MergeProgress} {rows₁ keys₁ sorts₁ : List ℕ} {r : Merge} {rows′ keys′ sorts′ live′ base′ : List ℕ} {p : Plain}
     (shown : Represents p (stores h rows keys sorts pending))
@@ -112,13 +117,12 @@ module _ {h : Header} {rows keys sorts pending live base : List ℕ} {m : MergeP
 
   -- the two halves are a merge
   pub merged-table : MergedTable (stores h rows keys sorts pending) (compactionWords live base) (Merged r) (body rows′ keys′ sorts′) (compactionWords live′ base′) p
-  unfolding mergeView mergedRows
+  unfolding mergeView
   merged-table =
-      let before = first-stored shown (a .steps) (steps-refl (a .steps .represents)) in
       record {
         answers = ap accepted merged-answer;
-        rows-after = rw merged-finished at (rw (before, a .steps .rows-after) at (f .rows-after));
-        sorts-after = rw merged-finished at (rw (a .steps .sorts-after) at (f .sorts-after));
+        rows-after = merged-store p (λ q store. rowStore q [] store) (a .status) (a .steps .rows-after) (f .rows-after);
+        sorts-after = merged-store p sortStore (a .status) (a .steps .sorts-after) (f .sorts-after);
         represents = rw (merged-finished, merged-answer) at (f .represents);
         words = λ e. let w = f .words (ap (λ (q : Plain). q .generation) merged-finished ∙ e ∙ sym (a .steps .later .generation)) in (λ i. record { live = w .0 i; base = w .1 i });
       }

@@ -3,9 +3,8 @@
 use Prim.Native.Nat.{ℕ, _≤_}
 use mathlib.Core.Path.{_≡_}
 use mathlib.Core.Bool.{cond}
-use mathlib.Core.List.{List}
+use mathlib.Core.List.{List, []}
 use lib.Dec.{ltb}
-use Rattle.lists.specs.Lists.{rowsOf}
 use Rattle.plain_table.specs.Plain.{Plain, applied, live, dead, compacted, unstaged, compactsAfter}
 use Rattle.table.specs.declared.Header.{Header}
 use Rattle.table.specs.declared.Merge.{Merge}
@@ -48,8 +47,8 @@ answerOf m before p =
 module _ (m : MergeProgress) (before : ℕ) (rows keys sorts live-words base : List ℕ) (r : Merge) (rows′ keys′ sorts′ live-words′ base′ : List ℕ) where
   pub record FinishedTable (pending : List ℕ) (p : Plain) : Type 0 where
     pub answer : r ≡ answerOf m before p
-    pub rows-after : rows′ ≡ rowStore (finished (m .status) p) (rowsOf (m .header .columns) (m .header .rows) rows) rows
-    pub sorts-after : sorts′ ≡ sortStore (finished (m .status) p) sorts
+    pub rows-after : rows′ ≡ cond (compactsAfter (m .status) p) (rowStore (compacted (unstaged p)) [] rows) rows
+    pub sorts-after : sorts′ ≡ cond (compactsAfter (m .status) p) (sortStore (compacted (unstaged p)) sorts) sorts
     pub represents : Represents (finished (m .status) p) (stores (r .header) rows′ keys′ sorts′ pending)
     pub words : finished (m .status) p .generation ≡ p .generation → (live-words′ ≡ live-words) × (base′ ≡ base)
 
