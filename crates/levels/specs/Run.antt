@@ -14,7 +14,6 @@ use Rattle.table.specs.Contracts.{Stores, stores}
 use Rattle.levels_spec.specs.Response.{lineResult}
 use Rattle.levels_spec.specs.Answers.{Held}
 use Rattle.levels_spec.specs.Session.{programLengths}
-use Rattle.levels_io.specs.declared.input.Input.{Input}
 use Rattle.levels_io.specs.Input.{bytesRead, unread, InputIn, AtEnd, LineSoFar}
 use Rattle.levels_io.specs.declared.output.WriteResult.{WriteResult}
 use Rattle.levels.specs.declared.State.{State}
@@ -54,72 +53,59 @@ pub data Steps (p : Program) : List ℕ → List (List ℕ) → Program → Type
   then : {handed bytes : List ℕ} {reads read : List (List ℕ)} {q r : Program} → Steps p handed reads q → Step q bytes read r false
       → Steps p (handed ++ bytes) (reads ++ read) r
 
--- ---- the code's state and stores
+-- ---- the code's state between two steps, with the stores; the first `used` bytes of the text are buffered
 
 pub record Machine : Type 0 where
   pub stores : Stores
-  -- the line so far
+  pub state : State
   pub line : List ℕ
-  pub length : ℕ
   pub chunk : List ℕ
-  pub input : Input
-  -- the first `used` bytes of the text are buffered
   pub text : List ℕ
-  pub used : ℕ
+
+abbrev pub machine : State → List ℕ → List ℕ → List ℕ → List ℕ → List ℕ → List ℕ → List ℕ → Machine
+machine state line chunk rows keys sorts pending text =
+    record { stores = stores (state .header) rows keys sorts pending; state = state; line = line; chunk = chunk; text = text }
 
 pub record Holds (p : Program) (m : Machine) : Type 0 where
   pub table-held : Held (p .table) (m .stores)
-  pub line-begun : LineSoFar (p .begun) (m .line) (m .length)
-  pub bytes-unread : p .unread ≡ unread (m .chunk) (m .input)
-  pub bytes-buffered : p .buffered ≡ take (m .used) (m .text)
-
--- the state between two steps, with the stores
-abbrev pub machine : State → List ℕ → List ℕ → List ℕ → List ℕ → List ℕ → List ℕ → List ℕ → Machine
-machine state line chunk rows keys sorts pending text =
-    record {
-      stores = stores (state .header) rows keys sorts pending;
-      line = line;
-      length = state .length;
-      chunk = chunk;
-      input = state .input;
-      text = text;
-      used = state .used;
-    }
+  pub line-begun : LineSoFar (p .begun) (m .line) (m .state .length)
+  pub bytes-unread : p .unread ≡ unread (m .chunk) (m .state .input)
+  pub bytes-buffered : p .buffered ≡ take (m .state .used) (m .text)
 
 -- the lengths and offsets are within the stores
 pub record Within (m : Machine) : Type 0 where
-  pub input-in : InputIn (m .chunk) (m .input)
-  pub line-in : m .length ≤ length (m .line)
-  pub text-in : m .used ≤ length (m .text)
+  pub input-in : InputIn (m .chunk) (m .state .input)
+  pub line-in : m .state .length ≤ length (m .line)
+  pub text-in : m .state .used ≤ length (m .text)
 
 -- the bytes that were passed to `write`, and those that were read, if a read was made
 abbrev pub bytesWritten : WriteResult → Machine → List ℕ
 bytesWritten handed m = take (handed .count) (m .text)
 
-abbrev pub newBytes : Input → Machine → List (List ℕ)
-newBytes before m =
-    cond (eqb (m .input .reads) (before .reads)) [] (take (bytesRead (m .input .got)) (m .chunk) ∷ [])
+abbrev pub newBytes : Machine → Machine → List (List ℕ)
+newBytes m m′ =
+    cond (eqb (m′ .state .input .reads) (m .state .input .reads)) [] (take (bytesRead (m′ .state .input .got)) (m′ .chunk) ∷ [])
 
 -- One step of the code, for every program that the machine represents.
 pub record StepMade (p : Program) (m : Machine) (handed : WriteResult) (m′ : Machine) (over : Bool) : Type 0 where
   pub after : Program
-  pub step : Step p (bytesWritten handed m) (newBytes (m .input) m′) after over
+  pub step : Step p (bytesWritten handed m) (newBytes m m′) after over
   pub holds : Holds after m′
 
 pub record Stepped (m : Machine) (handed : WriteResult) (m′ : Machine) (over : Bool) : Type 0 where
   pub within : Within m′
-  pub reads-left : length (newBytes (m .input) m′) + m′ .input .reads ≡ m .input .reads
+  pub reads-left : length (newBytes m m′) + m′ .state .input .reads ≡ m .state .input .reads
   -- no read is made after the end of the input
-  pub none-past-end : AtEnd (m .input) → m′ .input .reads ≡ m .input .reads
+  pub none-past-end : AtEnd (m .state .input) → m′ .state .input .reads ≡ m .state .input .reads
   pub made : handed .«is_written» ≡ true → (p : Program) → Holds p m → StepMade p m handed m′ over
-  pub at-end : handed .«is_written» ≡ true → over ≡ true → AtEnd (m′ .input)
+  pub at-end : handed .«is_written» ≡ true → over ≡ true → AtEnd (m′ .state .input)
   -- A write of all buffered bytes failed: this is the last step, and it makes no read.
-  pub failed : handed .«is_written» ≡ false → (over ≡ true) × (handed .count ≡ m .used) × (m′ .input .reads ≡ m .input .reads) × (m′ .text ≡ m .text)
+  pub failed : handed .«is_written» ≡ false → (over ≡ true) × (handed .count ≡ m .state .used) × (m′ .state .input .reads ≡ m .state .input .reads) × (m′ .text ≡ m .text)
 
 -- The only two ways a run ends, with the bytes that are written last: the input is over, and all buffered bytes are written; or a
 -- write of them failed.
 pub data Ending (m : Machine) (handed : WriteResult) : Program → List ℕ → Type 0 where
-  input-over : {p q : Program} {bytes : List ℕ} → Step p bytes [] q true → Holds q m → AtEnd (m .input) → handed .count ≡ m .used
+  input-over : {p q : Program} {bytes : List ℕ} → Step p bytes [] q true → Holds q m → AtEnd (m .state .input) → handed .count ≡ m .state .used
       → Ending m handed p (bytes ++ bytesWritten handed m)
   write-failed : {p : Program} → handed .«is_written» ≡ false → bytesWritten handed m ≡ p .buffered → Ending m handed p (bytesWritten handed m)
 
@@ -132,7 +118,7 @@ pub record Ran (m : Machine) (handed : WriteResult) : Type 0 where
   pub steps : Steps (program none [] first []) bytes reads end
   pub last : List ℕ
   pub ending : Ending m handed end last
-  pub reads-made : suc (length reads) + m .input .reads ≡ 18446744073709551615
+  pub reads-made : suc (length reads) + m .state .input .reads ≡ 18446744073709551615
 
 -- all bytes that were read, and all bytes that were passed to `write`
 abbrev pub input : {m : Machine} {handed : WriteResult} → Ran m handed → List ℕ
@@ -140,8 +126,3 @@ input r = r .first ++ flatten (r .reads)
 
 abbrev pub output : {m : Machine} {handed : WriteResult} → Ran m handed → List ℕ
 output r = r .bytes ++ r .last
-
--- a list is a prefix of another
-pub record IsPrefix (bytes all : List ℕ) : Type 0 where
-  pub rest : List ℕ
-  pub whole : bytes ++ rest ≡ all

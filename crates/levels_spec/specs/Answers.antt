@@ -5,11 +5,11 @@ use mathlib.Core.Path.{_≡_}
 use mathlib.Core.Bool.{true}
 use mathlib.Core.List.{List}
 use mathlib.Core.Option.{Option, none, some}
-use lib.ListN.{length, take}
+use lib.ListN.{length, take, replicate}
 use Rattle.plain_table.specs.Plain.{Plain}
 use Rattle.plain_table.specs.Refusing.{Lengths}
 use Rattle.table.specs.Refusing.{outside}
-use Rattle.table.specs.Contracts.{Stores, Represents}
+use Rattle.table.specs.Contracts.{Stores, compactionWords, lengthsLent, Represents}
 use Rattle.levels_spec.specs.Response.{LineResult, lineResult}
 
 -- The table that a header and stores hold. Before the first accepted O there is none, and check 1 refuses the header.
@@ -19,15 +19,7 @@ pub data Held : Option Plain → Stores → Type 0 where
 
 -- the lengths of the stores; the compaction words are those for 1,024 rows
 abbrev pub lent : Stores → Lengths
-lent s =
-    record {
-      rows = length (s .rows);
-      keys = length (s .keys);
-      sorts = length (s .sorts);
-      pending = length (s .pending);
-      liveWords = 16;
-      baseWords = 16;
-    }
+lent s = lengthsLent s (compactionWords (replicate 16 0) (replicate 16 0))
 
 -- the result of a line: its text is the first `used` bytes of the text, and the stores hold its table
 pub record ResultStored (result : LineResult) (s : Stores) (text : List ℕ) (used : ℕ) : Type 0 where

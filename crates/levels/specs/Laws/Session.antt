@@ -11,7 +11,7 @@ use Rattle.levels_spec.specs.Response.{lineResult}
 use Rattle.levels_spec.specs.Session.{programLengths, linesIn, session, printed}
 use Rattle.levels_spec.specs.Laws.Session.{lines-ended, lines-last}
 use Rattle.levels_io.specs.declared.output.WriteResult.{WriteResult}
-use Rattle.levels.specs.Run.{Program, Step, line-step, read-step, last-step, over-step, Steps, begin, then, Machine, bytesWritten, Ending, input-over, write-failed, Ran, input, output, IsPrefix}
+use Rattle.levels.specs.Run.{Program, Step, line-step, read-step, last-step, over-step, Steps, begin, then, Machine, bytesWritten, Ending, input-over, write-failed, Ran, input, output}
 
 -- the bytes that a program still prints if these bytes are all that is still read
 abbrev remainingOutput : Program → List ℕ → List ℕ
@@ -68,16 +68,14 @@ module _ {m : Machine} {handed : WriteResult} where
       ap (λ (x : List ℕ). bytes ++ x) (ap (λ (n : ℕ). take n (m .text)) all ∙ sym (holds .bytes-buffered)) ∙ over-output step
   ends-all (write-failed unwritten buffered) written = absurd (false≢true (sym unwritten ∙ written))
 
-  ends-begun : {p : Program} {bytes : List ℕ} → Ending m handed p bytes → IsPrefix bytes (remainingOutput p [])
-  ends-begun (input-over {p} {q} {bytes} step holds end all) =
-      record {
-        rest = [];
-        whole = append-nil (bytes ++ bytesWritten handed m)
-            ∙ ap (λ (x : List ℕ). bytes ++ x) (ap (λ (n : ℕ). take n (m .text)) all ∙ sym (holds .bytes-buffered))
-            ∙ over-output step;
-      }
-  ends-begun (write-failed {p} unwritten buffered) =
-      record { rest = session (p .table) (linesIn (p .begun ++ (p .unread ++ []))); whole = rw buffered }
+  ends-begun : {p : Program} {bytes : List ℕ} → Ending m handed p bytes → (rest : List ℕ) × (bytes ++ rest ≡ remainingOutput p [])
+  ends-begun (input-over {p} {q} {bytes} step holds end all) = (
+    [],
+    append-nil (bytes ++ bytesWritten handed m)
+        ∙ ap (λ (x : List ℕ). bytes ++ x) (ap (λ (n : ℕ). take n (m .text)) all ∙ sym (holds .bytes-buffered))
+        ∙ over-output step,
+  )
+  ends-begun (write-failed {p} unwritten buffered) = (session (p .table) (linesIn (p .begun ++ (p .unread ++ []))), rw buffered)
 
   -- the whole run, starting with the first read
   run-output : (r : Ran m handed) → r .bytes ++ remainingOutput (r .end) [] ≡ printed (input r)
@@ -89,10 +87,7 @@ module _ {m : Machine} {handed : WriteResult} where
   pub run-printed : (r : Ran m handed) → handed .«is_written» ≡ true → output r ≡ printed (input r)
   run-printed r written = ap (λ (x : List ℕ). r .bytes ++ x) (ends-all (r .ending) written) ∙ run-output r
 
-  pub run-begins : (r : Ran m handed) → IsPrefix (output r) (printed (input r))
+  pub run-begins : (r : Ran m handed) → (rest : List ℕ) × (output r ++ rest ≡ printed (input r))
   run-begins r =
       let b = ends-begun (r .ending) in
-      record {
-        rest = b .rest;
-        whole = append-assoc (r .bytes) (r .last) (b .rest) ∙ ap (λ (x : List ℕ). r .bytes ++ x) (b .whole) ∙ run-output r;
-      }
+      (b .0, append-assoc (r .bytes) (r .last) (b .0) ∙ ap (λ (x : List ℕ). r .bytes ++ x) (b .1) ∙ run-output r)

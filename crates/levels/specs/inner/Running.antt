@@ -35,7 +35,7 @@ pub record Running (m : Machine) : Type 0 where
   pub here : Program
   pub steps : Steps (program none [] first []) bytes reads here
   pub holds : Holds here m
-  pub reads-made : suc (length reads) + m .input .reads ≡ 18446744073709551615
+  pub reads-made : suc (length reads) + m .state .input .reads ≡ 18446744073709551615
 
 pub running-begin : {h : Header} {input : Input} {chunk : List ℕ} (line rows keys sorts pending text : List ℕ) → outside h ≡ true → Refilled [] 18446744073709551615 chunk input
     → Running (machine (record { header = h; input = input; length = 0; used = 0 }) line chunk rows keys sorts pending text)
@@ -61,12 +61,12 @@ module _ {m m′ : Machine} {handed : WriteResult} (v : Running m) where
             record {
               within = t .within;
               first = v .first;
-              reads = v .reads ++ newBytes (m .input) m′;
+              reads = v .reads ++ newBytes m m′;
               bytes = v .bytes ++ take (handed .count) (m .text);
               here = made .after;
               steps = then (v .steps) (made .step);
               holds = made .holds;
-              reads-made = omega (arith, v .reads-made, t .reads-left, length-append (v .reads) (newBytes (m .input) m′));
+              reads-made = omega (arith, v .reads-made, t .reads-left, length-append (v .reads) (newBytes m m′));
             }
         | inr w ↦ absurd (false≢true (t .failed w .0))
       ]
@@ -76,8 +76,8 @@ no-read : {p q : Program} {bytes : List ℕ} {reads : List (List ℕ)} → Step 
 no-read (last-step handed buffered e some f) = refl
 no-read (over-step e f) = refl
 
-same-left : (m m′ : Machine) → newBytes (m .input) m′ ≡ [] → length (newBytes (m .input) m′) + m′ .input .reads ≡ m .input .reads
-    → m′ .input .reads ≡ m .input .reads
+same-left : (m m′ : Machine) → newBytes m m′ ≡ [] → length (newBytes m m′) + m′ .state .input .reads ≡ m .state .input .reads
+    → m′ .state .input .reads ≡ m .state .input .reads
 same-left m m′ none-read left = omega (arith, rw none-read at left)
 
 pub run-ends : {state : State} {handed : WriteResult} {r : Ended} {over : Bool} (m : Machine) (line chunk rows keys sorts pending text : List ℕ) → Running m
@@ -89,7 +89,7 @@ run-ends {state} {handed} {r} m line chunk rows keys sorts pending text v steppe
       | inl w ↦
           let after = machine state line chunk rows keys sorts pending text in
           let made = t .made w (v .here) (v .holds) in
-          let none-read : newBytes (m .input) after ≡ [] = no-read (made .step) in
+          let none-read : newBytes m after ≡ [] = no-read (made .step) in
           rw (f .same-state)
           (record {
             first = v .first;

@@ -25,6 +25,7 @@ use Rattle.levels_io.specs.inner.Taking.{LineTaken}
 use Rattle.levels_io.specs.declared.output.WriteResult.{WriteResult}
 use Rattle.levels_io.specs.inner.Flushing.{RoomMade}
 use Rattle.levels.specs.declared.LineProgress.{LineProgress}
+use Rattle.levels.specs.declared.State.{State}
 use Rattle.levels.specs.Run.{Program, program, answered, line-step, read-step, last-step, over-step, Machine, Holds, Within, StepMade, Stepped}
 use Rattle.levels.specs.inner.Advancing.{ReadOn, Ready, Over, Advanced, found, more, ended, nothing-left}
 
@@ -84,23 +85,17 @@ parts-used : {used count : ℕ} → (count ≡ used) ⊎ (count ≡ 0) → count
 parts-used (inl all) = omega (arith, all)
 parts-used (inr none) = omega (arith, none)
 
+abbrev stateOf : Stores → Input → ℕ → ℕ → State
+stateOf s input count used = record { header = s .header; input = input; length = count; used = used }
+
 module _ (s : Stores) (line₀ : List ℕ) (count : ℕ) (chunk : List ℕ) (input : Input) (text : List ℕ) (used : ℕ) (line′ chunk′ : List ℕ) (r : LineProgress) where
   -- the machine before a step, and after a step that answers no line
   abbrev before : Machine
-  before =
-      record { stores = s; line = line₀; length = count; chunk = chunk; input = input; text = text; used = used }
+  before = record { stores = s; state = stateOf s input count used; line = line₀; chunk = chunk; text = text }
 
   abbrev silent : Machine
   silent =
-      record {
-        stores = s;
-        line = line′;
-        length = r .length;
-        chunk = chunk′;
-        input = r .input;
-        text = text;
-        used = used - r .handed .count;
-      }
+      record { stores = s; state = stateOf s (r .input) (r .length) (used - r .handed .count); line = line′; chunk = chunk′; text = text }
 
   abbrev Taking : TakenLine → Type 0
   Taking taken = LineTaken line₀ count chunk input line′ taken
@@ -222,15 +217,14 @@ module _ (s : Stores) (line₀ : List ℕ) (count : ℕ) (chunk : List ℕ) (inp
   no-line-stepped wide within (nothing-left taken k none end empty y still) e = rw (y .is-over) (over-stepped taken k none wide end empty y still within)
 
   pub stepped-silent : {left : ℕ} → left ≡ used - r .handed .count → 0 < length line′ → Within before → Advanced line₀ count chunk input text used line′ chunk′ r → r .«is_line» ≡ false
-      → Stepped before (r .handed) (record { stores = s; line = line′; length = r .length; chunk = chunk′; input = r .input; text = text; used = left }) (r .«is_over»)
+      → Stepped before (r .handed) (record { stores = s; state = stateOf s (r .input) (r .length) left; line = line′; chunk = chunk′; text = text }) (r .«is_over»)
   stepped-silent left wide within a e = rw left (no-line-stepped wide within a e)
 
   -- ---- a line is answered
   module _ {s′ : Stores} {text′ : List ℕ} {used′ : ℕ} (wide : length line′ ≡ 121) (lent-is : lent s ≡ programLengths)
       {left : ℕ} (left-is : left ≡ used - r .handed .count) (a : AnswerAppended (take (r .length) line′) s s′ text left text′ used′) where
     abbrev after-line : Machine
-    after-line =
-        record { stores = s′; line = line′; length = 0; chunk = chunk′; input = r .input; text = text′; used = used′ }
+    after-line = record { stores = s′; state = stateOf s′ (r .input) 0 used′; line = line′; chunk = chunk′; text = text′ }
 
     -- At most 121 bytes of a line are stored. This changes no answer.
     answered-holds : (p : Program) (bytes rest : List ℕ) → Held (p .table) s → take (r .length) line′ ≡ take 121 bytes → rest ≡ unread chunk′ (r .input)
