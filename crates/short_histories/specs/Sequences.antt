@@ -4,12 +4,12 @@ use Prim.Native.Nat.{ℕ, zero, suc, _-_, _<_}
 use mathlib.Core.Path.{_≡_}
 use mathlib.Core.Bool.{Bool, not, cond, _&&_}
 use mathlib.Core.List.{List, [], _∷_, _++_, map}
-use mathlib.Core.Option.{Option, none, some}
+use mathlib.Core.Option.{Option, none, some, Option·map}
 use lib.ListN.{length, getD}
 use lib.Dec.{leb, ltb}
 use Rattle.lists.specs.Lists.{splice, all, flatten, iota, same}
 use Rattle.refusals.specs.Refusals.{check, firstRefusal, Reply, refused, accepted, reply}
-use Rattle.plain_table.specs.Staged.{Opening, insert, removeKey}
+use Rattle.plain_table.specs.Staged.{insert, removeKey}
 use Rattle.plain_table.specs.Calls.{Call, staging, merging}
 use Rattle.short_histories.specs.declared.StepAnswer.{StepAnswer}
 use Rattle.short_histories.specs.declared.StepAnswer.the-variants.{Refused as StepRefused, Insert, Remove, Merge}
@@ -19,11 +19,6 @@ use Rattle.short_histories.specs.declared.SequenceAnswer.{SequenceAnswer
 use Rattle.short_histories.specs.declared.SequenceAnswer.the-variants.{Refused as SequenceRefused, None as NoSequence, Written}
 
 -- ---- the steps
-
--- "three columns, one key, sort column 1, capacity 6"; "all four rules": the tables that the steps are for. The comparison opens
--- them in this way; no contract below mentions a table
-unfoldable pub shortOpening : ℕ → Opening
-shortOpening rule = record { columns = 3; keys = 1; sort = 1; rule = rule; capacity = 6 }
 
 -- "the third cell being the stamp for key 0 and 1 minus the stamp for key 1"
 unfoldable pub thirdCell : ℕ → ℕ → ℕ
@@ -51,14 +46,9 @@ unfoldable pub sequences : ℕ → List (List ℕ)
 sequences zero = [] ∷ []
 sequences (suc n) = flatten (map (λ step. map (λ rest. step ∷ rest) (sequences n)) (iota 0 7))
 
--- those of 0 to n steps, "shorter before longer"
-unfoldable pub sequencesTo : ℕ → List (List ℕ)
-sequencesTo zero = sequences zero
-sequencesTo (suc n) = sequencesTo n ++ sequences (suc n)
-
--- "every sequence of 0 to 6 steps"
+-- "every sequence of 0 to 6 steps", "shorter before longer"
 unfoldable pub shortHistories : List (List ℕ)
-shortHistories = sequencesTo 6
+shortHistories = flatten (map sequences (iota 0 7))
 
 -- the place of a sequence in a list of sequences, "from 0"
 unfoldable pub placeIn : List (List ℕ) → List ℕ → ℕ
@@ -123,10 +113,6 @@ sequenceView (SequenceRefused n) = refused n
 sequenceView NoSequence = accepted none
 sequenceView (Written n) = accepted (some n)
 
-unfoldable pub lengthOf : Option (List ℕ) → Option ℕ
-lengthOf none = none
-lengthOf (some sequence) = some (length sequence)
-
 -- ---- contracts
 
 abbrev pub StepAnswered : ℕ → StepAnswer → Type 0
@@ -137,7 +123,7 @@ PositionAnswered sequence answer = positionView answer ≡ reply (positionRefusa
 
 -- The sequence found is at the start of the output, and nothing is changed past it; on refusal nothing is changed at all.
 pub record SequenceAnswered (refusal : ℕ) (found : Option (List ℕ)) (output : List ℕ) (answer : SequenceAnswer) (output′ : List ℕ) : Type 0 where
-  pub answers : sequenceView answer ≡ reply refusal (lengthOf found)
+  pub answers : sequenceView answer ≡ reply refusal (Option·map length found)
   pub written : refusal ≡ 0 → output′ ≡ splice output 0 (stepsOf found)
   pub unchanged : 0 < refusal → output′ ≡ output
 

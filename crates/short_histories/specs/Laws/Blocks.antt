@@ -1,7 +1,7 @@
 -- The sequences of each length, and of all lengths up to a given one, place by place. Assumes nothing.
 use Prim.Native.Nat.{ℕ, zero, suc, _+_, _-_, _*_, _/_, _%_, _≤_, _<_}
 use mathlib.Core.Path.{_≡_, refl, sym, ap, _∙_}
-use mathlib.Core.List.{List, [], _∷_, _++_, map}
+use mathlib.Core.List.{List, [], _∷_, _++_, map, append-assoc, append-nil}
 use native.Mathlib.Nat.{zero-mul, suc-mul, zero-add, add-zero, mod-lt, div-add-mod', div-lt-iff-lt-mul}
 use native.Mathlib.Decide.{decLt}
 use native.Mathlib.Omega.{arith}
@@ -11,7 +11,7 @@ use lib.Seq.{getD-append-add}
 use borrow.Author.Tests.{ltb-true, lt-ltb}
 use Rattle.lists.specs.Lists.{all, flatten, iota}
 use Rattle.lists.specs.Laws.All.{all-head, all-tail, all-cons, getD-map-below}
-use Rattle.short_histories.specs.Sequences.{sequences, sequencesTo}
+use Rattle.short_histories.specs.Sequences.{sequences, shortHistories}
 use Rattle.short_histories.specs.Laws.Numbers.{Steps, many, shorter, value, number, many-some, value-below, shorter-rises}
 
 -- ---- lists of one length, one after another
@@ -102,6 +102,23 @@ value-at (suc n) k h =
     rw (← e, g) v
 
 -- ---- the sequences of 0 to n steps
+
+unfoldable pub sequencesTo : ℕ → List (List ℕ)
+sequencesTo zero = sequences zero
+sequencesTo (suc n) = sequencesTo n ++ sequences (suc n)
+
+regrouped : {A : Type 0} (a b c d e f g : List A) → a ++ (b ++ (c ++ (d ++ (e ++ (f ++ (g ++ [])))))) ≡ a ++ b ++ c ++ d ++ e ++ f ++ g
+regrouped a b c d e f g =
+    sym (append-assoc a b _)
+    ∙ sym (append-assoc (a ++ b) c _)
+    ∙ sym (append-assoc (a ++ b ++ c) d _)
+    ∙ sym (append-assoc (a ++ b ++ c ++ d) e _)
+    ∙ sym (append-assoc (a ++ b ++ c ++ d ++ e) f _)
+    ∙ ap (λ x. a ++ b ++ c ++ d ++ e ++ f ++ x) (append-nil g)
+
+pub short-histories-are : shortHistories ≡ sequencesTo 6
+unfolding shortHistories flatten iota sequencesTo
+short-histories-are = regrouped (sequences 0) (sequences 1) (sequences 2) (sequences 3) (sequences 4) (sequences 5) (sequences 6)
 
 pub length-sequencesTo : (n : ℕ) → length (sequencesTo n) ≡ shorter (suc n)
 unfolding sequencesTo shorter

@@ -14,12 +14,11 @@ use Rattle.lists.specs.Laws.All.{and-both, all-snoc}
 use Rattle.lists.specs.Laws.Rising.{same-refl, same-eq}
 use Rattle.short_histories.specs.Sequences.{shortHistories, placeIn, positionOf, sequenceAt, known}
 use Rattle.short_histories.specs.Laws.Numbers.{Steps, number, shorter-than-seven, number-more, number-short}
-use Rattle.short_histories.specs.Laws.Blocks.{length-sequencesTo, number-below, number-found, number-none, Numbered, number-at}
+use Rattle.short_histories.specs.Laws.Blocks.{short-histories-are, length-sequencesTo, number-below, number-found, number-none, Numbered, number-at}
 
 -- the number of sequences
 pub short-histories-counted : length shortHistories ≡ 137257
-unfolding shortHistories
-short-histories-counted = length-sequencesTo 6 ∙ shorter-than-seven
+short-histories-counted = ap length short-histories-are ∙ length-sequencesTo 6 ∙ shorter-than-seven
 
 -- ---- known sequences
 
@@ -43,12 +42,12 @@ module _ (s : List ℕ) (e : known s ≡ true) where
   known-below = let h = number-below 6 s (known-steps s e) (known-short s e) in let q = shorter-than-seven in omega arith
 
   known-found : sequenceAt (number s) ≡ s
-  unfolding sequenceAt shortHistories
-  known-found = number-found 6 s (known-steps s e) (known-short s e)
+  unfolding sequenceAt
+  known-found = rw short-histories-are (number-found 6 s (known-steps s e) (known-short s e))
 
 at-position : (p : ℕ) → p < 137257 → Numbered 6 p (sequenceAt p)
-unfolding sequenceAt shortHistories
-at-position p h = number-at 6 p (let q = shorter-than-seven in omega arith)
+unfolding sequenceAt
+at-position p h = rw short-histories-are (number-at 6 p (let q = shorter-than-seven in omega arith))
 
 -- "every sequence of 0 to 6 steps", and no other
 pub sequenceAt-known : (p : ℕ) → p < 137257 → known (sequenceAt p) ≡ true

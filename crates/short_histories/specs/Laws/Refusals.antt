@@ -13,7 +13,7 @@ use Rattle.refusals.specs.Refusals.{firstRefusal, reply}
 use Rattle.short_histories.specs.declared.PositionAnswer.the-variants.{Refused as PositionRefused, Position}
 use Rattle.short_histories.specs.declared.SequenceAnswer.{SequenceAnswer}
 use Rattle.short_histories.specs.declared.SequenceAnswer.the-variants.{Refused, None, Written}
-use Rattle.short_histories.specs.Sequences.{shortHistories, positionOf, sequenceAt, nextAfter, known, positionRefusal, sequenceRefusal, stepsOf, nextRefusal, positionView, sequenceView, lengthOf, PositionAnswered, SequenceFound, NextFound}
+use Rattle.short_histories.specs.Sequences.{shortHistories, positionOf, sequenceAt, nextAfter, known, positionRefusal, sequenceRefusal, stepsOf, nextRefusal, positionView, sequenceView, PositionAnswered, SequenceFound, NextFound}
 use Rattle.short_histories.specs.Laws.Positions.{short-histories-counted}
 
 -- ---- the position of a sequence
@@ -55,7 +55,7 @@ module _ (position : ℕ) (output : List ℕ) where
 
   pub sequence-written : position < 137257 → (steps : ℕ) → steps ≡ length (sequenceAt position) → steps ≤ length output → (output′ : List ℕ)
       → output′ ≡ splice output 0 (sequenceAt position) → SequenceFound position output (Written steps) output′
-  unfolding sequenceView reply lengthOf stepsOf
+  unfolding sequenceView reply stepsOf
   sequence-written h steps e k output′ w =
       rw (fits h (rw (← e) k), e, w) (record { answers = refl; written = λ z. refl; unchanged = λ l. absurd (omega arith) })
 
@@ -72,7 +72,7 @@ module _ (sequence output : List ℕ) where
 
   pub next-none : known sequence ≡ true → (position : ℕ) → position ≡ positionOf sequence → 137257 ≤ position + 1
       → NextFound sequence output None output
-  unfolding sequenceView reply nextRefusal firstRefusal stepsOf lengthOf
+  unfolding sequenceView reply nextRefusal firstRefusal stepsOf
   next-none e position p h =
       let room : length (stepsOf none) ≤ length output = omega arith in
       rw (e, last (omega arith), le-ltb (length output) (length (stepsOf none)) room)
