@@ -18,6 +18,21 @@ use table_stage::stage_insert;
 use table_stage::stage_remove;
 use table_stage::stage_remove_row;
 
+// The kinds of requests.
+const INSERT: u32 = 0;
+
+const REMOVE_KEY: u32 = 1;
+
+const REMOVE_ROW: u32 = 2;
+
+const MERGE: u32 = 3;
+
+const COMPACT: u32 = 4;
+
+const CLEAR: u32 = 5;
+
+const REFRESH: u32 = 6;
+
 // The header after a call. A refused call leaves it unchanged.
 fn header_after(h: Header, answer: TableAnswer) -> Header
     ensures { λ r. ⌜ r ≡ headerAfter h (tableView answer) ⌝ }
@@ -46,15 +61,15 @@ fn header_refreshed(h: Header, answer: RefreshAnswer) -> Header
     }
 }
 
-// Executes kinds 0 to 2, which need the pending store only.
+// Executes a staging, which needs the pending store only.
 fn stage(h: Header, kind: u32, cells: &[u32], pending: &mut [u32]) -> Header
     requires { ⌜ kind ≤ 2 ⌝ }
     ensures { λ r. ⌜ MadeOnPending (requestOf kind (now (cells .entry))) h (now (pending .entry)) r (now (pending .exit)) ⌝ }
 {
-    if kind == 0 {
+    if kind == INSERT {
         return header_after(h, stage_insert(h, pending, cells));
     }
-    if kind == 1 {
+    if kind == REMOVE_KEY {
         return header_after(h, stage_remove(h, pending, cells));
     }
     if cells.len() == 0 {
@@ -63,7 +78,7 @@ fn stage(h: Header, kind: u32, cells: &[u32], pending: &mut [u32]) -> Header
     header_after(h, stage_remove_row(h, pending, cells[0], &cells[1..]))
 }
 
-// Executes kind 6: the number of columns, the columns, the stamp, then the values.
+// Executes a refresh: the number of columns, the columns, the stamp, then the values.
 fn refresh(h: Header, words: &[u32], rows: &[u32], pending: &mut [u32], index: &mut [u32]) -> Header
     ensures { λ r. ⌜ MadeOnIndex (refreshIn (now (words .entry))) h (now (rows .entry)) (now (pending .entry)) (now (index .entry)) r (now (pending .exit)) (now (index .exit)) ⌝ }
 {
@@ -96,19 +111,19 @@ pub fn make_call(
 ) -> Header
     ensures { λ r. ⌜ Made (requestOf kind (now (cells .entry))) (lengths (now (rows .entry)) (now (keys .entry)) (now (sorts .entry)) (now (pending .entry)) (now (live .entry)) (now (base .entry))) (stores h (now (rows .entry)) (now (keys .entry)) (now (sorts .entry)) (now (pending .entry))) (compactionWords (now (live .entry)) (now (base .entry))) (now (index .entry)) (stores r (now (rows .exit)) (now (keys .exit)) (now (sorts .exit)) (now (pending .exit))) (compactionWords (now (live .exit)) (now (base .exit))) (now (index .exit)) ⌝ }
 {
-    if kind <= 2 {
+    if kind <= REMOVE_ROW {
         return stage(h, kind, cells, pending);
     }
-    if kind == 3 {
+    if kind == MERGE {
         return header_merged(h, merge(h, rows, keys, sorts, pending, live, base));
     }
-    if kind == 4 {
+    if kind == COMPACT {
         return header_after(h, compact(h, rows, keys, sorts, live, base));
     }
-    if kind == 5 {
+    if kind == CLEAR {
         return header_after(h, clear(h, keys));
     }
-    if kind == 6 {
+    if kind == REFRESH {
         return refresh(h, cells, rows, pending, index);
     }
     h

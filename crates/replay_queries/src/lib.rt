@@ -17,8 +17,27 @@ use table::Header;
 use table::RangeAnswer;
 use table_read::fast_subset;
 
-// The ids left: a range, or the starting list (place 0), or the first ids of the first or second lent list. Also whether an
-// accepted query refined, and how many queries were taken from the list, including refused ones.
+// The kinds of queries: refining by a condition or by a list of them, intersecting with ids, with a range, or with the
+// sort-column range of a condition.
+const REFINE_ONE: u32 = 0;
+
+const REFINE_LIST: u32 = 1;
+
+const INTERSECT_LIST: u32 = 2;
+
+const INTERSECT_RANGE: u32 = 3;
+
+const INTERSECT_SORT_RANGE: u32 = 4;
+
+// The lists that ids left can be in: the starting list, the first and the second lent list.
+pub const STARTING_LIST: u32 = 0;
+
+pub const FIRST_LIST: u32 = 1;
+
+pub const SECOND_LIST: u32 = 2;
+
+// The ids left: a range, or the starting list, or the first ids of the first or second lent list; `place` is the list. Also whether
+// an accepted query refined, and how many queries were taken from the list, including refused ones.
 pub struct RunAnswer {
     pub dense: bool,
     pub start: u32,
@@ -61,7 +80,7 @@ fn apply_answer(l: RunAnswer, place: u32, refines: bool, answer: SubsetAnswer) -
             start: start,
             end: end,
             count: 0,
-            place: 0,
+            place: STARTING_LIST,
             refined: refined,
             taken: l.taken + 1,
         },
@@ -152,10 +171,10 @@ pub fn execute(
     requires { ⌜ l .taken < 18446744073709551615 ⌝ }
     ensures { λ r. ⌜ Executed h (now (rows .entry)) (now (sorts .entry)) (subsetOf head (now (ids .entry))) (queryOf kind (now (cells .entry))) l place (now (out .entry)) r (now (out .exit)) ⌝ }
 {
-    if kind == 1 {
+    if kind == REFINE_LIST {
         return execute_list(h, rows, cells, l, head, ids, place, out);
     }
-    if kind == 2 {
+    if kind == INTERSECT_LIST {
         let listed = SubsetHead {
             dense: false,
             start: 0,
@@ -163,7 +182,7 @@ pub fn execute(
         };
         return apply_answer(l, place, false, intersect(head, ids, listed, cells, out));
     }
-    if kind == 3 {
+    if kind == INTERSECT_RANGE {
         if cells.len() != 2 {
             return l;
         }
@@ -178,10 +197,10 @@ pub fn execute(
         return l;
     }
     let c = read_condition(cells, 0);
-    if kind == 0 {
+    if kind == REFINE_ONE {
         return apply_answer(l, place, true, refine_one(h, rows, head, ids, c, out));
     }
-    if kind == 4 {
+    if kind == INTERSECT_SORT_RANGE {
         return execute_range(h, sorts, c, l, head, ids, place, out);
     }
     l
