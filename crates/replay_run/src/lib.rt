@@ -8,7 +8,10 @@ ghost use Rattle.replay_run.specs.RunQueries.{RunMade};
 ghost use Rattle.replay_run.specs.inner.Executing.{QueriesExecuted, QueryExecuted};
 use offsets::SubsetHead;
 use replay_frames::frame_length;
+use replay_queries::FIRST_LIST;
 use replay_queries::RunAnswer;
+use replay_queries::SECOND_LIST;
+use replay_queries::STARTING_LIST;
 use replay_queries::execute;
 use table::Header;
 
@@ -33,7 +36,7 @@ fn execute_query(
         end: l.end,
     };
     let count = l.count as usize;
-    if l.place == 1 {
+    if l.place == FIRST_LIST {
         return execute(
             h,
             rows,
@@ -43,11 +46,11 @@ fn execute_query(
             l,
             head,
             &first[..count],
-            2,
+            SECOND_LIST,
             second,
         );
     }
-    if l.place == 2 {
+    if l.place == SECOND_LIST {
         return execute(
             h,
             rows,
@@ -57,11 +60,11 @@ fn execute_query(
             l,
             head,
             &second[..count],
-            1,
+            FIRST_LIST,
             first,
         );
     }
-    execute(h, rows, sorts, kind, cells, l, head, ids, 1, first)
+    execute(h, rows, sorts, kind, cells, l, head, ids, FIRST_LIST, first)
 }
 
 // Runs all queries, in order, each on the ids that the last accepted one left, in two lists of one length.
@@ -126,7 +129,7 @@ pub fn run_queries(
         start: head.start,
         end: head.end,
         count: 0,
-        place: 0,
+        place: STARTING_LIST,
         refined: false,
         taken: 0,
     };
