@@ -1,12 +1,13 @@
 // Lists of queries, decoded from words and run one after another on the ids left: the claim about runs holds for running code.
 ghost use mathlib.Core.Path.{_≡_};
-ghost use Prim.Native.Nat.{_≤_, _<_, min};
+ghost use Prim.Native.Nat.{_≤_, _<_};
 ghost use lib.ListN.{length};
 ghost use Rattle.offsets.specs.Answers.{subsetOf};
 ghost use Rattle.replay_queries.specs.Encoding.{queryOf, queriesIn};
 ghost use Rattle.replay_run.specs.RunQueries.{RunMade};
 ghost use Rattle.replay_run.specs.inner.Executing.{QueriesExecuted, QueryExecuted};
 use offsets::SubsetHead;
+use query_spec::refusing::smaller;
 use replay_frames::frame_length;
 use replay_queries::FIRST_LIST;
 use replay_queries::RunAnswer;
@@ -100,15 +101,6 @@ fn run_queries_within(
         words = frame_length(queries, at);
     }
     n
-}
-
-fn smaller(a: usize, b: usize) -> usize
-    ensures { λ r. ⌜ r ≡ min a b ⌝ }
-{
-    if a < b {
-        return a;
-    }
-    b
 }
 
 // Runs all queries. Both lists are used up to the length of the shorter, so it does not matter which one is lent first.
