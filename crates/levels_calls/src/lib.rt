@@ -1,7 +1,6 @@
 // The lines of `levels` that change a table. Each makes its call and returns the header after it and the response. The compaction
 // words are local arrays of the functions that lend them.
 ghost use mathlib.Core.Path.{_≡_};
-ghost use mathlib.Core.Bool.{cond};
 ghost use mathlib.Core.Logic.{_⊎_};
 ghost use Prim.Native.Nat.{_≤_};
 ghost use lib.ListN.{length};
@@ -9,6 +8,8 @@ ghost use Rattle.table.specs.Numbers.{tableView, mergeView};
 ghost use Rattle.table.specs.Contracts.{headerAfter, headerMerged, stores};
 ghost use Rattle.levels_spec.specs.inner.Responses.{responseOf, nothingResponse, mergeResponse, ServedWith, Serving};
 ghost use Rattle.levels_calls.specs.inner.Calling.{OnPending, OnKeys, OnBody, OnAll};
+use abi::encode_bool;
+use abi::places;
 use levels_spec::Response;
 use levels_spec::Served;
 use refusals::NO_LISTING;
@@ -76,7 +77,7 @@ pub fn open_table(
     requires { ⌜ length (now numbers) ≡ 6 ⌝ }
     ensures { λ r. ⌜ Serving 79 (now (numbers .entry)) (stores h (now (rows .entry)) (now (keys .entry)) (now (sorts .entry)) (now (pending .entry))) (stores (r .header) (now (rows .entry)) (now (keys .exit)) (now (sorts .entry)) (now (pending .entry))) (r .response) ⌝ }
 {
-    let capacity = numbers[4];
+    let capacity = numbers[places::CAPACITY];
     if MOST_ROWS < capacity {
         return Served {
             header: h,
@@ -84,12 +85,12 @@ pub fn open_table(
         };
     }
     let opened = table_open::open_table(
-        numbers[0],
-        numbers[1],
-        numbers[2],
-        numbers[3],
+        numbers[places::COLUMNS],
+        numbers[places::KEYS],
+        numbers[places::SORT],
+        numbers[places::RULE],
         capacity,
-        numbers[5],
+        numbers[places::OPENING_GENERATION],
         rows,
         keys,
         sorts,
@@ -116,12 +117,6 @@ pub fn compact(h: Header, rows: &mut [u32], keys: &mut [u32], sorts: &mut [u32])
     taken(h, compacted)
 }
 
-fn digit_of(yes: bool) -> u32
-    ensures { λ r. ⌜ r ≡ cond yes 1 0 ⌝ }
-{
-    if yes { 1 } else { 0 }
-}
-
 // The header and the response after a merge.
 fn respond_merge(h: Header, answer: MergeAnswer) -> Served
     ensures { λ r. ⌜ ServedWith (headerMerged h (mergeView answer)) (responseOf mergeResponse (mergeView answer)) r ⌝ }
@@ -135,7 +130,7 @@ fn respond_merge(h: Header, answer: MergeAnswer) -> Served
             let header = m.header;
             Served {
                 header: header,
-                response: Response::Merged(m.status, digit_of(m.added), m.place),
+                response: Response::Merged(m.status, encode_bool(m.added), m.place),
             }
         }
     }

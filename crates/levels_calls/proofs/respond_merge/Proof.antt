@@ -8,7 +8,7 @@ returns : tie.Need-returns
 returns c = merge-refused _ _ _ (c .before .answer .given .1)
 
 returns-2 : tie.Need-returns-2
-returns-2 c = merge-table _ _ _ _ (c .before .before .before .answer2 .given .1) (c .digit-of .ensures)
+returns-2 c = merge-table _ _ _ _ (c .before .before .before .answer2 .given .1) (c .encode-bool .ensures)
 
 pub respond-merge-spec : {M : Type 1} → statement M
 respond-merge-spec =
