@@ -14,6 +14,7 @@ use abi::ACCEPTED;
 use abi::decode_header;
 use abi::decode_subset;
 use abi::encode_bool;
+use abi::places;
 use abi::store_table;
 use replay_queries::RunAnswer;
 
@@ -38,12 +39,12 @@ pub extern "C" fn mouldgrey_replay(
     ensures { λ r. ⌜ Answers (λ answer. Replayed (decodeOpening (now (opening .entry))) (openingGeneration (now (opening .entry))) (decoded (now (calls .entry))) (body (now (rows .entry)) (now (keys .entry)) (now (sorts .entry))) (now (pending .entry)) (compactionWords (now (live .entry)) (now (base .entry))) (now (index .entry)) answer (body (now (rows .exit)) (now (keys .exit)) (now (sorts .exit))) (now (pending .exit)) (compactionWords (now (live .exit)) (now (base .exit))) (now (index .exit))) tableView encodeHeader (now (header .entry)) r (now (header .exit)) ⌝ }
 {
     let answer = replay::replay(
-        opening[0],
-        opening[1],
-        opening[2],
-        opening[3],
-        opening[4],
-        opening[5],
+        opening[places::COLUMNS],
+        opening[places::KEYS],
+        opening[places::SORT],
+        opening[places::RULE],
+        opening[places::CAPACITY],
+        opening[places::OPENING_GENERATION],
         calls,
         rows,
         keys,
