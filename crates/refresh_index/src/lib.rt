@@ -52,7 +52,7 @@ pub fn is_usable(h: Header, index: &[u32], columns: &[u32]) -> bool
 }
 
 // The bucket of a value, among `buckets`.
-fn bucket_of(buckets: u32, value: u32) -> usize
+pub fn bucket_of(buckets: u32, value: u32) -> usize
     requires { ⌜ 0 < buckets ⌝ }
     ensures { λ r. ⌜ (r ≡ bucketOf buckets value) × (r < buckets) ⌝ }
 {

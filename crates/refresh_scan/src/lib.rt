@@ -17,7 +17,7 @@ use table::Header;
 // The number of values in a part. Their links are followed by the links of the buckets, four times as many so that most are empty.
 const PART: usize = 1024;
 
-const BUCKETS: u64 = 4096;
+const BUCKETS: u32 = 4096;
 
 const LINKS: usize = 5120;
 
@@ -25,8 +25,7 @@ const LINKS: usize = 5120;
 fn bucket_place(value: u32) -> usize
     ensures { λ r. ⌜ (r ≡ 1024 + bucketOf 4096 value) × (r < 5120) ⌝ }
 {
-    let bucket = value as u64 * 2_654_435_769 % 0x1_0000_0000 * BUCKETS / 0x1_0000_0000;
-    PART + bucket as usize
+    PART + refresh_index::bucket_of(BUCKETS, value)
 }
 
 // Links the values of a part. A link is a place plus 1, or 0 for none; the link of a value refers to a lower place.
