@@ -1,22 +1,18 @@
--- The turns of `mark_chain`, from entry to entry, and of `mark_listed`, from value to value. Assumes nothing.
+-- The turns of `mark_chain`, from entry to entry. Assumes nothing.
 use Prim.Native.Nat.{ℕ, _+_, _-_, _*_, _≤_, _<_}
 use mathlib.Core.Path.{_≡_}
 use mathlib.Core.Bool.{Bool, true}
 use mathlib.Core.List.{List, []}
 use native.Mathlib.Nat.{mul-le-mul-right}
-use native.Mathlib.Numerals.{add-one}
-use lib.ListN.{length, drop, getD, drop-of-length-le}
-use lib.Seq.{drop-cons}
+use lib.ListN.{length, getD}
 use Rattle.lists.specs.Lists.{any}
 use Rattle.table.specs.declared.Header.{Header}
-use Rattle.bitmap.specs.Laws.Bitmaps.{marked-weaker}
 use Rattle.refresh_spec.specs.Index.{rowsSeen, bucketOf, chain, entriesUnder, leadsTo, leads}
-use Rattle.refresh_spec.specs.inner.Finding.{Lendable, usable, ListedMarked}
+use Rattle.refresh_spec.specs.inner.Finding.{Lendable, usable}
 use Rattle.refresh_index.specs.inner.Entries.{headsAt}
-use Rattle.refresh_index.specs.inner.Marking.{MarkedAll, found}
+use Rattle.refresh_index.specs.inner.Marking.{MarkedAll}
 use Rattle.refresh_index.specs.Laws.Chains.{chain-on}
 use Rattle.refresh_index.specs.Laws.Using.{usable-is}
-use Rattle.refresh_index.specs.Laws.Found.{found-mentions, mentions-found}
 use Rattle.refresh_index.proofs.Sizes.{small}
 use Rattle.refresh_index.proofs.Goings.{Going, going-begin, going-on, going-end}
 
@@ -65,21 +61,3 @@ module _ (h : Header) (rows columns : List ℕ) (value : ℕ) {all : ℕ → Boo
   pub chain-end : (entries : List ℕ) → entries ≡ [] → Going all (leads h rows columns value entries) words words₁ a → MarkedAll all words words₁ a
   unfolding leads any
   chain-end entries e g = going-end g (λ i. rw e)
-
--- from value to value
-
-module _ (h : Header) (rows index columns values : List ℕ) (i : ℕ) {words words₁ : List ℕ} {a : ℕ} where
-  pub value-on : {words₂ : List ℕ} {b : ℕ} → i < length values → Going (found h rows index columns values) (found h rows index columns (drop i values)) words words₁ a
-      → MarkedAll (leads h rows columns (getD values i 0) (entriesUnder (h .capacity) index (getD values i 0))) words₁ words₂ b
-      → Going (found h rows index columns values) (found h rows index columns (drop (i + 1) values)) words words₂ (a + b)
-  unfolding found any
-  value-on k g m = going-on g (λ row. rw (add-one, drop-cons values i 0 k)) m
-
-  pub values-end : usable h columns index ≡ true → length values ≤ i
-      → Going (found h rows index columns values) (found h rows index columns (drop i values)) words words₁ a → ListedMarked h rows index columns values words words₁ a
-  unfolding found any
-  values-end u k g =
-      let v = usable-is h columns index u in
-      λ needed sub. marked-weaker (found-mentions h rows columns index (v .named) values (v .seen))
-      (λ row e. let s = sub row e in mentions-found h rows columns index (v .named) values (s .0) row (s .1))
-      (going-end g (λ row. rw (drop-of-length-le values {i = i} k)))

@@ -5,3 +5,4 @@ pub mod Catches
 pub mod Goings
 pub mod Leads
 pub mod ChainSteps
+pub mod ValueSteps

@@ -4,12 +4,13 @@
 ghost use mathlib.Core.Path.{_≡_};
 ghost use mathlib.Core.Bool.{true, false};
 ghost use Prim.Native.Nat.{_+_, _*_, _≤_, _<_};
-ghost use lib.ListN.{length};
+ghost use lib.Dec.{eqb};
+ghost use lib.ListN.{length, getD, set};
 ghost use Rattle.table.specs.Refusing.{outside};
 ghost use Rattle.refresh_spec.specs.Index.{bucketOf, entriesUnder, leadsTo, leads};
 ghost use Rattle.refresh_spec.specs.inner.Finding.{Lendable, usable, ListedMarked, CaughtUp};
 ghost use Rattle.refresh_index.specs.inner.Entries.{Readable, cellNamed, fronted, pushed, Fillable, Pushed, UpToDate, Filled, Emptied};
-ghost use Rattle.refresh_index.specs.inner.Marking.{MarkedAll};
+ghost use Rattle.refresh_index.specs.inner.Marking.{MarkedAll, Noted};
 use table::Header;
 
 // The number of words before the entries.
@@ -22,6 +23,9 @@ const BUCKETS: usize = 12;
 
 // An odd number near the golden section of 2^32: values at equal distances fall into buckets far apart.
 const HASH_MULTIPLIER: u64 = 0x9e37_79b9;
+
+// The number of slots for values looked up before.
+const RECENT: usize = 1024;
 
 // Whether a refresh by these columns can continue with the store: it is of this generation and these columns, has seen no more rows
 // than there are, and has enough buckets for all of them.
@@ -207,7 +211,45 @@ fn mark_chain(
     marked
 }
 
-// Sets the bits of the live rows seen that the store lists under the values. Returns how many were not set before.
+// Whether a value is in its slot of the values looked up before. It is there afterwards.
+fn is_repeated(recent: &mut [u32], value: u32) -> bool
+    requires { ⌜ length (now recent) ≡ 1024 ⌝ }
+    ensures { λ r. ⌜ (r ≡ eqb (getD (now (recent .entry)) (bucketOf 1024 value) 0) value) × (now (recent .exit) ≡ set (now (recent .entry)) (bucketOf 1024 value) value) ⌝ }
+{
+    let slot = bucket_of(RECENT as u32, value);
+    let before = recent[slot];
+    recent[slot] = value;
+    before == value
+}
+
+// Sets the bits of the live rows seen that the store lists under the values. Values found among the recent ones are not looked up
+// again.
+fn mark_values(
+    h: Header,
+    rows: &[u32],
+    index: &[u32],
+    columns: &[u32],
+    values: &[u32],
+    recent: &mut [u32],
+    words: &mut [u64],
+) -> u32
+    requires { ⌜ Lendable h (now rows) (now columns) (now index) × (usable h (now columns) (now index) ≡ true) × (length (now words) ≡ 1024) × Noted (now values) 0 (now recent) ⌝ }
+    ensures { λ r. ⌜ ListedMarked h (now (rows .entry)) (now (index .entry)) (now (columns .entry)) (now (values .entry)) (now (words .entry)) (now (words .exit)) r ⌝ }
+{
+    let mut marked: u32 = 0;
+    let mut i = 0;
+    while i < values.len() {
+        let value = values[i];
+        i += 1;
+        if !is_repeated(recent, value) {
+            marked += mark_chain(h, rows, index, columns, value, words);
+        }
+    }
+    marked
+}
+
+// Sets the bits of the live rows seen that the store lists under the values. Returns how many were not set before. An empty slot of
+// the recent values has a value of another slot: 0, which belongs to slot 0, and 1 in slot 0.
 pub fn mark_listed(
     h: Header,
     rows: &[u32],
@@ -219,11 +261,7 @@ pub fn mark_listed(
     requires { ⌜ Lendable h (now rows) (now columns) (now index) × (usable h (now columns) (now index) ≡ true) × (length (now words) ≡ 1024) ⌝ }
     ensures { λ r. ⌜ ListedMarked h (now (rows .entry)) (now (index .entry)) (now (columns .entry)) (now (values .entry)) (now (words .entry)) (now (words .exit)) r ⌝ }
 {
-    let mut marked: u32 = 0;
-    let mut i = 0;
-    while i < values.len() {
-        marked += mark_chain(h, rows, index, columns, values[i], words);
-        i += 1;
-    }
-    marked
+    let mut recent = [0u32; RECENT];
+    recent[0] = 1;
+    mark_values(h, rows, index, columns, values, &mut recent, words)
 }
