@@ -165,7 +165,7 @@ module _ (h : Header) (rows pending index : List ℕ) (r : Refresh) where
       total : countTo (f .test) (h .rows) * rowWords h ≡ count * (h .keys + 3) + count * (h .columns + 2)
       total = rw count-rows (omega arith)
 
-      pub stageable : Stageable h rows pending words
+      pub stageable : Stageable h rows pending words count
       unfolding overfull
       stageable =
           let n : ℕ = h .pending + (count * (h .keys + 3) + count * (h .columns + 2)) in
@@ -174,6 +174,7 @@ module _ (h : Header) (rows pending index : List ℕ) (r : Refresh) where
           record {
             test = f .test;
             bitmap = f .bitmap;
+            counted = count-rows;
             room = record {
               inside = lent .inside;
               rows-long = lent .rows-long;

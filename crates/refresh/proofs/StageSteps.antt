@@ -86,6 +86,17 @@ module _ (h : Header) (rows : List ℕ) (test : ℕ → Bool) where
       let g = count-grows n k in
       rw e (elim (split (test (n + k))) [ inl q ↦ omega (arith, count-yes (n + k) q) | inr q ↦ omega (arith, count-no (n + k) q) ])
 
+  none-counted : (n : ℕ) → countTo test n ≡ 0 → (i : ℕ) → i < n → test i ≡ false
+  none-counted zero z i k = absurd (omega arith)
+  none-counted (suc n) z i k =
+      elim (split (test n)) [
+        | inl e ↦ absurd (omega (arith, count-yes n e))
+        | inr e ↦ elim (decLt i n) [
+          | yes b ↦ none-counted n (omega (arith, count-no n e, z)) i b
+          | no b ↦ let same : i ≡ n = omega arith in rw same e
+        ]
+      ]
+
   -- where none from the count on is marked
   pub all-marked : ((i : ℕ) → test i ≡ true → i < h .rows) → (n : ℕ) → h .rows ≤ n
       → (markedRows h rows test n ≡ markedRows h rows test (h .rows)) × (countTo test n ≡ countTo test (h .rows))
@@ -265,7 +276,12 @@ module _ {h : Header} {rows pending : List ℕ} {before first marked stamp : ℕ
 
 -- ---- all words
 
-module _ {h : Header} {rows pending words : List ℕ} (stamp : ℕ) (s : Stageable h rows pending words) where
+module _ {h : Header} {rows pending words : List ℕ} {count : ℕ} (stamp : ℕ) (s : Stageable h rows pending words count) where
+  -- there is none
+  pub written-none : count ≡ 0 → Written h rows pending (s .test) stamp pending (h .pending) (h .rows)
+  written-none z =
+      rw zero-add at (written-skip (s .room) (written-begin (s .room) {stamp = stamp}) (h .rows) (λ i a b. none-counted h rows (s .test) (h .rows) (s .counted ∙ z) i (omega (arith, b))))
+
   -- what holds at the loop's head
   pub record Iteration (pending′ : List ℕ) (used first : ℕ) : Type 0 where
     pub aligned : first % 64 ≡ 0

@@ -179,11 +179,21 @@ fn write_block(
     used
 }
 
-// Writes the records of all rows in the bitmap, in rising order.
-fn write_marked(h: Header, rows: &[u32], pending: &mut [u32], words: &[u64], stamp: u32) -> u32
-    requires { ⌜ Stageable h (now rows) (now pending) (now words) ⌝ }
-    ensures { λ r. ⌜ AllWritten h (now (rows .entry)) (now (pending .entry)) (now (words .entry)) stamp r (now (pending .exit)) ⌝ }
+// Writes the records of all rows in the bitmap, of which there are `count`, in rising order.
+fn write_marked(
+    h: Header,
+    rows: &[u32],
+    pending: &mut [u32],
+    words: &[u64],
+    count: u32,
+    stamp: u32,
+) -> u32
+    requires { ⌜ Stageable h (now rows) (now pending) (now words) count ⌝ }
+    ensures { λ r. ⌜ AllWritten h (now (rows .entry)) (now (pending .entry)) (now (words .entry)) count stamp r (now (pending .exit)) ⌝ }
 {
+    if count == 0 {
+        return h.pending;
+    }
     let mut used = h.pending;
     let mut first: u32 = 0;
     while first < h.rows {
@@ -203,11 +213,11 @@ fn stage_marked(
     count: u32,
     stamp: u32,
 ) -> Refreshed
-    requires { ⌜ Stageable h (now rows) (now pending) (now words) ⌝ }
+    requires { ⌜ Stageable h (now rows) (now pending) (now words) count ⌝ }
     ensures { λ r. ⌜ RowsStaged h (now (rows .entry)) (now (pending .entry)) (now (words .entry)) count stamp r (now (pending .exit)) ⌝ }
 {
     let mut n = h;
-    n.pending = write_marked(h, rows, pending, words, stamp);
+    n.pending = write_marked(h, rows, pending, words, count, stamp);
     Refreshed {
         header: n,
         staged: 0 < count,

@@ -63,18 +63,19 @@ pub record Block (h : Header) (rows pending : List ℕ) (used first word stamp :
 pub record BlockWritten (h : Header) (rows pending : List ℕ) (used first word stamp : ℕ) (r : ℕ) (pending′ : List ℕ) : Type 0 where
   pub on : (b : Block h rows pending used first word stamp) → Written h rows (b .pending₀) (b .test) stamp pending′ r (first + 64)
 
--- a bitmap of rows, and room for their records
-pub record Stageable (h : Header) (rows pending words : List ℕ) : Type 0 where
+-- a bitmap of so many rows, and room for their records
+pub record Stageable (h : Header) (rows pending words : List ℕ) (count : ℕ) : Type 0 where
   pub test : ℕ → Bool
   pub bitmap : Bitmap words test
+  pub counted : countTo test (h .rows) ≡ count
   pub room : RecordsFit h rows pending test
 
 -- the records of all rows are written
-pub record AllWritten (h : Header) (rows pending words : List ℕ) (stamp r : ℕ) (pending′ : List ℕ) : Type 0 where
-  pub on : (s : Stageable h rows pending words) → Written h rows pending (s .test) stamp pending′ r (h .rows)
+pub record AllWritten (h : Header) (rows pending words : List ℕ) (count stamp r : ℕ) (pending′ : List ℕ) : Type 0 where
+  pub on : (s : Stageable h rows pending words count) → Written h rows pending (s .test) stamp pending′ r (h .rows)
 
 -- the same, and the answer of a refresh that found so many rows
 pub record RowsStaged (h : Header) (rows pending words : List ℕ) (count stamp : ℕ) (answer : Refreshed) (pending′ : List ℕ) : Type 0 where
   pub used : ℕ
-  pub written : AllWritten h rows pending words stamp used pending′
+  pub written : AllWritten h rows pending words count stamp used pending′
   pub answers : answer ≡ record { header = withPending h used; staged = ltb 0 count }
