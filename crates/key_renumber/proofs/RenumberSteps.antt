@@ -1,20 +1,25 @@
 -- The steps of `renumber`: the new value of a word, and the loop iterations over the slots. Assumes nothing.
 use Prim.Native.Nat.{ℕ, zero, suc, _+_, _-_, _*_, _/_, _%_, _^_, _≤_, _<_, min}
 use mathlib.Core.Path.{_≡_, refl, sym, ap, _∙_}
-use mathlib.Core.Bool.{Bool, true, false}
+use mathlib.Core.Logic.{inl, inr}
+use mathlib.Core.Bool.{Bool, true, false, not}
 use mathlib.Core.List.{List}
-use native.Mathlib.Nat.{add-zero}
+use native.Mathlib.Nat.{add-zero, add-mul, mul-comm}
 use native.Mathlib.Omega.{arith}
 use lib.Bits.{bitAnd}
 use lib.Count.{trailingZeros}
+use lib.Dec.{eqb}
 use lib.ListN.{length, getD, set, length-set}
+use lib.Pow.{pow-add}
 use lib.Seq.{set-getD}
 use borrow.Author.Tests.{le-leb, lt-leb, eqb-true, not-false}
 use Rattle.lists.specs.inner.Searching.{mapFront}
 use Rattle.lists.specs.Laws.Front.{length-mapFront, getD-mapFront-past, mapFront-step}
+use Rattle.lists.specs.Laws.Filter.{split}
 use Rattle.row_buffer.specs.Ranks.{setBelow, bitmapWord}
+use Rattle.row_buffer.specs.Laws.Rows.{bitmapWord-lt}
 use Rattle.bitmap.specs.inner.Marking.{otherAt}
-use Rattle.bitmap.specs.Laws.Lowest.{onward, onward-all, Next, next-bit, no-more}
+use Rattle.bitmap.specs.Laws.Lowest.{bitmapWord-same, onward, onward-all, Next, next-bit, no-more}
 use Rattle.key_index.specs.declared.IndexShape.{IndexShape}
 use Rattle.key_index.specs.Slots.{slots}
 use Rattle.key_index.specs.inner.Ring.{rowNamed, namesRow}
@@ -45,6 +50,34 @@ module _ (t : IndexShape) (w : ℕ) (live base : List ℕ) where
     in-words r = let n = names-number t w e in (n .0, omega (arith, n, r .bitmapWord, r .count), omega (arith, n, r .firsts, r .count))
 
 -- ---- the slots of a block
+
+-- a bitmap word is made of the words of its first n positions and of the others
+word-join : (f : ℕ → Bool) (n m : ℕ) → bitmapWord f (n + m) ≡ bitmapWord f n + bitmapWord (λ k. f (n + k)) m * 2 ^ n
+unfolding bitmapWord
+word-join f n zero = let z : bitmapWord f n ≡ bitmapWord f n + 0 * 2 ^ n = omega arith in rw add-zero z
+word-join f n (suc m) =
+    let e : n + suc m ≡ suc (n + m) = omega arith in
+    let w : ℕ = bitmapWord (λ k. f (n + k)) m in
+    let h = word-join f n m in
+    elim (split (f (n + m))) [
+      | inl q ↦ rw (e, q) (omega (arith, h, pow-add 2 n m, mul-comm (2 ^ n) (2 ^ m), add-mul w (2 ^ m) (2 ^ n)))
+      | inr q ↦ rw (e, q) (omega (arith, h, add-mul w 0 (2 ^ n)))
+    ]
+
+module _ (store : List ℕ) (from : ℕ) where
+  -- the words of the two halves of a block
+  pub word-halves : (low high : ℕ) → low ≡ bitmapWord (otherAt store from 1 0) 32 → high ≡ bitmapWord (otherAt store (from + 32) 1 0) 32
+      → high * 4294967296 + low ≡ bitmapWord (otherAt store from 1 0) 64
+  unfolding otherAt
+  word-halves low high e f =
+      let same = bitmapWord-same (otherAt store (from + 32) 1 0) (λ k. otherAt store from 1 0 (32 + k)) 32 (λ k b.
+      let i : from + 32 + k * 1 ≡ from + (32 + k) * 1 = omega arith in
+      ap (λ (x : ℕ). not (eqb (getD store x 0) 0)) i) in
+      let g : high ≡ bitmapWord (λ k. otherAt store from 1 0 (32 + k)) 32 = f ∙ same in
+      omega (arith, e, g, word-join (otherAt store from 1 0) 32 32)
+
+pub half-below : (store : List ℕ) (from w : ℕ) → w ≡ bitmapWord (otherAt store from 1 0) 32 → w < 4294967296
+half-below store from w e = rw e (bitmapWord-lt (otherAt store from 1 0) 32)
 
 -- elements that stay as they are may as well be mapped
 mapFront-skip : (f : ℕ → ℕ) (n k : ℕ) (l : List ℕ) → n + k ≤ length l → ((i : ℕ) → n ≤ i → i < n + k → f (getD l i 0) ≡ getD l i 0)

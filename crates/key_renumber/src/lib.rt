@@ -4,8 +4,12 @@ ghost use mathlib.Core.Path.{_≡_};
 ghost use Prim.Native.Nat.{_≤_, _<_};
 ghost use lib.ListN.{length};
 ghost use Rattle.lists.specs.inner.Searching.{mapFront};
+ghost use Rattle.row_buffer.specs.Ranks.{bitmapWord};
+ghost use Rattle.bitmap.specs.inner.Marking.{Spaced, otherAt};
 ghost use Rattle.key_index.specs.Slots.{slots};
 ghost use Rattle.key_renumber.specs.inner.Renumbering.{renumbered, Ranked, Block, BlockRenumbered};
+use bitmap::word::block;
+use bitmap::word::different_bits;
 use key_index::IndexShape;
 use key_index::ROW_RANGE;
 use key_index::names_row;
@@ -27,6 +31,22 @@ fn renumber_word(t: IndexShape, word: u32, live: &[u64], base: &[u32]) -> u32
     word / ROW_RANGE * ROW_RANGE + (row_buffer::rank(live[at], first, row % 64) + 1)
 }
 
+// Half the slots of a block. Their number is constant, so that the compiler unrolls the test of their words into vector code.
+const HALF: u32 = 32;
+
+// The bitmap word of the taken slots of a block.
+fn taken_bits(store: &[u32], from: usize, count: u32) -> u64
+    requires { ⌜ Spaced (now store) from 1 count ⌝ }
+    ensures { λ r. ⌜ r ≡ bitmapWord (otherAt (now (store .entry)) from 1 0) count ⌝ }
+{
+    if count < 2 * HALF {
+        return different_bits(store, from, 1, count, 0);
+    }
+    let low = different_bits(store, from, 1, HALF, 0);
+    let high = different_bits(store, from + HALF as usize, 1, HALF, 0);
+    high * 0x1_0000_0000 + low
+}
+
 // Renumbers up to 64 slots; visits only those that are taken.
 fn renumber_block(
     t: IndexShape,
@@ -39,7 +59,7 @@ fn renumber_block(
     requires { ⌜ (Ranked t (now live) (now base)) × (Block (now store) from count) ⌝ }
     ensures { λ _. ⌜ BlockRenumbered t (now (live .entry)) (now (base .entry)) (now (store .entry)) from count (now (store .exit)) ⌝ }
 {
-    let mut word = bitmap::word::different_bits(store, from as usize, 1, count, 0);
+    let mut word = taken_bits(store, from as usize, count);
     while word != 0 {
         let at = (from + u64::trailing_zeros(word)) as usize;
         word = word & (word - 1);
@@ -55,7 +75,7 @@ pub fn renumber(t: IndexShape, store: &mut [u32], live: &[u64], base: &[u32])
     let n = 2 * t.room;
     let mut at: u32 = 0;
     while at < n {
-        let count = bitmap::word::block(n - at);
+        let count = block(n - at);
         renumber_block(t, store, at, count, live, base);
         at += count;
     }

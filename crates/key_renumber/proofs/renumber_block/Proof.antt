@@ -13,11 +13,11 @@ Inv-loop t store₀ from count live base word₀ store word = Left t live base s
 abbrev μ-loop : tie.MeasureT-loop
 μ-loop t store₀ from count live base word₀ store word = word
 
-different-bits-requires : tie.Need-different-bits-requires Inv-loop μ-loop
-different-bits-requires c κs = let p = c .before .before .before .before .pre .1 in record { few = p .few; apart = omega arith; inside = omega (arith, p .inside) }
+taken-bits-requires : tie.Need-taken-bits-requires Inv-loop μ-loop
+taken-bits-requires c κs = let p = c .before .before .before .before .pre .1 in record { few = p .few; apart = omega arith; inside = omega (arith, p .inside) }
 
 loop-holds : tie.Need-loop-holds Inv-loop μ-loop
-loop-holds c = left-begin _ _ _ _ _ _ _ (c .different-bits .ensures)
+loop-holds c = left-begin _ _ _ _ _ _ _ (c .taken-bits .ensures)
 
 -- the slot of the lowest set bit
 inside : (c : tie.In-loop Inv-loop μ-loop) → let a = c .before .before .before .before .before .before .before .args in a .from + trailingZeros 64 (c .before .loop .word) < a .from + a .count
@@ -65,7 +65,7 @@ renumber-block-spec =
     (tie.spec
     Inv-loop
     μ-loop
-    different-bits-requires
+    taken-bits-requires
     loop-holds
     add-at
     cast-at
