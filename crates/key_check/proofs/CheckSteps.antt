@@ -3,7 +3,6 @@ use Prim.Native.Nat.{ℕ, _+_, _-_, _*_, _%_, _^_, _≤_, _<_}
 use mathlib.Core.Path.{_≡_, refl, sym, ap, _∙_}
 use mathlib.Core.Bool.{true, false, false≢true}
 use mathlib.Core.List.{List}
-use native.Mathlib.Nat.{mod-lt}
 use native.Mathlib.Decide.{decLt}
 use native.Mathlib.Omega.{arith}
 use lib.Dec.{ltb, eqb}
@@ -17,7 +16,7 @@ use Rattle.key_index.specs.declared.IndexShape.{IndexShape}
 use Rattle.key_index.specs.Slots.{LiveAt, keyAt, slots, word, home, slotFrom, KeysSound}
 use Rattle.key_index.specs.inner.Ring.{spread, tagged, rowNamed}
 use Rattle.key_index.specs.Laws.Ring.{home-spread, word-tagged, word-some, word-same, home-below}
-use Rattle.key_index.specs.Laws.Unrolled.{away, slot-zero, line}
+use Rattle.key_index.specs.Laws.Unrolled.{away, slot-zero, slot-below, slot-then, line, line-at}
 use Rattle.key_index.specs.inner.Index.{Fits, homeOf}
 use Rattle.key_index.specs.Laws.Lines.{small, Stored, lineHome, unroll}
 use Rattle.key_index.specs.Laws.Index.{free-slot}
@@ -81,9 +80,11 @@ line-home : (t : IndexShape) (rows : List ℕ) (z w : ℕ) → lineHome t rows z
 unfolding lineHome homeOf rowNamed
 line-home t rows z w = refl
 
--- the loop invariant: the positions before p are correct
-pub record RoundInvariant (t : IndexShape) (rows store : List ℕ) (z p run taken : ℕ) : Type 0 where
+-- the loop invariant: the positions before p are correct, and `at` is the slot before that of p
+pub record RoundInvariant (t : IndexShape) (rows store : List ℕ) (z at p run taken : ℕ) : Type 0 where
   pub end : p ≤ slots t
+  pub slot : at < slots t
+  pub next : slotFrom (slots t) at 1 ≡ slotFrom (slots t) z p
   pub front : Front (lineHome t rows z) (Stored t rows) (line (slots t) z store) p
   pub run-is : Run (line (slots t) z store) p run
   pub count : taken ≡ takenCount (line (slots t) z store) p
@@ -96,24 +97,32 @@ module _ (t : IndexShape) (rows store : List ℕ) (z : ℕ) (f : Fits t rows sto
   unfolding line
   first = ap (λ (k : ℕ). getD store k 0) (slot-zero (slots t) z b) ∙ free
 
-  begin : RoundInvariant t rows store z 1 0 0
+  begin : RoundInvariant t rows store z z 1 0 0
   begin =
       record {
         end = omega (arith, f .some);
+        slot = b;
+        next = refl;
         front = front-more (lineHome t rows z) (Stored t rows) l 0 (front-none (lineHome t rows z) (Stored t rows) l) (λ c. absurd (omega (arith, first)));
         run-is = run-none l 0 first;
         count = sym (tally-no (λ q. ltb 0 (l q)) 0 (le-ltb 0 (l 0) (omega (arith, first))) ∙ (unfold tally in refl));
       }
 
-  module _ (p run taken : ℕ) (s : RoundInvariant t rows store z p run taken) where
+  -- the slot after that of position p
+  slot-on : (p at : ℕ) → at ≡ slotFrom (slots t) z p → (at < slots t) × (slotFrom (slots t) at 1 ≡ slotFrom (slots t) z (p + 1))
+  slot-on p at e = (rw e (slot-below (slots t) z p (omega (arith, f .some))), ap (λ (k : ℕ). slotFrom (slots t) k 1) e ∙ slot-then (slots t) z p 1)
+
+  module _ (at p run taken : ℕ) (s : RoundInvariant t rows store z at p run taken) where
     few : taken ≤ p
     few = omega (arith, s .count, tally-le (λ q. ltb 0 (l q)) p)
 
-    module _ (h : p < slots t) where
-      pass-free : l p ≡ 0 → RoundInvariant t rows store z (p + 1) 0 taken
+    module _ (h : p < slots t) (at′ : ℕ) (here : at′ ≡ slotFrom (slots t) z p) where
+      pass-free : l p ≡ 0 → RoundInvariant t rows store z at′ (p + 1) 0 taken
       pass-free e =
           record {
             end = omega arith;
+            slot = slot-on p at′ here .0;
+            next = slot-on p at′ here .1;
             front = front-more (lineHome t rows z) (Stored t rows) l p (s .front) (λ c. absurd (omega arith));
             run-is = run-none l p e;
             count = s .count ∙ sym (tally-no (λ q. ltb 0 (l q)) p (le-ltb 0 (l p) (omega arith)));
@@ -142,10 +151,12 @@ module _ (t : IndexShape) (rows store : List ℕ) (z : ℕ) (f : Fits t rows sto
                   | no j ↦ absurd (let x = way (p - (run + 1)) (omega arith) (omega arith) in omega (arith, s .run-is .before (p - (run + 1)) (omega arith)))
                 ]
 
-        pass-taken : Reachable t rows (l p) (slotFrom (slots t) z p) (run + 1) → RoundInvariant t rows store z (p + 1) (run + 1) (taken + 1)
+        pass-taken : Reachable t rows (l p) (slotFrom (slots t) z p) (run + 1) → RoundInvariant t rows store z at′ (p + 1) (run + 1) (taken + 1)
         pass-taken st =
             record {
               end = omega arith;
+              slot = slot-on p at′ here .0;
+              next = slot-on p at′ here .1;
               front = front-more (lineHome t rows z) (Stored t rows) l p (s .front) (λ _. joins);
               run-is = more;
               count = ap (λ (x : ℕ). x + 1) (s .count) ∙ sym (tally-yes (λ q. ltb 0 (l q)) p (lt-ltb 0 (l p) c));
@@ -212,13 +223,10 @@ round-fits t rows store z live f s h e = record { fits = f; slot = h; free = s .
 -- ---- the loop iterations of `round_holds`, in the terms of the code
 
 module _ (t : IndexShape) (rows store : List ℕ) (z live : ℕ) (r : RoundFits t rows store z live) where
-  pub round-begin : RoundInvariant t rows store z 1 0 0
+  pub round-begin : RoundInvariant t rows store z z 1 0 0
   round-begin = begin t rows store z (r .fits) (r .slot) (r .free)
 
-  pub slot-in : (p : ℕ) → (z + p) % slots t < slots t
-  slot-in p = mod-lt (z + p) (omega (arith, r .slot))
-
-  module _ (p run taken : ℕ) (s : RoundInvariant t rows store z p run taken) where
+  module _ (at p run taken : ℕ) (s : RoundInvariant t rows store z at p run taken) where
     -- the numbers of the round stay small
     pub record Few : Type 0 where
       pub of-run : run < p
@@ -226,28 +234,31 @@ module _ (t : IndexShape) (rows store : List ℕ) (z live : ℕ) (r : RoundFits 
       pub of-places : slots t ≤ 131072
 
     pub counted : Few
-    counted = record { of-run = s .run-is .below; of-taken = few t rows store z (r .fits) (r .slot) (r .free) p run taken s; of-places = omega (arith, r .fits .most) }
+    counted = record { of-run = s .run-is .below; of-taken = few t rows store z (r .fits) (r .slot) (r .free) at p run taken s; of-places = omega (arith, r .fits .most) }
 
     pub round-end : slots t ≤ p → SlotsChecked t rows store (eqb taken live)
     round-end h =
         compared t rows store taken live
-        (λ e. finish-yes t rows store z (r .fits) (r .slot) (r .free) p run taken s h (e ∙ r .count))
-        (λ k. finish-no t rows store z (r .fits) (r .slot) (r .free) p run taken s h k ∙ sym (r .count))
+        (λ e. finish-yes t rows store z (r .fits) (r .slot) (r .free) at p run taken s h (e ∙ r .count))
+        (λ k. finish-no t rows store z (r .fits) (r .slot) (r .free) at p run taken s h k ∙ sym (r .count))
 
-    module _ (h : p < slots t) where
-      pub turn-free : getD store ((z + p) % slots t) 0 ≡ 0 → RoundInvariant t rows store z (p + 1) 0 taken
-      unfolding line slotFrom
-      turn-free e = pass-free t rows store z (r .fits) (r .slot) (r .free) p run taken s h e
+    -- the next slot is that of position p
+    module _ (h : p < slots t) (at′ : ℕ) (e : at′ ≡ slotFrom (slots t) at 1) where
+      here : at′ ≡ slotFrom (slots t) z p
+      here = e ∙ s .next
 
-      module _ (c : getD store ((z + p) % slots t) 0 ≡ 0 → ⊥) where
+      word-here : line (slots t) z store p ≡ getD store at′ 0
+      word-here = line-at (slots t) z store p at′ (sym here)
+
+      pub turn-free : getD store at′ 0 ≡ 0 → RoundInvariant t rows store z at′ (p + 1) 0 taken
+      turn-free q = pass-free t rows store z (r .fits) (r .slot) (r .free) at p run taken s h at′ here (word-here ∙ q)
+
+      module _ (c : getD store at′ 0 ≡ 0 → ⊥) where
         some : 0 < line (slots t) z store p
-        unfolding line slotFrom
-        some = omega arith
+        some = omega (arith, word-here)
 
-        pub turn-wrong : (Reachable t rows (getD store ((z + p) % slots t) 0) ((z + p) % slots t) (run + 1) → ⊥) → SlotsChecked t rows store false
-        unfolding line slotFrom
-        turn-wrong n = refused t rows store (λ k. n (sound-reachable t rows store z (r .fits) (r .slot) (r .free) p run taken s h some k))
+        pub turn-wrong : (Reachable t rows (getD store at′ 0) at′ (run + 1) → ⊥) → SlotsChecked t rows store false
+        turn-wrong n = refused t rows store (λ k. n (rw (← word-here, here) (sound-reachable t rows store z (r .fits) (r .slot) (r .free) at p run taken s h at′ here some k)))
 
-        pub turn-taken : Reachable t rows (getD store ((z + p) % slots t) 0) ((z + p) % slots t) (run + 1) → RoundInvariant t rows store z (p + 1) (run + 1) (taken + 1)
-        unfolding line slotFrom
-        turn-taken st = pass-taken t rows store z (r .fits) (r .slot) (r .free) p run taken s h some st
+        pub turn-taken : Reachable t rows (getD store at′ 0) at′ (run + 1) → RoundInvariant t rows store z at′ (p + 1) (run + 1) (taken + 1)
+        turn-taken st = pass-taken t rows store z (r .fits) (r .slot) (r .free) at p run taken s h at′ here some (rw (word-here, ← here) st)

@@ -90,8 +90,9 @@ fn round_holds(t: IndexShape, rows: &[u32], store: &[u32], free: u32, live: u32)
     let mut run: u32 = 0;
     let mut taken: u32 = 0;
     let mut place: u32 = 1;
+    let mut at = free;
     while place < n {
-        let at = (free + place) % n;
+        at = key_index::next_slot(n, at);
         let word = store[at as usize];
         place += 1;
         if word == 0 {
