@@ -3,8 +3,5 @@ use Rattle.offsets_retain.proofs.Grow.{begun}
 use Rattle.offsets_retain.proofs.empty.Statement.{statement}
 use Rattle.offsets_retain.proofs.empty.Tie as tie
 
-returns : tie.Need-returns
-returns c = begun
-
 pub empty-spec : {M : Type 1} → statement M
-empty-spec = tie.close (tie.spec returns)
+empty-spec = tie.close (tie.spec (λ c. begun))

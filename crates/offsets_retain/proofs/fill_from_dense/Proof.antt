@@ -11,21 +11,12 @@ Inv-loop output₀ start count i₀ output i = Filled output₀ output start cou
 abbrev μ-loop : tie.MeasureT-loop
 μ-loop output₀ start count i₀ output i = count - i
 
-loop-holds : tie.Need-loop-holds Inv-loop μ-loop
-loop-holds c = filled-begin _ _ _
-
-loop-again : tie.Need-loop-again Inv-loop μ-loop
-loop-again c = filled-more _ _ _ _ _ (c .before .before .pre .1) (c .before .loop .inv) (c .loop-test .taken)
-
-same-length : tie.Need-same-length Inv-loop μ-loop
-same-length c = c .before .loop .inv .same
-
-returns : tie.Need-returns Inv-loop μ-loop
-returns c = filled-end _ _ _ _ _ (c .before .loop .inv) (c .loop-test .left)
-
 pub fill-from-dense-spec : {M : Type 1} → statement M
 fill-from-dense-spec =
     tie.close
     (tie.spec
-    Inv-loop μ-loop loop-holds (λ c. search needs) (λ c. search needs) (λ c. search needs) (λ c. search needs)
-    (λ c. search needs) (λ c. search needs) loop-again same-length returns)
+    Inv-loop μ-loop (λ c. filled-begin _ _ _) (λ c. search needs) (λ c. search needs) (λ c. search needs) (λ c. search needs) (λ c. search needs)
+    (λ c. search needs)
+    (λ c. filled-more _ _ _ _ _ (c .before .before .pre .1) (c .before .loop .inv) (c .loop-test .taken))
+    (λ c. c .before .loop .inv .same)
+    (λ c. filled-end _ _ _ _ _ (c .before .loop .inv) (c .loop-test .left)))

@@ -6,11 +6,10 @@ use Rattle.offsets_retain.proofs.finish_retain.Tie as tie
 add-t3 : tie.Need-add-t3
 add-t3 c = record { fits = c .before .before .before .pre (c .before .if1 .taken) }
 
-returns : tie.Need-returns
-returns c = ended-range _ (c .before .if1 .taken)
-
-returns-2 : tie.Need-returns-2
-returns-2 c = ended-list _ (c .if1 .left)
-
 pub finish-retain-spec : {M : Type 1} → statement M
-finish-retain-spec = tie.close (tie.spec add-t3 returns returns-2)
+finish-retain-spec =
+    tie.close
+    (tie.spec
+    add-t3
+    (λ c. ended-range _ (c .before .if1 .taken))
+    (λ c. ended-list _ (c .if1 .left)))

@@ -5,12 +5,9 @@ use Rattle.offsets_retain.specs.inner.RetainBuilder.{pushed}
 use Rattle.offsets_retain.proofs.push_id.Statement.{statement}
 use Rattle.offsets_retain.proofs.push_id.Tie as tie
 
-returns : tie.Need-returns
-returns c = unfold pushed in (refl, refl)
-
 pub push-id-spec : {M : Type 1} → statement M
 push-id-spec =
     tie.close
     (tie.spec
-    (λ c. search needs) (λ c. search needs) (λ c. search needs) (λ c. search needs) (λ c. search needs)
-    (λ c. search needs) returns)
+    (λ c. search needs) (λ c. search needs) (λ c. search needs) (λ c. search needs) (λ c. search needs) (λ c. search needs)
+    (λ c. unfold pushed in (refl, refl)))
