@@ -42,12 +42,7 @@ module _ (cells : List ℕ) (width start end target : ℕ) where
 
 -- in a rising list the bracketed position is the target's
 pub bracket-place : (ids : List ℕ) (start end target r : ℕ) → end ≤ length ids → Bracketed ids 1 start end target r r → SearchedPart ids start end target r
-bracket-place ids start end target r inside s =
-    record {
-      from = s .from;
-      upto = s .upto;
-      first = λ e a b. let p = after e a in let q = upto e b in omega arith;
-    }
+bracket-place ids start end target r inside s = record { from = s .from; upto = s .upto; first = λ e a b. let p = after e a in let q = upto e b in omega arith }
   where
     after : rising ids ≡ true → start ≤ firstNotBelow target ids → r ≤ firstNotBelow target ids
     after e a =

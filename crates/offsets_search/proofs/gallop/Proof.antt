@@ -23,9 +23,6 @@ returns-2 : tie.Need-returns-2 Inv-loop μ-loop
 unfolding Reached
 returns-2 c = stride-over _ _ _ _ _ (c .before .before .before .before .loop .inv) (c .before .before .before .loop-test .taken) (omega arith)
 
-loop-again : tie.Need-loop-again Inv-loop μ-loop
-loop-again c = stride-more _ _ _ _ _ (c .before .before .before .before .loop .inv) (c .before .before .before .loop-test .taken) (omega arith)
-
 returns-3 : tie.Need-returns-3 Inv-loop μ-loop
 unfolding Reached
 returns-3 c = stride-end _ _ _ _ _ (c .before .loop .inv)
@@ -34,6 +31,7 @@ pub gallop-spec : {M : Type 1} → statement M
 gallop-spec =
     tie.close
     (tie.spec
-    Inv-loop μ-loop (λ c. search needs) (λ c. search needs) loop-holds (λ c. search needs) (λ c. search needs)
-    (λ c. search needs) (λ c. search needs) returns (λ c. search needs) returns-2 (λ c. search needs)
-    (λ c. search needs) (λ c. search needs) loop-again (λ c. search needs) (λ c. search needs) returns-3)
+    Inv-loop μ-loop (λ c. search needs) (λ c. search needs) loop-holds (λ c. search needs) (λ c. search needs) (λ c. search needs) (λ c. search needs)
+    returns (λ c. search needs) returns-2 (λ c. search needs) (λ c. search needs) (λ c. search needs)
+    (λ c. stride-more _ _ _ _ _ (c .before .before .before .before .loop .inv) (c .before .before .before .loop-test .taken) (omega arith))
+    (λ c. search needs) (λ c. search needs) returns-3)

@@ -7,18 +7,6 @@ use Rattle.offsets_search.proofs.Search.{scanned-end, scanned-hit, scan
 use Rattle.offsets_search.proofs.scan_for_offset.Statement.{statement}
 use Rattle.offsets_search.proofs.scan_for_offset.Tie as tie
 
-returns : tie.Need-returns
-returns c = scanned-end _ _ _ (c .if1 .taken)
-
-returns-2 : tie.Need-returns-2
-returns-2 c = scanned-hit _ _ _ _ (c .before .before .if1 .left) (c .if2 .taken)
-
-returns-3 : tie.Need-returns-3
-returns-3 c = scanned-before _ _ _ (c .before .before .before .if1 .left) (c .if3 .taken)
-
-gallop-requires : tie.Need-gallop-requires
-gallop-requires c κs = (c .before .before .before .before .before .pre, c .before .before .before .if1 .left, λ e. notBelow-past _ _ e _ (c .before .before .before .if1 .left) (omega arith))
-
 binary-search-part-requires : tie.Need-binary-search-part-requires
 unfolding Reached
 binary-search-part-requires c κs = let g = rw (c .before .low .given .1) at (c .before .before .before .gallop .ensures) in (g .order, g .within)
@@ -41,5 +29,10 @@ pub scan-for-offset-spec : {M : Type 1} → statement M
 scan-for-offset-spec =
     tie.close
     (tie.spec
-    (λ c. search needs) returns (λ c. search needs) (λ c. search needs) returns-2 returns-3 gallop-requires
+    (λ c. search needs)
+    (λ c. scanned-end _ _ _ (c .if1 .taken))
+    (λ c. search needs) (λ c. search needs)
+    (λ c. scanned-hit _ _ _ _ (c .before .before .if1 .left) (c .if2 .taken))
+    (λ c. scanned-before _ _ _ (c .before .before .before .if1 .left) (c .if3 .taken))
+    (λ c κs. (c .before .before .before .before .before .pre, c .before .before .before .if1 .left, λ e. notBelow-past _ _ e _ (c .before .before .before .if1 .left) (omega arith)))
     (λ c. search needs) (λ c. search needs) binary-search-part-requires scan-at-requires returns-4 returns-5)
