@@ -81,11 +81,7 @@ module _ {ids others : List ℕ} {i o : ℕ} where
       }
 
 rising-upto : (l : List ℕ) → rising l ≡ true → (i j : ℕ) → i ≤ j → j < length l → getD l i 0 ≤ getD l j 0
-rising-upto l e i j h k =
-    elim (decLt i j) [
-      | yes a ↦ let b = rising-at l e i j a k in omega arith
-      | no a ↦ let b : i ≡ j = omega arith in rw b (omega arith)
-    ]
+rising-upto l e i j h k = elim (decLt i j) [ yes a ↦ let b = rising-at l e i j a k in omega arith | no a ↦ let b : i ≡ j = omega arith in rw b (omega arith) ]
 
 -- an id below the other
 pass-id : (ids others : List ℕ) (i o : ℕ) → rising others ≡ true → i < length ids → o < length others → getD ids i 0 < getD others o 0 → SkippedTo ids others i o (i + 1) o
@@ -215,10 +211,7 @@ module _ {ids others output output′ : List ℕ} {i o n : ℕ} (w : MergedTo id
   wrote : n ≤ length output′ → common (drop i ids) (drop o others) ≡ [] → Wrote output (common ids others) n output′
   wrote h z =
       let r : take n output′ ≡ common ids others = sym (append-nil (take n output′)) ∙ ap (λ (l : List ℕ). take n output′ ++ l) (sym z) ∙ w .rest in
-      record {
-        number = sym (length-take-le n output′ h) ∙ ap length r;
-        cells = sym (splice-alike output output′ n h (sym (w .kept))) ∙ ap (splice output 0) r;
-      }
+      record { number = sym (length-take-le n output′ h) ∙ ap length r; cells = sym (splice-alike output output′ n h (sym (w .kept))) ∙ ap (splice output 0) r }
 
   pub mergedTo-end : length ids ≤ length output → length ids ≤ i → Wrote output (common ids others) n output′
   unfolding common filter
@@ -258,11 +251,7 @@ pub apart-more : (ids others : List ℕ) (i : ℕ) (apart r : Bool) → (apart �
     → (apart && r) ≡ true → Apart ids others (i + 1)
 apart-more ids others i apart r f g e =
     record {
-      each =
-          λ j h. elim (decLt j i) [
-            | yes a ↦ f (and-left apart r e) .each j a
-            | no a ↦ let z : j ≡ i = omega arith in rw z (g (and-right apart r e))
-          ];
+      each = λ j h. elim (decLt j i) [ yes a ↦ f (and-left apart r e) .each j a | no a ↦ let z : j ≡ i = omega arith in rw z (g (and-right apart r e)) ];
     }
 
 -- of the two parts that are lent

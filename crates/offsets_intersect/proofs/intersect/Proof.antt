@@ -20,12 +20,6 @@ returns-3 c =
     let d = c .before .before .before .before in
     as-range-list _ _ _ _ _ (none (d .before)) _ _ (d .if3 .taken) (one-list _ _ (listed (d .before)) (d .if3 .taken)) (c .before .before .intersect-range-list .ensures)
 
-returns-4 : tie.Need-returns-4
-returns-4 c = as-list-range _ _ _ _ _ (none (c .before .before .before .before .before .before)) _ _ (c .before .before .before .before .before .if3 .left) (c .before .before .before .before .if4 .taken) (c .before .before .intersect-list-range .ensures)
-
-returns-5 : tie.Need-returns-5
-returns-5 c = as-lists _ _ _ _ _ (none (c .before .before .before .before .before .before)) _ _ (c .before .before .before .before .before .if3 .left) (c .before .before .before .before .if4 .left) (c .before .before .intersect-lists .ensures)
-
 pub intersect-spec : {M : Type 1} → statement M
 intersect-spec =
     tie.close
@@ -36,6 +30,8 @@ intersect-spec =
     (λ c. answered-refused _ _ _ _ _ (c .before .intersect-refusal .ensures) (c .if2 .taken))
     intersect-range-list-requires (λ c. search needs) returns-3
     (λ c κs. can-list-range _ _ _ _ _ (none (c .before .before .before)) (c .before .before .if3 .left) (c .before .if4 .taken))
-    (λ c. search needs) returns-4
+    (λ c. search needs)
+    (λ c. as-list-range _ _ _ _ _ (none (c .before .before .before .before .before .before)) _ _ (c .before .before .before .before .before .if3 .left) (c .before .before .before .before .if4 .taken) (c .before .before .intersect-list-range .ensures))
     (λ c κs. can-lists _ _ _ _ _ (none (c .before .before .before)) (c .before .before .if3 .left) (c .before .if4 .left))
-    (λ c. search needs) returns-5)
+    (λ c. search needs)
+    (λ c. as-lists _ _ _ _ _ (none (c .before .before .before .before .before .before)) _ _ (c .before .before .before .before .before .if3 .left) (c .before .before .before .before .if4 .left) (c .before .before .intersect-lists .ensures)))

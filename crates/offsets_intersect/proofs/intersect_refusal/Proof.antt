@@ -3,9 +3,6 @@ use Rattle.offsets_intersect.proofs.Prelude.{sym, _∙_, needs, not-tru
 use Rattle.offsets_intersect.proofs.intersect_refusal.Statement.{statement}
 use Rattle.offsets_intersect.proofs.intersect_refusal.Tie as tie
 
-returns-2 : tie.Need-returns-2
-returns-2 c = refusal-second _ _ _ (sym (c .before .before .before .is-well-formed .ensures) ∙ not-false _ (c .before .before .if1 .left)) (sym (c .before .is-well-formed2 .ensures) ∙ not-true _ (c .if2 .taken))
-
 returns-3 : tie.Need-returns-3
 returns-3 c = refusal-room _ _ _ (sym (c .before .before .before .before .before .is-well-formed .ensures) ∙ not-false _ (c .before .before .before .before .if1 .left)) (sym (c .before .before .before .is-well-formed2 .ensures) ∙ not-false _ (c .before .before .if2 .left)) (rw (c .before .room-needed .ensures) at (c .if3 .taken))
 
@@ -18,4 +15,6 @@ intersect-refusal-spec =
     (tie.spec
     (λ c κs. search needs)
     (λ c. refusal-first _ _ _ (sym (c .before .is-well-formed .ensures) ∙ not-true _ (c .if1 .taken)))
-    (λ c κs. search needs) returns-2 (λ c κs. search needs) returns-3 returns-4)
+    (λ c κs. search needs)
+    (λ c. refusal-second _ _ _ (sym (c .before .before .before .is-well-formed .ensures) ∙ not-false _ (c .before .before .if1 .left)) (sym (c .before .is-well-formed2 .ensures) ∙ not-true _ (c .if2 .taken)))
+    (λ c κs. search needs) returns-3 returns-4)

@@ -27,16 +27,14 @@ loop-less c =
     let p = c .skip-apart .ensures .0 in
     omega (arith, c .before .before .before .merge-some .ensures .1, p .on, p .others-on, p .within, p .others-within)
 
-loop-again : tie.Need-loop-again Inv-loop μ-loop
-loop-again c = rw (c .skip-apart .ensures .1) (mergedTo-passed (mergedTo-on (c .before .before .before .before .before .before .before .before .before .loop .inv) (c .before .before .before .merge-some .ensures .0)) (c .skip-apart .ensures .0))
-
 pub merge-similar-spec : {M : Type 1} → statement M
 merge-similar-spec =
     tie.close
     (tie.spec
     Inv-loop μ-loop
     (λ c. mergedTo-none _ _ _ _ _ _ (omega arith) (omega arith))
-    merge-some-requires skip-apart-requires loop-less loop-again
+    merge-some-requires skip-apart-requires loop-less
+    (λ c. rw (c .skip-apart .ensures .1) (mergedTo-passed (mergedTo-on (c .before .before .before .before .before .before .before .before .before .loop .inv) (c .before .before .before .merge-some .ensures .0)) (c .skip-apart .ensures .0)))
     (λ c. c .before .before .before .before .loop .inv .same)
     (λ c. mergedTo-others-end (c .before .before .before .before .loop .inv) (c .before .before .before .before .before .before .before .before .pre .0 .fits) (ltb-false _ _ (c .if2 .left)))
     (λ c. c .before .before .loop .inv .same)
