@@ -1,21 +1,11 @@
 -- A borrowed subset by its kind: which are well-formed, their sizes and ends. Assumes nothing.
-use Prim.Native.Nat.{ℕ, suc, _+_, _-_, _≤_, _<_}
-use mathlib.Core.Path.{_≡_, refl, sym, ap, _∙_}
-use mathlib.Core.Bool.{true, false, and-false, and-true}
-use mathlib.Core.List.{List, [], _∷_}
+use Rattle.offsets.proofs.Prelude.{ℕ, suc, _+_, _-_, _≤_, _<_, _≡_, refl, sym, ap, _∙_, true, false, and-false, and-true, List, [], _∷_, arith, leb, length, getD, le-leb, lt-leb, rising, None, Ends, bounds, boundsView}
 use mathlib.Core.Option.{some}
-use native.Mathlib.Omega.{arith}
-use lib.Dec.{leb}
-use lib.ListN.{length, getD}
-use borrow.Author.Tests.{le-leb, lt-leb}
-use Rattle.lists.specs.Lists.{rising}
 use Rattle.offsets.specs.declared.SubsetHead.{SubsetHead}
-use Rattle.offsets.specs.declared.BoundsAnswer.the-variants.{None, Ends}
 use Rattle.offsets.specs.Subsets.{list, wellFormed, size, endOf}
 use Rattle.offsets.specs.Laws.Subsets.{dense-is, sparse-is}
 use Rattle.offsets.specs.Laws.Forms.{size-range as range-size, size-list as list-size}
 use Rattle.offsets.specs.Answers.{subsetOf}
-use Rattle.offsets.specs.inner.Writing.{bounds, boundsView}
 
 module _ (head : SubsetHead) (ids : List ℕ) where
   pub formed-range : head .dense ≡ true → leb (head .start) (head .end) ≡ wellFormed (subsetOf head ids)

@@ -1,19 +1,10 @@
 -- The loops that test whether ids rise, a step at a time. Assumes nothing.
-use Prim.Native.Nat.{ℕ, _+_, _-_, _*_, _%_, _^_, _≤_, _<_}
-use mathlib.Core.Path.{_≡_, refl, sym, ap, ap₂, _∙_}
+use Rattle.offsets.proofs.Prelude.{ℕ, _+_, _-_, _*_, _%_, _^_, _≤_, _<_, _≡_, refl, sym, ap, ap₂, _∙_, Bool, true, false, _&&_, List, arith, leb, ltb, length, take, drop, getD, length-drop, leb-true, lt-ltb, rising, RisesUpTo}
 use mathlib.Core.Logic.{inl, inr}
-use mathlib.Core.Bool.{Bool, true, false, _&&_}
-use mathlib.Core.List.{List}
-use native.Mathlib.Omega.{arith}
-use lib.Dec.{leb, ltb}
-use lib.ListN.{length, take, drop, getD, length-drop}
 use lib.Seq.{take-all, length-take-le, drop-drop, getD-drop}
-use borrow.Author.Tests.{leb-true, lt-ltb}
-use Rattle.lists.specs.Lists.{rising}
 use Rattle.lists.specs.Laws.Filter.{split, and-left, and-right}
 use Rattle.lists.specs.Laws.Parts.{part-to-end}
 use Rattle.lists.specs.Laws.Rising.{bool-ext, rising-take, rising-drop, rising-take-one, rising-take-more, rising-past}
-use Rattle.offsets.specs.inner.Rising.{RisesUpTo}
 
 -- whether a block's ids before position i rise
 pub record Tested (ids : List ℕ) (rises : Bool) (i : ℕ) : Type 0 where
@@ -26,10 +17,7 @@ tested-begin ids = record { one = omega arith; front = sym (rising-take-one ids)
 module _ (ids : List ℕ) (rises : Bool) (i : ℕ) (s : Tested ids rises i) where
   pub tested-more : i < length ids → Tested ids (rises && ltb (getD ids (i - 1) 0) (getD ids i 0)) (i + 1)
   tested-more h =
-      record {
-        one = omega arith;
-        front = ap (λ (b : Bool). b && ltb (getD ids (i - 1) 0) (getD ids i 0)) (s .front) ∙ sym (rising-take-more i ids (s .one) h);
-      }
+      record { one = omega arith; front = ap (λ (b : Bool). b && ltb (getD ids (i - 1) 0) (getD ids i 0)) (s .front) ∙ sym (rising-take-more i ids (s .one) h) }
 
   pub tested-all : length ids ≤ i → rises ≡ rising ids
   tested-all h = s .front ∙ ap rising (take-all i ids h)
@@ -120,10 +108,7 @@ onward-more ids at n s more up =
 
 pub onward-fall : (ids : List ℕ) (at n : ℕ) → RisesUpTo ids at → (rises : Bool) → rises ≡ rising (take (at + n + 1 - at) (drop at ids)) → rises ≡ false → false ≡ rising ids
 onward-fall ids at n s rises tested e =
-    elim (split (rising ids)) [
-      | inl q ↦ sym e ∙ tested ∙ rising-take (at + n + 1 - at) (drop at ids) (sym (s .same) ∙ q) ∙ sym q
-      | inr q ↦ sym q
-    ]
+    elim (split (rising ids)) [ inl q ↦ sym e ∙ tested ∙ rising-take (at + n + 1 - at) (drop at ids) (sym (s .same) ∙ q) ∙ sym q | inr q ↦ sym q ]
 
 -- the last part, which may begin before the position
 pub onward-last : (ids : List ℕ) (at m : ℕ) → RisesUpTo ids at → m ≤ at → rising (take (length ids - m) (drop m ids)) ≡ rising ids

@@ -43,12 +43,7 @@ written-none n = refl
 
 pub answered-refused : (n : ℕ) (output : List ℕ) → Answered (refused n) output (Refused n) output
 unfolding subsetView written
-answered-refused n output =
-    record {
-      answers = refl;
-      inside = λ k e. absurd (let z : _≡_ {A = ℕ} 0 1 = cc in omega arith);
-      writes = sym (splice-nil output 0);
-    }
+answered-refused n output = record { answers = refl; inside = λ k e. absurd (let z : _≡_ {A = ℕ} 0 1 = cc in omega arith); writes = sym (splice-nil output 0) }
 
 pub written-members : (v : Subset) → length (written (accepted v)) ≤ length (members v)
 unfolding written members
@@ -74,14 +69,12 @@ written-intersect (list ids) (list others) = unfold written in kept-room (λ id.
 pub answered-fits : (n : ℕ) (v : Subset) (output : List ℕ) (answer : SubsetAnswer) (output′ : List ℕ) → Answered (reply n v) output answer output′
     → (n ≡ 0 → length (written (accepted v)) ≤ length output) → (k : ℕ) → answer ≡ Ids k → k ≤ length output
 unfolding reply subsetView written
-answered-fits zero (range a b) output answer output′ m fit k e =
-    absurd (let f = rw e at (m .answers) in let z : _≡_ {A = ℕ} 0 1 = cc in omega arith)
+answered-fits zero (range a b) output answer output′ m fit k e = absurd (let f = rw e at (m .answers) in let z : _≡_ {A = ℕ} 0 1 = cc in omega arith)
 answered-fits zero (list ids) output answer output′ m fit k e =
     let f = rw e at (m .answers) in
     let ids-are : take k output′ ≡ ids = cc in
     omega (arith, fit refl, ap length ids-are, length-take k output′, m .inside k e)
-answered-fits (suc n) v output answer output′ m fit k e =
-    absurd (let f = rw e at (m .answers) in let z : _≡_ {A = ℕ} 0 1 = cc in omega arith)
+answered-fits (suc n) v output answer output′ m fit k e = absurd (let f = rw e at (m .answers) in let z : _≡_ {A = ℕ} 0 1 = cc in omega arith)
 
 -- every reply has an answer, whatever the contents of the output
 pub answer-to : (r : Reply Subset) (output : List ℕ) → (answer : SubsetAnswer) × Answered r output answer (splice output 0 (written r))
@@ -146,11 +139,7 @@ unfolding intersectReply
 intersect-accepted a b n v e =
     let r = reply-value (intersectRefusal a b n) (intersect a b) v e in
     let t = allowed a b n (r .0) in
-    record {
-      formed = t .formed;
-      formed-other = t .formed-other;
-      ids = ap members (sym (r .1)) ∙ members-intersect a b (t .formed) (t .formed-other);
-    }
+    record { formed = t .formed; formed-other = t .formed-other; ids = ap members (sym (r .1)) ∙ members-intersect a b (t .formed) (t .formed-other) }
 
 pub intersect-fits : (a b : Subset) (output : List ℕ) (answer : SubsetAnswer) (output′ : List ℕ) → Answered (intersectReply a b (length output)) output answer output′
     → (k : ℕ) → answer ≡ Ids k → k ≤ length output

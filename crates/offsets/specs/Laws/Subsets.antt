@@ -85,10 +85,7 @@ module _ (x : ℕ) (xs : List ℕ) where
   -- one of the two holds
   shaped-is : ((shaped (x ∷ xs) ≡ range x (x + length (x ∷ xs))) × ((x ∷ xs) ≡ iota x (length (x ∷ xs)))) ⊎ (shaped (x ∷ xs) ≡ list (x ∷ xs))
   shaped-is =
-      elim (split (same (x ∷ xs) (iota x (length (x ∷ xs))))) [
-        | inl e ↦ inl (shaped-run (same-eq _ _ e), same-eq _ _ e)
-        | inr e ↦ inr (unfold shaped in rw e)
-      ]
+      elim (split (same (x ∷ xs) (iota x (length (x ∷ xs))))) [ inl e ↦ inl (shaped-run (same-eq _ _ e), same-eq _ _ e) | inr e ↦ inr (unfold shaped in rw e) ]
 
 pub members-shaped : (l : List ℕ) → members (shaped l) ≡ l
 members-shaped [] = unfold members shaped iota in refl
@@ -103,10 +100,7 @@ members-shaped (x ∷ xs) =
 pub wellFormed-shaped : (l : List ℕ) → rising l ≡ true → length l ≤ 65536 → wellFormed (shaped l) ≡ true
 wellFormed-shaped [] e h = unfold wellFormed shaped in refl
 wellFormed-shaped (x ∷ xs) e h =
-    elim (shaped-is x xs) [
-      | inl q ↦ rw (q .0) (unfold wellFormed in le-leb x (x + length (x ∷ xs)) (omega arith))
-      | inr q ↦ rw q (formed-of (x ∷ xs) e h)
-    ]
+    elim (shaped-is x xs) [ inl q ↦ rw (q .0) (unfold wellFormed in le-leb x (x + length (x ∷ xs)) (omega arith)) | inr q ↦ rw q (formed-of (x ∷ xs) e h) ]
 
 -- consecutive ids are a range
 pub shaped-iota : (s n : ℕ) → 0 < n → shaped (iota s n) ≡ range s (s + n)
@@ -162,8 +156,7 @@ members-intersect (range a b) (list ids) p q =
     members-listOrNothing (filter (within a b) ids)
     ∙ sym (filter-same (λ id. elem id (iota a (b - a))) (within a b) (λ x. elem-range a b x (formed-order a b p)) ids)
     ∙ sym (filter-elem-comm (iota a (b - a)) ids (rising-iota a (b - a)) (formed-rising ids q))
-members-intersect (list ids) (range a b) p q =
-    sym (filter-same (λ id. elem id (iota a (b - a))) (within a b) (λ x. elem-range a b x (formed-order a b q)) ids)
+members-intersect (list ids) (range a b) p q = sym (filter-same (λ id. elem id (iota a (b - a))) (within a b) (λ x. elem-range a b x (formed-order a b q)) ids)
 members-intersect (list ids) (list others) p q = refl
 
 -- filtering a well-formed list gives a well-formed list
@@ -195,16 +188,12 @@ members-retain test (list ids) = members-list (filter test ids) ∙ ap (filter t
 pub members-narrowed : (test : ℕ → Bool) (a : Subset) → members (narrowed test a) ≡ filter test (members a)
 unfolding narrowed
 members-narrowed test a =
-    elim (split (all test (members a))) [
-      | inl e ↦ rw e (sym (filter-all test (members a) e))
-      | inr e ↦ rw e (members-list (filter test (members a)))
-    ]
+    elim (split (all test (members a))) [ inl e ↦ rw e (sym (filter-all test (members a) e)) | inr e ↦ rw e (members-list (filter test (members a))) ]
 
 -- a list remains a list
 pub narrowed-list : (test : ℕ → Bool) (ids : List ℕ) → narrowed test (list ids) ≡ list (filter test ids)
 unfolding narrowed members
-narrowed-list test ids =
-    elim (split (all test ids)) [ inl e ↦ rw (e, filter-all test ids e) | inr e ↦ rw e ]
+narrowed-list test ids = elim (split (all test ids)) [ inl e ↦ rw (e, filter-all test ids e) | inr e ↦ rw e ]
 
 -- The kept ids of a range may become a list, and a list has at most 65,536 ids. So the range must have at most as many. A
 -- well-formed list always does.
@@ -235,12 +224,7 @@ wellFormed-narrowed test (list ids) p h = rw (narrowed-list test ids) (formed-fi
 
 pub answered-range : (a b : ℕ) (output : List ℕ) → Answered (accepted (range a b)) output (Range a b) output
 unfolding subsetView written
-answered-range a b output =
-    record {
-      answers = refl;
-      inside = λ k e. absurd (let z : _≡_ {A = ℕ} 0 1 = cc in omega arith);
-      writes = sym (splice-nil output 0);
-    }
+answered-range a b output = record { answers = refl; inside = λ k e. absurd (let z : _≡_ {A = ℕ} 0 1 = cc in omega arith); writes = sym (splice-nil output 0) }
 
 put-long : (l w : List ℕ) → length w ≤ length (splice l 0 w)
 unfolding splice
