@@ -5,21 +5,6 @@ use borrow.Author.Needs.{needs}
 use Rattle.levels_answer.proofs.answer.Statement.{statement}
 use Rattle.levels_answer.proofs.answer.Tie as tie
 
-same-length : tie.Need-same-length
-same-length c = c .before .before .before .before .before .before .before .before .before .before .before .before .before .rows .given
-
-same-length-2 : tie.Need-same-length-2
-same-length-2 c = c .before .before .before .before .before .before .before .before .before .before .before .keys .given
-
-same-length-3 : tie.Need-same-length-3
-same-length-3 c = c .before .before .before .before .before .before .before .before .before .sorts .given
-
-same-length-4 : tie.Need-same-length-4
-same-length-4 c = c .before .before .before .before .before .before .before .pending .given
-
-same-length-5 : tie.Need-same-length-5
-same-length-5 c = c .before .text .given
-
 returns : tie.Need-returns
 returns c = encoded-answers (omega (arith, c .before .before .before .before .before .before .before .before .before .before .before .before .before .before .before .before .before .before .before .before .before .before .before .before .before .pre .0, c .before .before .before .before .before .before .before .before .before .before .before .keys .given)) (omega (arith, c .before .before .before .before .before .before .before .before .before .before .before .before .before .before .before .before .before .before .before .before .before .before .before .before .before .pre .1, c .before .text .given)) (c .before .before .before .before .before .before .before .before .before .before .before .before .before .before .respond .ensures) (c .before .before .encode-response .ensures)
 
@@ -27,5 +12,8 @@ pub answer-spec : {M : Type 1} → statement M
 answer-spec =
     tie.close
     (tie.spec
-    (λ c κs. search needs) (λ c κs. search needs) same-length same-length-2 same-length-3 same-length-4 same-length-5
-    returns)
+    (λ c κs. search needs) (λ c κs. search needs)
+    (λ c. c .before .before .before .before .before .before .before .before .before .before .before .before .before .rows .given)
+    (λ c. c .before .before .before .before .before .before .before .before .before .before .before .keys .given)
+    (λ c. c .before .before .before .before .before .before .before .before .before .sorts .given)
+    (λ c. c .before .before .before .before .before .before .before .pending .given) (λ c. c .before .text .given) returns)

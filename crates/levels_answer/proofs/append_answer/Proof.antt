@@ -7,9 +7,6 @@ use borrow.Author.Needs.{needs}
 use Rattle.levels_answer.proofs.append_answer.Statement.{statement}
 use Rattle.levels_answer.proofs.append_answer.Tie as tie
 
-slice-aggregate-answer : tie.Need-slice-aggregate-answer
-slice-aggregate-answer c = simp length-take (omega (arith, c .before .before .before .before .before .before .before .pre .0))
-
 add-t23 : tie.Need-add-t23
 add-t23 c =
     let a = c .before .before .before .before .before .before .before .before .before .before .before .before .before .before .before .before .before .before .before .before .before .before .before .before .before .args in
@@ -24,5 +21,8 @@ pub append-answer-spec : {M : Type 1} → statement M
 append-answer-spec =
     tie.close
     (tie.spec
-    slice-aggregate-answer (λ c. search needs) (λ c. search needs) (λ c. search needs) (λ c κs. search needs) add-t23
-    (λ c. search needs) (λ c. search needs) (λ c. search needs) (λ c. search needs) (λ c. search needs) returns)
+    (λ c. simp length-take (omega (arith, c .before .before .before .before .before .before .before .pre .0)))
+    (λ c. search needs) (λ c. search needs) (λ c. search needs) (λ c κs. search needs) add-t23
+    (λ c. c .before .before .before .before .before .before .before .before .before .before .before .rows .given)
+    (λ c. c .before .before .before .before .before .before .before .before .before .keys .given) (λ c. c .before .before .before .before .before .before .before .sorts .given)
+    (λ c. c .before .before .before .before .before .pending .given) (λ c. search needs) returns)

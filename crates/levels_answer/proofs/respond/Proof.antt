@@ -16,21 +16,6 @@ slice-aggregate-serve c = simp length-take (omega (arith, read-fits _ _ _ _ (c .
 serve-requires : tie.Need-serve-requires
 serve-requires c κs = parsed-numbers _ _ _ _ (c .before .before .before .before .before .before .before .before .before .parse .ensures) _ _ (c .before .before .before .before .before .before .letter .given .1)
 
-returns : tie.Need-returns
-returns c = wrong-responds (c .before .before .before .parse .ensures) (search needs) (c .enum-told .given .1) _
-
-same-length : tie.Need-same-length
-same-length c = c .before .before .before .before .before .before .before .rows .given
-
-same-length-2 : tie.Need-same-length-2
-same-length-2 c = c .before .before .before .before .before .keys .given
-
-same-length-3 : tie.Need-same-length-3
-same-length-3 c = c .before .before .before .sorts .given
-
-same-length-4 : tie.Need-same-length-4
-same-length-4 c = c .before .pending .given
-
 returns-2 : tie.Need-returns-2
 returns-2 c = line-responds (c .before .before .before .before .before .before .before .before .before .before .before .before .before .before .before .before .before .before .parse .ensures) (omega arith) (c .before .before .before .before .before .before .before .before .before .before .before .before .before .before .before .letter .given .1) (c .before .before .before .before .before .before .before .before .serve .ensures)
 
@@ -39,4 +24,8 @@ respond-spec =
     tie.close
     (tie.spec
     (λ c. search needs) (λ c κs. search needs) (λ c. search needs) (λ c. search needs) array-share-prefix-numbers
-    slice-aggregate-serve serve-requires returns same-length same-length-2 same-length-3 same-length-4 returns-2)
+    slice-aggregate-serve serve-requires
+    (λ c. wrong-responds (c .before .before .before .parse .ensures) (search needs) (c .enum-told .given .1) _)
+    (λ c. c .before .before .before .before .before .before .before .rows .given)
+    (λ c. c .before .before .before .before .before .keys .given) (λ c. c .before .before .before .sorts .given)
+    (λ c. c .before .pending .given) returns-2)

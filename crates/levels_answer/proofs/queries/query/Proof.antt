@@ -5,18 +5,6 @@ use borrow.Author.Needs.{needs}
 use Rattle.levels_answer.proofs.queries.query.Statement.{statement}
 use Rattle.levels_answer.proofs.queries.query.Tie as tie
 
-query-range-requires : tie.Need-query-range-requires
-query-range-requires c κs = form-range _ _ (c .if1 .taken) (c .before .before .before .pre .0)
-
-returns : tie.Need-returns
-returns c = range-letter (c .before .if1 .taken) (c .query-range .ensures)
-
-returns-2 : tie.Need-returns-2
-returns-2 c = version-served (c .before .before .if2 .taken) (c .respond-version .ensures) (c .before .version .ensures)
-
-returns-3 : tie.Need-returns-3
-returns-3 c = numbered-served (c .before .before .if3 .taken) (c .respond-listing .ensures) (c .before .version2 .ensures)
-
 returns-4 : tie.Need-returns-4
 returns-4 c =
     let at = c .before .before in
@@ -26,5 +14,9 @@ pub query-spec : {M : Type 1} → statement M
 query-spec =
     tie.close
     (tie.spec
-    query-range-requires returns (λ c κs. search needs) (λ c κs. search needs) returns-2 (λ c κs. search needs)
-    (λ c κs. search needs) returns-3 (λ c κs. search needs) (λ c κs. search needs) returns-4)
+    (λ c κs. form-range _ _ (c .if1 .taken) (c .before .before .before .pre .0))
+    (λ c. range-letter (c .before .if1 .taken) (c .query-range .ensures)) (λ c κs. search needs) (λ c κs. search needs)
+    (λ c. version-served (c .before .before .if2 .taken) (c .respond-version .ensures) (c .before .version .ensures))
+    (λ c κs. search needs) (λ c κs. search needs)
+    (λ c. numbered-served (c .before .before .if3 .taken) (c .respond-listing .ensures) (c .before .version2 .ensures))
+    (λ c κs. search needs) (λ c κs. search needs) returns-4)

@@ -5,11 +5,9 @@ use borrow.Author.Needs.{needs}
 use Rattle.levels_answer.proofs.queries.respond_listing.Statement.{statement}
 use Rattle.levels_answer.proofs.queries.respond_listing.Tie as tie
 
-returns : tie.Need-returns
-returns c = version-refused _ _ (listingResponse _) (c .before .answer .given .1)
-
-returns-2 : tie.Need-returns-2
-returns-2 c = version-responds _ _ (listingResponse _) (c .before .answer2 .given .1)
-
 pub respond-listing-spec : {M : Type 1} → statement M
-respond-listing-spec = tie.close (tie.spec (λ c. search needs) (λ c. search needs) returns returns-2)
+respond-listing-spec =
+    tie.close
+    (tie.spec
+    (λ c. search needs) (λ c. search needs) (λ c. version-refused _ _ (listingResponse _) (c .before .answer .given .1))
+    (λ c. version-responds _ _ (listingResponse _) (c .before .answer2 .given .1)))

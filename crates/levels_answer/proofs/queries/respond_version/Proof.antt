@@ -5,11 +5,9 @@ use borrow.Author.Needs.{needs}
 use Rattle.levels_answer.proofs.queries.respond_version.Statement.{statement}
 use Rattle.levels_answer.proofs.queries.respond_version.Tie as tie
 
-returns : tie.Need-returns
-returns c = version-refused _ _ versionResponse (c .before .answer .given .1)
-
-returns-2 : tie.Need-returns-2
-returns-2 c = version-responds _ _ versionResponse (c .before .answer2 .given .1)
-
 pub respond-version-spec : {M : Type 1} → statement M
-respond-version-spec = tie.close (tie.spec (λ c. search needs) (λ c. search needs) returns returns-2)
+respond-version-spec =
+    tie.close
+    (tie.spec
+    (λ c. search needs) (λ c. search needs) (λ c. version-refused _ _ versionResponse (c .before .answer .given .1))
+    (λ c. version-responds _ _ versionResponse (c .before .answer2 .given .1)))
