@@ -5,9 +5,6 @@ use Rattle.table.specs.Refusing.{outside}
 use Rattle.levels.proofs.no_table.Statement.{statement}
 use Rattle.levels.proofs.no_table.Tie as tie
 
-returns : tie.Need-returns
-unfolding outside openable
-returns c = refl
-
 pub no-table-spec : {M : Type 1} → statement M
-no-table-spec = tie.close (tie.spec returns)
+unfolding outside openable
+no-table-spec = tie.close (tie.spec (λ c. refl))

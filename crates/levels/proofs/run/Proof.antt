@@ -14,20 +14,8 @@ abbrev μ-loop : tie.MeasureT-loop
 μ-loop line₀ chunk₀ rows₀ keys₀ sorts₀ pending₀ text₀ state₀ line chunk rows keys sorts pending text state =
     inputLeft (state .input)
 
-loop-holds : tie.Need-loop-holds Inv-loop μ-loop
-loop-holds c = running-begin _ _ _ _ _ _ (c .before .before .no-table .ensures) (c .first-read .ensures)
-
-step-requires : tie.Need-step-requires Inv-loop μ-loop
-step-requires c κs = c .before .before .before .before .before .before .before .loop .inv .within
-
-finish-requires : tie.Need-finish-requires Inv-loop μ-loop
-finish-requires c κs = c .before .before .before .before .before .step .ensures .0 .within .text-in
-
 returns : tie.Need-returns Inv-loop μ-loop
 returns c = run-ends _ _ _ _ _ _ _ _ (c .before .before .before .before .before .before .before .before .before .before .before .before .before .before .loop .inv) (c .before .before .before .before .before .before .step .ensures .0) (c .before .before .before .before .if1 .taken) (c .finish .ensures)
-
-loop-less : tie.Need-loop-less Inv-loop μ-loop
-loop-less c = c .before .before .step .ensures .1 .shorter (c .if1 .left)
 
 loop-again : tie.Need-loop-again Inv-loop μ-loop
 loop-again c = running-again (c .before .before .before .before .before .before .before .before .before .before .loop .inv) (c .before .before .step .ensures .0) (c .if1 .left)
@@ -36,5 +24,8 @@ pub run-spec : {M : Type 1} → statement M
 run-spec =
     tie.close
     (tie.spec
-    Inv-loop μ-loop (λ c κs. search needs) (λ c κs. search needs) loop-holds step-requires finish-requires returns
-    loop-less loop-again)
+    Inv-loop μ-loop (λ c κs. search needs) (λ c κs. search needs)
+    (λ c. running-begin _ _ _ _ _ _ (c .before .before .no-table .ensures) (c .first-read .ensures))
+    (λ c κs. c .before .before .before .before .before .before .before .loop .inv .within)
+    (λ c κs. c .before .before .before .before .before .step .ensures .0 .within .text-in) returns
+    (λ c. c .before .before .step .ensures .1 .shorter (c .if1 .left)) loop-again)

@@ -1,7 +1,7 @@
 -- The contract of a step follows from the contracts of its parts. Assumes nothing.
 use Prim.Native.Nat.{ℕ, _+_, _-_, _*_, _≤_, _<_}
 use mathlib.Core.Path.{_≡_, refl, sym, ap, _∙_}
-use mathlib.Core.Bool.{Bool, true, false, not, false≢true}
+use mathlib.Core.Bool.{Bool, true, false, false≢true}
 use mathlib.Core.Logic.{_⊎_, inl, inr}
 use mathlib.Core.List.{List, [], _∷_, _++_, append-nil}
 use native.Mathlib.Omega.{arith}
@@ -44,14 +44,6 @@ lent-program s rows keys sorts pending = rw (rows, keys, sorts, pending)
 pub begun-none : (line : List ℕ) → LineSoFar [] line 0
 unfolding elem
 begun-none line = record { no-newline = refl; counted = omega arith; kept = sym (take-nil (length line)) }
-
-pub not-true : {b : Bool} → not b ≡ true → b ≡ false
-not-true {b = true} e = absurd (false≢true e)
-not-true {b = false} e = refl
-
-pub not-false : {b : Bool} → not b ≡ false → b ≡ true
-not-false {b = true} e = refl
-not-false {b = false} e = absurd (false≢true (sym e))
 
 -- ---- the parts of a step
 
@@ -305,12 +297,12 @@ module _ {line₀ : List ℕ} {count : ℕ} {chunk : List ℕ} {input : Input} {
   handed-used (nothing-left taken k none end empty y still) = omega (arith, y .none-handed)
 
   -- there is room for the answer, and the line's bytes are in its store
-  pub size-class-for-line : used ≤ length text → 103492 ≤ length text → Advanced line₀ count chunk input text used line′ chunk′ r → r .«is_line» ≡ true
+  pub room-for-line : used ≤ length text → 103492 ≤ length text → Advanced line₀ count chunk input text used line′ chunk′ r → r .«is_line» ≡ true
       → (r .length ≤ length line′) × ((used - r .handed .count) + 103492 ≤ length text)
-  size-class-for-line inside wide (found taken k whole y still) e = (omega (arith, y .same-length, k .inside), room-left inside (y .room) wide)
-  size-class-for-line inside wide (more taken k none goes y) e = absurd (false≢true (sym (y .no-line) ∙ e))
-  size-class-for-line inside wide (ended taken k none end some y still) e = (omega (arith, y .same-length, k .inside), room-left inside (y .room) wide)
-  size-class-for-line inside wide (nothing-left taken k none end empty y still) e = absurd (false≢true (sym (y .no-line) ∙ e))
+  room-for-line inside wide (found taken k whole y still) e = (omega (arith, y .same-length, k .inside), room-left inside (y .room) wide)
+  room-for-line inside wide (more taken k none goes y) e = absurd (false≢true (sym (y .no-line) ∙ e))
+  room-for-line inside wide (ended taken k none end some y still) e = (omega (arith, y .same-length, k .inside), room-left inside (y .room) wide)
+  room-for-line inside wide (nothing-left taken k none end empty y still) e = absurd (false≢true (sym (y .no-line) ∙ e))
 
   -- each step consumes a line or a read
   pub step-shorter : (r .«is_line» ≡ false → length chunk′ ≡ 4096) → Advanced line₀ count chunk input text used line′ chunk′ r → Shorter input (r .input) (r .«is_over»)
