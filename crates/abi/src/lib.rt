@@ -10,6 +10,7 @@ use offsets::SubsetHead;
 use query_spec::MatchAnswer;
 use query_spec::NextPlace;
 use query_spec::PageAnswer;
+use refusals::ACCEPTED;
 use table::CellAnswer;
 use table::Header;
 use table::Largest;
@@ -21,9 +22,6 @@ use table::TableAnswer;
 use table::VersionAnswer;
 
 pub mod places; // places.rt: the places of a header's and of an opening's words
-
-// The return value of a call that is not refused.
-pub const ACCEPTED: u32 = 0;
 
 // ---- arguments
 

@@ -5,7 +5,6 @@ ghost use Rattle.table.specs.Contracts.{body};
 ghost use Rattle.image_spec.specs.Contracts.{lengthView, ImageSized, ImageWritten, ImageChecked, ImageRead, TextRead};
 ghost use Rattle.abi.specs.Encoding.{decodeHeader, encodeHeader, Stored, Answers};
 ghost use Rattle.abi_image.specs.Encoding.{encodeLength};
-use abi::ACCEPTED;
 use abi::decode_header;
 use abi::store_table;
 use image_check::check_image;
@@ -14,6 +13,7 @@ use image_read::read_text;
 use image_spec::LengthAnswer;
 use image_write::image_size;
 use image_write::write_image;
+use refusals::ACCEPTED;
 
 // Stores a length as one word of 64 bits.
 fn store_length(answer: LengthAnswer, length: &mut [u64; 1]) -> u32

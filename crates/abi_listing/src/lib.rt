@@ -7,7 +7,6 @@ ghost use Rattle.listing_check.specs.Answers.{verdictView, checkView, AnswersCh
 ghost use Rattle.listing_write.specs.Writing.{ListingWritten};
 ghost use Rattle.abi.specs.Encoding.{decodeHeader, Stored, Answers};
 ghost use Rattle.abi_listing.specs.Encoding.{encodeHead, encodeLength, encodeFinding};
-use abi::ACCEPTED;
 use abi::decode_header;
 use constraints::Constraint;
 use listing_check::CheckAnswer;
@@ -17,6 +16,7 @@ use listing_spec::ListingAnswer;
 use listing_spec::NumberedAnswer;
 use listing_spec::TextAnswer;
 use listing_write::write_listing;
+use refusals::ACCEPTED;
 
 // Kinds of verdicts.
 const RIGHT: u64 = 0;

@@ -2,9 +2,9 @@
 ghost use Rattle.precedence.specs.Precedence.{precedenceView, PrecedenceChecked};
 ghost use Rattle.abi.specs.Encoding.{decodeHeader, Stored, Answers};
 ghost use Rattle.abi_precedence.specs.Encoding.{encodeFailure};
-use abi::ACCEPTED;
 use abi::decode_header;
 use precedence::PrecedenceAnswer;
+use refusals::ACCEPTED;
 
 fn store_failure(answer: PrecedenceAnswer, failure: &mut [u32; 3]) -> u32
     ensures { λ r. ⌜ Stored precedenceView encodeFailure answer (now (failure .entry)) r (now (failure .exit)) ⌝ }

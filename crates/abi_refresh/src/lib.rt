@@ -1,12 +1,12 @@
 // The refresh of the rows that contain a given value, as a C function.
 ghost use Rattle.refresh_spec.specs.Refreshes.{refreshView, Refreshing};
 ghost use Rattle.abi.specs.Encoding.{decodeHeader, encodeHeader, encodeBool, Stored, AnswersWithHeader};
-use abi::ACCEPTED;
 use abi::decode_header;
 use abi::encode_bool;
 use abi::encode_header;
 use refresh::refresh_rows_for_values;
 use refresh_spec::RefreshAnswer;
+use refusals::ACCEPTED;
 
 fn store_refresh(answer: RefreshAnswer, header: &mut [u32; 12], staged: &mut [u32; 1]) -> u32
     ensures { λ r. ⌜ Stored refreshView (λ a. encodeHeader (a .header)) answer (now (header .entry)) r (now (header .exit)) × Stored refreshView (λ a. encodeBool (a .staged)) answer (now (staged .entry)) r (now (staged .exit)) ⌝ }

@@ -10,12 +10,12 @@ ghost use Rattle.replay_queries.specs.Encoding.{queriesIn};
 ghost use Rattle.replay_run.specs.RunQueries.{RunMade};
 ghost use Rattle.abi.specs.Encoding.{decodeHeader, decodeOpening, openingGeneration, decodeSubset, encodeHeader, Stored, Answers};
 ghost use Rattle.abi_replay.specs.Encoding.{runView, encodeRun};
-use abi::ACCEPTED;
 use abi::decode_header;
 use abi::decode_subset;
 use abi::encode_bool;
 use abi::places;
 use abi::store_table;
+use refusals::ACCEPTED;
 use replay_queries::RunAnswer;
 
 // The largest count of queries that fits a word; a larger count is stored as this one.

@@ -2,7 +2,7 @@
 ghost use Rattle.short_histories.specs.Sequences.{stepView, positionView, sequenceView, StepAnswered, PositionAnswered, SequenceFound, NextFound};
 ghost use Rattle.abi.specs.Encoding.{encodeOption, Stored, Answers};
 ghost use Rattle.abi_short_histories.specs.Encoding.{encodeCall, encodeNumber};
-use abi::ACCEPTED;
+use refusals::ACCEPTED;
 use short_histories::PositionAnswer;
 use short_histories::SequenceAnswer;
 use short_histories::StepAnswer;

@@ -2,7 +2,7 @@
 ghost use mathlib.Core.Path.{_≡_};
 ghost use Rattle.vault.specs.Columns.{toColumns, fromColumns, columnsView, Rearranged};
 ghost use Rattle.abi.specs.Encoding.{returned, AnswersNumber};
-use abi::ACCEPTED;
+use refusals::ACCEPTED;
 use vault::ColumnsAnswer;
 
 fn number_of(answer: ColumnsAnswer) -> u32
