@@ -1,4 +1,6 @@
 // Makes the calls of the recorded list on the library. Returns each answer in the list's form.
+use abi::encode_bool;
+use abi::places;
 use lines::Answer;
 use lines::answer_bare;
 use lines::answer_three;
@@ -33,15 +35,11 @@ fn stage(h: Header, letter: u8, numbers: &[u32], pending: &mut [u32]) -> Answer 
     answer_table(h, table_stage::stage_remove_row(h, pending, row, key))
 }
 
-fn digit_of(yes: bool) -> u32 {
-    if yes { 1 } else { 0 }
-}
-
 fn answer_merge(h: Header, answer: MergeAnswer) -> Answer {
     match answer {
         MergeAnswer::Refused(number) => refused(h, number),
         MergeAnswer::Merged(m) => {
-            let mut reply = answer_three(m.header, b'M', m.status, digit_of(m.added), m.place);
+            let mut reply = answer_three(m.header, b'M', m.status, encode_bool(m.added), m.place);
             reply.fourth = m.kept;
             reply.fifth = m.dropped;
             reply.count = 5;
@@ -93,12 +91,12 @@ fn empty(
         return answer_table(h, table_open::clear(h, keys));
     }
     let opened = table_open::open_table(
-        number_at(numbers, 0),
-        number_at(numbers, 1),
-        number_at(numbers, 2),
-        number_at(numbers, 3),
-        number_at(numbers, 4),
-        number_at(numbers, 5),
+        number_at(numbers, places::COLUMNS),
+        number_at(numbers, places::KEYS),
+        number_at(numbers, places::SORT),
+        number_at(numbers, places::RULE),
+        number_at(numbers, places::CAPACITY),
+        number_at(numbers, places::OPENING_GENERATION),
         rows,
         keys,
         sorts,
