@@ -1,10 +1,7 @@
 // The program `levels` (document 01): reads lines of table operations from standard input and answers each on standard output.
 // Answers are buffered, and written before each read. The program owns the stores and lends them to the library.
-ghost use mathlib.Core.Path.{_≡_};
-ghost use mathlib.Core.Bool.{true};
 ghost use Prim.Native.Nat.{_≤_, _<_};
 ghost use lib.ListN.{length as len};
-ghost use Rattle.table.specs.Refusing.{outside};
 ghost use Rattle.levels_io.specs.Input.{InputIn};
 ghost use Rattle.levels.specs.Run.{Within, machine, Stepped, Ran};
 ghost use Rattle.levels.specs.inner.Advancing.{ReadOn, Ready, Advanced};
@@ -24,7 +21,7 @@ use levels_io::output::make_room;
 use levels_io::output::nothing;
 use levels_io::output::report_failure;
 use table::Header;
-use table::Largest;
+use table_open::no_table;
 
 // Bytes of a line that are stored: one more than a line may have, so that a longer line is detected.
 const LINE_BYTES: usize = 121;
@@ -34,25 +31,6 @@ const MOST_TEXT: usize = 103492;
 
 // Size of the text buffer: space for such a line after 64 KiB of other answers.
 const BUFFER: usize = 169028;
-
-// The header before the first opening. Every operation refuses it.
-fn no_table() -> Header
-    ensures { λ r. ⌜ outside r ≡ true ⌝ }
-{
-    Header {
-        columns: 0,
-        keys: 0,
-        sort: 0,
-        rule: 0,
-        capacity: 0,
-        rows: 0,
-        dead: 0,
-        entries: 0,
-        pending: 0,
-        generation: 0,
-        largest: Largest::None,
-    }
-}
 
 // Result of `advance`: how many bytes of the line are stored, whether the line is complete and must be answered, what was passed to
 // `write`, and whether this is the last step of the loop.

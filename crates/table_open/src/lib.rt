@@ -1,4 +1,7 @@
 // Open and clear.
+ghost use mathlib.Core.Path.{_≡_};
+ghost use mathlib.Core.Bool.{true};
+ghost use Rattle.table.specs.Refusing.{outside};
 ghost use Rattle.table.specs.Contracts.{body, Opened, Clearing};
 use table::Header;
 use table::Largest;
@@ -6,6 +9,25 @@ use table::Lent;
 use table::TableAnswer;
 use table::refusing::clear_refusal;
 use table::refusing::open_refusal;
+
+// The header before the first opening. Every operation refuses it.
+pub fn no_table() -> Header
+    ensures { λ r. ⌜ outside r ≡ true ⌝ }
+{
+    Header {
+        columns: 0,
+        keys: 0,
+        sort: 0,
+        rule: 0,
+        capacity: 0,
+        rows: 0,
+        dead: 0,
+        entries: 0,
+        pending: 0,
+        generation: 0,
+        largest: Largest::None,
+    }
+}
 
 // Opens an empty table in the lent stores. Of rows and sort entries only the lengths are used; pending may have any length.
 pub fn open_table(

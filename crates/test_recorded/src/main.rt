@@ -6,28 +6,10 @@ use libc::STDIN_FILENO;
 use libc::STDOUT_FILENO;
 use steps::State;
 use steps::step;
-use table::Header;
-use table::Largest;
+use table_open::no_table;
 
 mod answers; // answers.rt: answers compared with those of the list
 mod steps; // steps.rt: a line and its answer
-
-// The header before the first opening. Every operation refuses it.
-fn no_table() -> Header {
-    Header {
-        columns: 0,
-        keys: 0,
-        sort: 0,
-        rule: 0,
-        capacity: 0,
-        rows: 0,
-        dead: 0,
-        entries: 0,
-        pending: 0,
-        generation: 0,
-        largest: Largest::None,
-    }
-}
 
 fn write_count(count: u64, text: &[u8]) {
     io::print_decimal(STDOUT_FILENO, count);
