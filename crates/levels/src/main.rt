@@ -26,6 +26,18 @@ use table_open::no_table;
 // Bytes of a line that are stored: one more than a line may have, so that a longer line is detected.
 const LINE_BYTES: usize = 121;
 
+// Bytes that one read takes at most.
+const CHUNK_BYTES: usize = 4096;
+
+// The words of the stores, for a table of eight columns and 1,024 rows.
+const ROW_WORDS: usize = 8192;
+
+const KEY_WORDS: usize = 2048;
+
+const SORT_WORDS: usize = 2048;
+
+const PENDING_WORDS: usize = 2048;
+
 // Upper bound of the bytes that one line prints: a listing's head of six numbers, then 1,024 rows of nine.
 const MOST_TEXT: usize = 103492;
 
@@ -147,11 +159,11 @@ struct StepDone {
 fn step(
     state: State,
     line: &mut [u8; LINE_BYTES],
-    chunk: &mut [u8; 4096],
-    rows: &mut [u32; 8192],
-    keys: &mut [u32; 2048],
-    sorts: &mut [u32; 2048],
-    pending: &mut [u32; 2048],
+    chunk: &mut [u8; CHUNK_BYTES],
+    rows: &mut [u32; ROW_WORDS],
+    keys: &mut [u32; KEY_WORDS],
+    sorts: &mut [u32; SORT_WORDS],
+    pending: &mut [u32; PENDING_WORDS],
     text: &mut [u8; BUFFER],
 ) -> StepDone
     requires { ⌜ Within (machine state (now line) (now chunk) (now rows) (now keys) (now sorts) (now pending) (now text)) ⌝ }
@@ -220,11 +232,11 @@ fn finish(state: State, handed: WriteResult, text: &[u8]) -> Ended
 // Repeats `step` until the input is over or a write fails. Writes the remaining buffered bytes when the input is over.
 fn run(
     line: &mut [u8; LINE_BYTES],
-    chunk: &mut [u8; 4096],
-    rows: &mut [u32; 8192],
-    keys: &mut [u32; 2048],
-    sorts: &mut [u32; 2048],
-    pending: &mut [u32; 2048],
+    chunk: &mut [u8; CHUNK_BYTES],
+    rows: &mut [u32; ROW_WORDS],
+    keys: &mut [u32; KEY_WORDS],
+    sorts: &mut [u32; SORT_WORDS],
+    pending: &mut [u32; PENDING_WORDS],
     text: &mut [u8; BUFFER],
 ) -> Ended
     ensures { λ r. ⌜ Ran (machine (r .state) (now (line .exit)) (now (chunk .exit)) (now (rows .exit)) (now (keys .exit)) (now (sorts .exit)) (now (pending .exit)) (now (text .exit))) (r .handed) ⌝ }
@@ -247,11 +259,11 @@ fn run(
 
 fn main() {
     let mut line = [0u8; LINE_BYTES];
-    let mut chunk = [0u8; 4096];
-    let mut rows = [0u32; 8192];
-    let mut keys = [0u32; 2048];
-    let mut sorts = [0u32; 2048];
-    let mut pending = [0u32; 2048];
+    let mut chunk = [0u8; CHUNK_BYTES];
+    let mut rows = [0u32; ROW_WORDS];
+    let mut keys = [0u32; KEY_WORDS];
+    let mut sorts = [0u32; SORT_WORDS];
+    let mut pending = [0u32; PENDING_WORDS];
     let mut text = [0u8; BUFFER];
     let ended = run(
         &mut line,
