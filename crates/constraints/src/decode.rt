@@ -4,6 +4,7 @@ ghost use mathlib.Core.Path.{_≡_};
 ghost use lib.ListN.{length, take};
 ghost use Rattle.constraints.specs.Encoding.{conditionIn, conditionsIn};
 use super::Constraint;
+use super::EQUAL_COLUMNS;
 
 // Decodes the condition with number `i`.
 pub fn read_condition(words: &[u32], i: usize) -> Constraint
@@ -24,7 +25,7 @@ pub fn read_conditions(words: &[u32], count: usize) -> [Constraint; 16]
     ensures { λ r. ⌜ take count r ≡ conditionsIn count (now (words .entry)) ⌝ }
 {
     let none = Constraint {
-        kind: 0,
+        kind: EQUAL_COLUMNS,
         column: 0,
         value: 0,
     };

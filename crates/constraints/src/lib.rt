@@ -9,6 +9,19 @@ ghost use Rattle.constraints.specs.Constraints as rules;
 
 pub mod decode; // decode.rt: conditions read from words
 
+// The kinds of conditions.
+pub const EQUAL_COLUMNS: u32 = 0;
+
+pub const EQUAL: u32 = 1;
+
+pub const LESS: u32 = 2;
+
+pub const GREATER: u32 = 3;
+
+pub const AT_MOST: u32 = 4;
+
+pub const AT_LEAST: u32 = 5;
+
 // Kind 0: two columns are equal, `column` and `value`. Kinds 1 to 5: the cell of `column` is equal to, less than, greater than, at
 // most or at least `value`, unsigned. C callers pass arrays of this struct.
 #[repr(C)]
@@ -33,7 +46,7 @@ fn cell(row: &[u32], column: u32) -> u32
 pub fn known(c: Constraint, columns: u32) -> bool
     ensures { λ r. ⌜ r ≡ rules.known columns c ⌝ }
 {
-    (c.kind <= 5) & (c.column < columns) & ((c.kind != 0) | (c.value < columns))
+    (c.kind <= AT_LEAST) & (c.column < columns) & ((c.kind != EQUAL_COLUMNS) | (c.value < columns))
 }
 
 // Compares a cell with another cell (kind 0) or with a value (kinds 1 to 5). At most is the negation of greater, and at least that
@@ -41,16 +54,16 @@ pub fn known(c: Constraint, columns: u32) -> bool
 fn compares(kind: u32, cell: u32, other: u32) -> bool
     ensures { λ r. ⌜ r ≡ cond (eqb kind 0) (eqb cell other) (rules.compares kind cell other) ⌝ }
 {
-    if kind < 2 {
+    if kind < LESS {
         return cell == other;
     }
     let mut low = cell;
     let mut high = other;
-    if (kind == 3) | (kind == 4) {
+    if (kind == GREATER) | (kind == AT_MOST) {
         low = other;
         high = cell;
     }
-    (low < high) == (kind < 4)
+    (low < high) == (kind < AT_MOST)
 }
 
 // The cells of a row, dead or live, meet the condition.
@@ -59,7 +72,7 @@ pub fn met(c: Constraint, row: &[u32]) -> bool
 {
     let first = cell(row, c.column);
     let mut other = c.value;
-    if c.kind == 0 {
+    if c.kind == EQUAL_COLUMNS {
         other = cell(row, c.value);
     }
     compares(c.kind, first, other)

@@ -7,6 +7,10 @@ ghost use Rattle.sort_entries.specs.Laws.Positions.{rangeAt};
 ghost use Rattle.sort_entries.specs.inner.Append.{EntryFits, Append};
 ghost use Rattle.sort_entries.specs.inner.Search.{EntriesFit, SearchResultIs, Ranged, positionFound, rangeOf};
 ghost use Rattle.sort_entries.specs.inner.Checks.{Decides, Follows, Advanced, headValue, Cells, cellSound, cellsSound};
+use constraints::AT_MOST;
+use constraints::EQUAL;
+use constraints::GREATER;
+use constraints::LESS;
 use offsets_search::binary_search_cells;
 
 // Appends the entry of a row that is appended, or kept by a compaction, if its value rises. Returns the new number of entries.
@@ -73,19 +77,19 @@ fn range_found(kind: u32, first: u32, next: u32, rows: u32) -> Range
     ensures { λ r. ⌜ rangeOf r ≡ rangeAt kind (positionFound (SearchResult.Found first next)) rows ⌝ }
 {
     match kind {
-        1 => Range {
+        EQUAL => Range {
             start: first,
             end: next,
         },
-        2 => Range {
+        LESS => Range {
             start: 0,
             end: first,
         },
-        3 => Range {
+        GREATER => Range {
             start: next,
             end: rows,
         },
-        4 => Range {
+        AT_MOST => Range {
             start: 0,
             end: next,
         },
@@ -101,8 +105,8 @@ fn range_absent(kind: u32, above: u32, rows: u32) -> Range
     ensures { λ r. ⌜ rangeOf r ≡ rangeAt kind (positionFound (SearchResult.Absent above)) rows ⌝ }
 {
     match kind {
-        1 => Range { start: 0, end: 0 },
-        2 | 4 => Range {
+        EQUAL => Range { start: 0, end: 0 },
+        LESS | AT_MOST => Range {
             start: 0,
             end: above,
         },

@@ -2,6 +2,7 @@
 // `updates_since` of table/mod.rs, and the rows since a noted version.
 ghost use Rattle.table.specs.Contracts.{LookedUp, CellRead, RangeRead, VersionRead, RowsSince, RowsSinceVersion};
 use constraints::Constraint;
+use constraints::EQUAL_COLUMNS;
 use key_index::Found;
 use table::CellAnswer;
 use table::Header;
@@ -58,7 +59,7 @@ pub fn fast_subset(h: Header, sorts: &[u32], c: Constraint) -> RangeAnswer
     if refusal != 0 {
         return RangeAnswer::Refused(refusal);
     }
-    if c.kind == 0 {
+    if c.kind == EQUAL_COLUMNS {
         return RangeAnswer::None;
     }
     if c.column != h.sort {
