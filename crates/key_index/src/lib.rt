@@ -30,20 +30,30 @@ pub const ROW_RANGE: u32 = 0x2_0000;
 
 const HASH_RANGE: u32 = 0x8000;
 
+// The most rows that a table has.
+pub const MOST_ROWS: u32 = 65536;
+
+// The size classes below the largest, which is `MOST_ROWS`.
+const SMALL_CLASS: u32 = 128;
+
+const MEDIUM_CLASS: u32 = 1024;
+
+const LARGE_CLASS: u32 = 8192;
+
 // The size class for this many rows, regardless of the capacity. The largest class is tested first.
 fn size_class(rows: u32) -> u32
     ensures { λ r. ⌜ r ≡ sizeClass rows ⌝ }
 {
-    if 8192 < rows {
-        return 65536;
+    if LARGE_CLASS < rows {
+        return MOST_ROWS;
     }
-    if 1024 < rows {
-        return 8192;
+    if MEDIUM_CLASS < rows {
+        return LARGE_CLASS;
     }
-    if 128 < rows {
-        return 1024;
+    if SMALL_CLASS < rows {
+        return MEDIUM_CLASS;
     }
-    128
+    SMALL_CLASS
 }
 
 // The number of rows that the slots in use are sized for. There are two slots for each.
@@ -199,17 +209,22 @@ fn is_missing(slots: u32, store: &[u32], home: u32, hash: u32) -> bool
     store[at] == 0
 }
 
+// The number of slots that a scan without branches tests.
+const NEAR_SLOTS: u32 = 4;
+
+const PAST_NEAR_SLOTS: u32 = NEAR_SLOTS + 1;
+
 // The distance from the home to the next slot with the hash's bits, if it is one of the next four; otherwise 5. Scans from the last
 // to the first, so that each step is a branch-free select. 0 if the slots would pass the end of the ring.
 fn bits_ahead(slots: u32, store: &[u32], home: u32, hash: u32) -> u32
     requires { ⌜ (home < slots) × (slots ≤ length (now store)) ⌝ }
     ensures { λ r. ⌜ Ahead slots (now (store .entry)) home hash r ⌝ }
 {
-    if slots - home <= 5 {
+    if slots - home <= PAST_NEAR_SLOTS {
         return 0;
     }
-    let mut ahead: u32 = 5;
-    let mut i: u32 = 5;
+    let mut ahead: u32 = PAST_NEAR_SLOTS;
+    let mut i: u32 = PAST_NEAR_SLOTS;
     while 1 < i {
         i -= 1;
         if store[(home + i) as usize] / ROW_RANGE == hash % HASH_RANGE {
@@ -251,11 +266,11 @@ fn taken_run(slots: u32, store: &[u32], start: u32) -> u32
     requires { ⌜ (start < slots) × (slots ≤ length (now store)) ⌝ }
     ensures { λ r. ⌜ TakenRun slots (now (store .entry)) start r ⌝ }
 {
-    if slots - start <= 4 {
+    if slots - start <= NEAR_SLOTS {
         return 0;
     }
-    let mut run: u32 = 4;
-    let mut i: u32 = 4;
+    let mut run: u32 = NEAR_SLOTS;
+    let mut i: u32 = NEAR_SLOTS;
     while 0 < i {
         i -= 1;
         if store[(start + i) as usize] == 0 {

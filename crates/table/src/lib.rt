@@ -28,6 +28,11 @@ pub struct Header {
     pub largest: Largest,
 }
 
+// The bounds of an opening's columns and rule. The bound of its capacity is `key_index` `MOST_ROWS`.
+pub const MOST_COLUMNS: u32 = 8;
+
+pub const LAST_RULE: u32 = 3;
+
 // The kind of a pending record, in its first word.
 pub const INSERT: u32 = 0;
 

@@ -8,8 +8,11 @@ ghost use Rattle.table.specs.Numbers.{openingOf};
 ghost use Rattle.table.specs.Refusing as rules;
 ghost use Rattle.table.specs.inner.Lent.{lengthsOf};
 use super::Header;
+use super::LAST_RULE;
 use super::Lent;
+use super::MOST_COLUMNS;
 use constraints::Constraint;
+use key_index::MOST_ROWS;
 use refusals::AT_LAST_GENERATION;
 use refusals::NO_SUCH_COLUMN;
 use refusals::OLD_NOTE;
@@ -27,7 +30,7 @@ fn is_openable(h: Header) -> bool
     if h.columns < 1 {
         return false;
     }
-    if 8 < h.columns {
+    if MOST_COLUMNS < h.columns {
         return false;
     }
     if h.keys < 1 {
@@ -39,13 +42,13 @@ fn is_openable(h: Header) -> bool
     if h.columns <= h.sort {
         return false;
     }
-    if 3 < h.rule {
+    if LAST_RULE < h.rule {
         return false;
     }
     if h.capacity < 1 {
         return false;
     }
-    h.capacity <= 65536
+    h.capacity <= MOST_ROWS
 }
 
 // Test 1 without the pending store.

@@ -14,6 +14,7 @@ ghost use mathlib.Core.Bool.{true};
 use constraints::Constraint;
 use key_index::Found;
 use key_index::IndexShape;
+use key_index::MOST_ROWS;
 
 #[no_mangle]
 pub extern "C" fn mouldgrey_is_stale(first: u32) -> bool
@@ -122,7 +123,7 @@ pub extern "C" fn mouldgrey_rank(live: u64, base: u32, bit: u32) -> u32
     if 64 <= bit {
         return 0;
     }
-    if 65536 < base {
+    if MOST_ROWS < base {
         return 0;
     }
     row_buffer::rank(live, base, bit)
@@ -208,7 +209,7 @@ fn fits(t: IndexShape, rows: usize, store: usize) -> bool
     if t.room < 1 {
         return false;
     }
-    if 65536 < t.room {
+    if MOST_ROWS < t.room {
         return false;
     }
     if t.room < t.rows {
@@ -259,7 +260,7 @@ pub extern "C" fn mouldgrey_put(room: u32, store: &mut [u32], key: &[u32], row: 
     if room < 1 {
         return UNFIT;
     }
-    if 65536 < room {
+    if MOST_ROWS < room {
         return UNFIT;
     }
     if store.len() < (2 * room) as usize {
@@ -334,7 +335,7 @@ pub extern "C" fn mouldgrey_renumber(
     if room < count {
         return UNFIT;
     }
-    if 65536 < room {
+    if MOST_ROWS < room {
         return UNFIT;
     }
     if store.len() < (2 * room) as usize {
@@ -366,7 +367,7 @@ pub extern "C" fn mouldgrey_fast_range(
     kind: u32,
     value: u32,
 ) -> u64 {
-    if 65536 < entries {
+    if MOST_ROWS < entries {
         return UNFIT;
     }
     if sorts.len() < (2 * entries) as usize {
