@@ -1,11 +1,11 @@
 -- The bit of a row in its word, and the bitmap with it. Assumes nothing.
 use Prim.Native.Nat.{ℕ, suc, _+_, _-_, _*_, _/_, _%_, _^_, _<_}
-use mathlib.Core.Path.{_≡_, sym, ap, _∙_}
+use mathlib.Core.Path.{_≡_, refl, sym, ap, _∙_}
 use mathlib.Core.Logic.{inl, inr}
-use mathlib.Core.Bool.{Bool, cond, _||_}
+use mathlib.Core.Bool.{Bool, false, cond, _||_}
 use mathlib.Core.List.{List}
 use native.Mathlib.Nat.{one-mul, zero-mul, pow-suc}
-use native.Mathlib.Decide.{decLt}
+use native.Mathlib.Decide.{ℕ-discrete, decLt}
 use native.Mathlib.Numerals.{one-add}
 use native.Mathlib.Omega.{arith}
 use lib.Bits.{bitAnd, bitOr, and-high, or-add-and}
@@ -14,12 +14,13 @@ use lib.ListN.{length, getD, set, length-set}
 use lib.Pow.{pow-pos, shl-exact}
 use lib.Seq.{getD-set-same, getD-set-other}
 use borrow.Author.Tests.{eq-eqb, ne-eqb, eqb-true, eqb-false}
+use Rattle.lists.specs.Laws.All.{or-no-left, or-no-right}
 use Rattle.lists.specs.Laws.Filter.{split}
 use Rattle.bitmap.specs.Laws.Lowest.{bitmapWord-same}
 use Rattle.row_buffer.specs.Ranks.{setBelow, bitmapWord, countTo}
 use Rattle.row_buffer.specs.Laws.Rows.{below-bitmapWord}
-use Rattle.bitmap.specs.inner.Bitmaps.{Bitmap, MarkedOne}
-use Rattle.bitmap.specs.Laws.Bitmaps.{bitmapWord-with}
+use Rattle.bitmap.specs.inner.Bitmaps.{Bitmap, bitOf, Summarised, MarkedOne}
+use Rattle.bitmap.specs.Laws.Bitmaps.{bitmapWord-with, word-bits}
 
 module _ (f : ℕ → Bool) (k n : ℕ) (h : k < n) where
   digit-of : bitmapWord f n / 2 ^ k % 2 ≡ cond (f k) 1 0
@@ -39,8 +40,16 @@ module _ (f : ℕ → Bool) (k n : ℕ) (h : k < n) where
         | inr q ↦ let a : bitAnd (bitmapWord f n) (2 ^ k) ≡ 0 = and-bit ∙ rw q in rw q (omega (arith, or-add-and (bitmapWord f n) (2 ^ k)))
       ])
 
+  bit-read : bitOf (bitmapWord f n) k ≡ f k
+  unfolding bitOf
+  bit-read =
+      ap (λ (d : ℕ). eqb d 1) digit-of ∙ elim (split (f k)) [ inl q ↦ rw q (eq-eqb 1 1 refl) | inr q ↦ rw q (ne-eqb 0 1 (λ e. omega arith)) ]
+
+shifted : (place : ℕ) → place < 64 → (1 * 2 ^ place) % 2 ^ 64 ≡ 2 ^ place
+shifted place h = shl-exact {a = 1} 1 place 64 (omega arith) (omega arith) ∙ one-mul (2 ^ place)
+
 -- the bitmap with the bit of a row
-module _ (words : List ℕ) (row : ℕ) (long : length words ≡ 1024) (h : row < 65536) where
+module _ (words : List ℕ) (row : ℕ) (long : length words ≡ 1040) (h : row < 65536) where
   abbrev bit : ℕ
   bit = (1 * 2 ^ (row % 64)) % 2 ^ 64
 
@@ -48,7 +57,67 @@ module _ (words : List ℕ) (row : ℕ) (long : length words ≡ 1024) (h : row 
   word = getD words (row / 64) 0
 
   bit-is : bit ≡ 2 ^ (row % 64)
-  bit-is = shl-exact {a = 1} 1 (row % 64) 64 (omega arith) (omega arith) ∙ one-mul (2 ^ (row % 64))
+  bit-is = shifted (row % 64) (omega arith)
+
+  -- the summary word, and the bit of the row's word in it
+  abbrev over : ℕ
+  over = 1024 + row / 64 / 64
+
+  abbrev flags : ℕ
+  flags = getD words over 0
+
+  abbrev flag : ℕ
+  flag = (1 * 2 ^ (row / 64 % 64)) % 2 ^ 64
+
+  abbrev one-set : List ℕ
+  one-set = set words (row / 64) (bitOr word bit)
+
+  abbrev words′ : List ℕ
+  words′ = set one-set over (bitOr flags flag)
+
+  long-after : length words′ ≡ 1040
+  long-after = length-set one-set over (bitOr flags flag) ∙ length-set words (row / 64) (bitOr word bit) ∙ long
+
+  first-words : (w : ℕ) → w < 1024 → getD words′ w 0 ≡ getD one-set w 0
+  first-words w few = getD-set-other one-set over w (bitOr flags flag) 0 (λ e. omega arith)
+
+  other-words : (w : ℕ) → w < 1024 → (w ≡ row / 64 → ⊥) → getD words′ w 0 ≡ getD words w 0
+  other-words w few ne = first-words w few ∙ getD-set-other words (row / 64) w (bitOr word bit) 0 ne
+
+  module _ (small : flags < 2 ^ 64) (s : Summarised words) where
+    flag-bits : (k : ℕ) → k < 64 → bitOf (bitOr flags flag) k ≡ (eqb k (row / 64 % 64) || bitOf flags k)
+    flag-bits k b =
+        let e : bitOr flags flag ≡ bitmapWord (λ i. eqb i (row / 64 % 64) || bitOf flags i) 64 =
+        ap (λ (x : ℕ). bitOr x flag) (word-bits flags small)
+        ∙ ap (bitOr (bitmapWord (λ i. bitOf flags i) 64)) (shifted (row / 64 % 64) (omega arith))
+        ∙ or-bit (λ i. bitOf flags i) (row / 64 % 64) 64 (omega arith) in
+        ap (λ (x : ℕ). bitOf x k) e ∙ bit-read (λ i. eqb i (row / 64 % 64) || bitOf flags i) k 64 b
+
+    -- in the same group of 64 words, and in another
+    same-group : (w : ℕ) → w < 1024 → w / 64 ≡ row / 64 / 64 → bitOf (getD words′ (1024 + w / 64) 0) (w % 64) ≡ false → getD words′ w 0 ≡ 0
+    same-group w few g off =
+        let here : getD words′ (1024 + w / 64) 0 ≡ bitOr flags flag =
+        ap (λ (n : ℕ). getD words′ (1024 + n) 0) g
+        ∙ getD-set-same one-set over (bitOr flags flag) 0 (omega (arith, length-set words (row / 64) (bitOr word bit), long)) in
+        let both : (eqb (w % 64) (row / 64 % 64) || bitOf flags (w % 64)) ≡ false =
+        sym (flag-bits (w % 64) (omega arith)) ∙ sym (ap (λ (x : ℕ). bitOf x (w % 64)) here) ∙ off in
+        let apart = eqb-false (w % 64) (row / 64 % 64) (or-no-left (eqb (w % 64) (row / 64 % 64)) _ both) in
+        let before : bitOf (getD words (1024 + w / 64) 0) (w % 64) ≡ false =
+        ap (λ (n : ℕ). bitOf (getD words (1024 + n) 0) (w % 64)) g ∙ or-no-right (eqb (w % 64) (row / 64 % 64)) _ both in
+        other-words w few (λ e. apart (omega (arith, e))) ∙ s .empty w few before
+
+    other-group : (w : ℕ) → w < 1024 → (w / 64 ≡ row / 64 / 64 → ⊥) → bitOf (getD words′ (1024 + w / 64) 0) (w % 64) ≡ false → getD words′ w 0 ≡ 0
+    other-group w few g off =
+        let same : getD words′ (1024 + w / 64) 0 ≡ getD words (1024 + w / 64) 0 =
+        getD-set-other one-set over (1024 + w / 64) (bitOr flags flag) 0 (λ e. g (omega (arith, e)))
+        ∙ getD-set-other words (row / 64) (1024 + w / 64) (bitOr word bit) 0 (λ e. omega (arith, e)) in
+        other-words w few (λ e. g (omega (arith, e))) ∙ s .empty w few (sym (ap (λ (x : ℕ). bitOf x (w % 64)) same) ∙ off)
+
+    summarised-after : Summarised words′
+    summarised-after =
+        record {
+          empty = λ w few off. elim (ℕ-discrete (w / 64) (row / 64 / 64)) [ yes g ↦ same-group w few g off | no g ↦ other-group w few g off ];
+        }
 
   here : (i : ℕ) → i < 64 → eqb i (row % 64) ≡ eqb (64 * (row / 64) + i) row
   here i b = elim (split (eqb i (row % 64))) [
@@ -68,32 +137,30 @@ module _ (words : List ℕ) (row : ℕ) (long : length words ≡ 1024) (h : row 
         rw (bit-is, b .marked (row / 64) (omega arith))
         (and-bit of-word (row % 64) 64 (omega arith) ∙ rw is-row)
 
-    one-more : Bitmap (set words (row / 64) (bitOr word bit)) (λ i. eqb i row || test i)
+    one-more : Bitmap words′ (λ i. eqb i row || test i)
     one-more =
         record {
-          long = length-set words (row / 64) (bitOr word bit) ∙ long;
-          marked = λ w few. elim (decLt w (row / 64)) [
-            | yes p ↦ other w few (λ e. omega arith)
-            | no p ↦ elim (decLt (row / 64) w) [ yes q ↦ other w few (λ e. omega arith) | no q ↦ let e : w ≡ row / 64 = omega arith in rw e same ]
-          ];
+          long = long-after;
+          marked = λ w few. elim (ℕ-discrete w (row / 64)) [ yes e ↦ rw e same | no ne ↦ other w few ne ];
         }
       where
-        other : (w : ℕ) → w < 1024 → (w ≡ row / 64 → ⊥) → getD (set words (row / 64) (bitOr word bit)) w 0 ≡ bitmapWord (λ i. eqb (64 * w + i) row || test (64 * w + i)) 64
+        other : (w : ℕ) → w < 1024 → (w ≡ row / 64 → ⊥) → getD words′ w 0 ≡ bitmapWord (λ i. eqb (64 * w + i) row || test (64 * w + i)) 64
         other w few ne =
-            getD-set-other words (row / 64) w (bitOr word bit) 0 ne
+            other-words w few ne
             ∙ b .marked w few
             ∙ bitmapWord-same _ _ 64 (λ i q. rw (ne-eqb (64 * w + i) row (λ e. ne (omega arith))))
 
-        same : getD (set words (row / 64) (bitOr word bit)) (row / 64) 0 ≡ bitmapWord (λ i. eqb (64 * (row / 64) + i) row || of-word i) 64
+        same : getD words′ (row / 64) 0 ≡ bitmapWord (λ i. eqb (64 * (row / 64) + i) row || of-word i) 64
         same =
             let e : bitOr word bit ≡ bitmapWord (λ i. eqb i (row % 64) || of-word i) 64 =
             rw (bit-is, b .marked (row / 64) (omega arith)) (or-bit of-word (row % 64) 64 (omega arith)) in
-            getD-set-same words (row / 64) (bitOr word bit) 0 (omega arith) ∙ e ∙ bitmapWord-same _ _ 64 (λ i q. rw (here i q))
+            first-words (row / 64) (omega arith) ∙ getD-set-same words (row / 64) (bitOr word bit) 0 (omega arith) ∙ e ∙ bitmapWord-same _ _ 64 (λ i q. rw (here i q))
 
-  pub marked-new : bitAnd word bit ≡ 0 → MarkedOne words row (set words (row / 64) (bitOr word bit)) 1
-  marked-new z =
+  pub marked-new : flags < 2 ^ 64 → bitAnd word bit ≡ 0 → MarkedOne words row words′ 1
+  marked-new small z =
       record {
-        long = length-set words (row / 64) (bitOr word bit) ∙ long;
+        long = long-after;
+        summary = summarised-after small;
         one-more = one-more;
         new = λ test b. elim (split (test row)) [
           | inl e ↦ absurd (let n : 0 ≡ 2 ^ (row % 64) = sym z ∙ marked-before test b ∙ rw e in omega (arith, pow-pos (row % 64)))
@@ -101,10 +168,11 @@ module _ (words : List ℕ) (row : ℕ) (long : length words ≡ 1024) (h : row 
         ];
       }
 
-  pub marked-already : (bitAnd word bit ≡ 0 → ⊥) → MarkedOne words row (set words (row / 64) (bitOr word bit)) 0
-  marked-already nz =
+  pub marked-already : flags < 2 ^ 64 → (bitAnd word bit ≡ 0 → ⊥) → MarkedOne words row words′ 0
+  marked-already small nz =
       record {
-        long = length-set words (row / 64) (bitOr word bit) ∙ long;
+        long = long-after;
+        summary = summarised-after small;
         one-more = one-more;
         new = λ test b. elim (split (test row)) [ inl e ↦ rw e | inr e ↦ absurd (nz (marked-before test b ∙ rw e)) ];
       }

@@ -17,7 +17,7 @@ use Rattle.lists.specs.Laws.Filter.{split, and-left, and-right}
 use Rattle.constraints.specs.Constraints.{isLive}
 use Rattle.row_buffer.specs.Ranks.{setBelow, bitmapWord, countTo}
 use Rattle.row_buffer.specs.Laws.Rows.{below-bitmapWord}
-use Rattle.bitmap.specs.inner.Bitmaps.{Bitmap, Marked}
+use Rattle.bitmap.specs.inner.Bitmaps.{Bitmap, Summarised, Marked}
 use Rattle.bitmap.specs.Laws.Bitmaps.{marked-then, marked-weaker, marked-few, count-none}
 use Rattle.plain_table.specs.Plain.{Row, Numbered, liveFrom, liveRows}
 use Rattle.plain_table.specs.Refreshing.{Refresh, mentions, mentioning, refreshed}
@@ -99,7 +99,7 @@ module _ (h : Header) (rows index columns values : List ℕ) where
         index-long = omega (arith, l .index-long, same);
       }
 
-  pub listed-long : {words words′ : List ℕ} {listed : ℕ} → ListedMarked h rows index columns values words words′ listed → length words ≡ 1024 → length words′ ≡ 1024
+  pub listed-long : {words words′ : List ℕ} {listed : ℕ} → ListedMarked h rows index columns values words words′ listed → length words ≡ 1040 → length words′ ≡ 1040
   listed-long l = l (λ i. false) (λ i e. absurd (false≢true e)) .long
 
   -- neither sets more bits than there can be rows
@@ -109,7 +109,7 @@ module _ (h : Header) (rows index columns values : List ℕ) where
       let a = l (λ i. false) (λ i e. absurd (false≢true e)) in
       (marked-few a b, marked-few m (a .adds (λ i. false) b .2))
 
-  pub scannable : {from : ℕ} {words : List ℕ} → Lendable h rows columns index → from ≤ h .rows → length words ≡ 1024 → Scannable h rows from columns words
+  pub scannable : {from : ℕ} {words : List ℕ} → Lendable h rows columns index → from ≤ h .rows → length words ≡ 1040 → Scannable h rows from columns words
   scannable l inside long =
       record {
         inside = l .inside;
@@ -144,18 +144,21 @@ bitmap-same {words} {f} {g} a b i h =
 pub record FoundRows (h : Header) (rows index columns values words : List ℕ) (count : ℕ) : Type 0 where
   pub test : ℕ → Bool
   pub bitmap : Bitmap words test
+  pub summarised : Summarised words
   pub counted : countTo test 65536 ≡ count
   pub mention : (i : ℕ) → test i ≡ true → mentionsAt h rows columns values i ≡ true
   pub all : IndexSound h rows columns index → (i : ℕ) → mentionsAt h rows columns values i ≡ true → test i ≡ true
 
-pub found-rows : {h : Header} {rows index columns values words words′ : List ℕ} {count : ℕ} → outside h ≡ false → Bitmap words (λ i. false)
+pub found-rows : {h : Header} {rows index columns values words words′ : List ℕ} {count : ℕ} → outside h ≡ false → Bitmap words (λ i. false) → Summarised words
     → RowsFound h rows index columns values words words′ count → FoundRows h rows index columns values words′ count
-found-rows {h} {rows} {index} {columns} {values} inside b f =
+found-rows {h} {rows} {index} {columns} {values} inside b s f =
     let n = outside-inside h inside in
-    let a = f (λ i. false) (λ i e. absurd (false≢true e)) .adds (λ i. false) b in
+    let m = f (λ i. false) (λ i e. absurd (false≢true e)) in
+    let a = m .adds (λ i. false) b in
     record {
       test = a .0;
       bitmap = a .2;
+      summarised = m .summary s;
       counted = omega (arith, a .3, count-none 65536);
       mention = λ i e. a .1 .allowed-only i refl e;
       all = λ sound i m.

@@ -16,7 +16,7 @@ use Rattle.lists.specs.Laws.Filter.{split}
 use Rattle.refusals.specs.Refusals.{check, firstRefusal, accepted}
 use Rattle.refusals.specs.Laws.Replies.{reply-refused, reply-accepted}
 use Rattle.row_buffer.specs.Ranks.{countTo}
-use Rattle.bitmap.specs.Laws.Bitmaps.{bitmap-none, countTo-le}
+use Rattle.bitmap.specs.Laws.Bitmaps.{bitmap-none, summarised-none, countTo-le}
 use Rattle.plain_table.specs.Staged.{Staged, wordsAll}
 use Rattle.plain_table.specs.Plain.{Numbered}
 use Rattle.plain_table.specs.Refusing.{overfull}
@@ -92,12 +92,12 @@ module _ (h : Header) (rows pending index : List ℕ) (r : Refresh) where
   refused-early n e some =
       refused-as n (λ row. true) (λ sound row. refl) (e ∙ refused-before-seven h (length rows) (length pending) (length index) r _ (λ z. some (e ∙ z))) some
 
-  module _ (p : Passed h (length rows) (length pending) (length index) r) {words : List ℕ} {count : ℕ} (marks : RowsFound h rows index (r .columns) (r .values) (replicate 1024 0) words count) where
+  module _ (p : Passed h (length rows) (length pending) (length index) r) {words : List ℕ} {count : ℕ} (marks : RowsFound h rows index (r .columns) (r .values) (replicate 1040 0) words count) where
     lent : Lendable h rows (r .columns) index
     lent = lendable h rows (length pending) index r p
 
     f : FoundRows h rows index (r .columns) (r .values) words count
-    f = found-rows (lent .inside) bitmap-none marks
+    f = found-rows (lent .inside) bitmap-none summarised-none marks
 
     only : (i : ℕ) → f .test i ≡ true → i < h .rows
     only i t = there-below h rows (r .columns) (r .values) i (f .mention i t)
@@ -174,6 +174,7 @@ module _ (h : Header) (rows pending index : List ℕ) (r : Refresh) where
           record {
             test = f .test;
             bitmap = f .bitmap;
+            summarised = f .summarised;
             counted = count-rows;
             room = record {
               inside = lent .inside;

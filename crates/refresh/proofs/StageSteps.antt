@@ -1,5 +1,5 @@
 -- The records of marked rows, row after row: how many words they take, and the turns of the loops that write them. Assumes nothing.
-use Prim.Native.Nat.{ℕ, zero, suc, _+_, _-_, _*_, _/_, _%_, _≤_, _<_}
+use Prim.Native.Nat.{ℕ, zero, suc, _+_, _-_, _*_, _/_, _%_, _^_, _≤_, _<_}
 use mathlib.Core.Path.{_≡_, refl, sym, ap, ap₂, _∙_}
 use mathlib.Core.Logic.{inl, inr}
 use mathlib.Core.Bool.{Bool, true, false}
@@ -18,7 +18,9 @@ use Rattle.lists.specs.Laws.Filter.{split, filter-append}
 use Rattle.lists.specs.Laws.Parts.{splice-nil, splice-then, length-splice}
 use Rattle.lists.specs.Laws.Rising.{iota-snoc}
 use Rattle.lists.specs.Laws.Rows.{flatten-append}
-use Rattle.bitmap.specs.Laws.Lowest.{onward, onward-all, Next, next-bit, no-more}
+use Rattle.bitmap.specs.inner.Bitmaps.{bitOf}
+use Rattle.bitmap.specs.Laws.Bitmaps.{word-bits}
+use Rattle.bitmap.specs.Laws.Lowest.{bitmapWord-none, onward, onward-all, Next, next-bit, no-more}
 use Rattle.row_buffer.specs.Ranks.{bitmapWord, countTo}
 use Rattle.plain_table.specs.Staged.{Staged, wordsOf, wordsAll}
 use Rattle.plain_table.specs.Plain.{Numbered}
@@ -29,7 +31,7 @@ use Rattle.table.specs.Numbers.{openingOf}
 use Rattle.table.specs.Stores.{recordWords}
 use Rattle.table.specs.Laws.Pending.{length-records}
 use Rattle.table.specs.Laws.Refusals.{outside-inside}
-use Rattle.refresh.specs.inner.Staging.{RowInStore, numbered, markedRows, rowsWords, rowWords, RecordsFit, Written, Block, BlockWritten, Stageable}
+use Rattle.refresh.specs.inner.Staging.{RowInStore, numbered, markedRows, rowsWords, rowWords, RecordsFit, Written, Block, BlockWritten, Group, GroupWritten, Stageable}
 use Rattle.refresh.proofs.WriteSteps.{here-wide}
 
 -- ---- marked rows
@@ -274,7 +276,96 @@ module _ {h : Header} {rows pending : List ℕ} {before first marked stamp : ℕ
             written = rw e at (written-more (b .room) at-row (next .set) q);
           }
 
--- ---- all words
+-- ---- the words of a group
+
+-- the group of a row's word, and the word's place in it
+word-place : (group from to i : ℕ) → group * 4096 + from * 64 ≤ i → i < group * 4096 + to * 64 → to ≤ 64
+    → (i / 64 / 64 ≡ group) × (from ≤ i / 64 % 64) × (i / 64 % 64 < to)
+word-place group from to i p q few =
+    let low : group * 64 + from ≤ i / 64 = omega (arith, p) in
+    let high : i / 64 < group * 64 + to = omega (arith, q) in
+    in-group (i / 64) low high
+  where
+    in-group : (w : ℕ) → group * 64 + from ≤ w → w < group * 64 + to → (w / 64 ≡ group) × (from ≤ w % 64) × (w % 64 < to)
+    in-group w low high =
+        let same : w / 64 ≡ group = omega (arith, low, high, few) in
+        let whole : 64 * (w / 64) + w % 64 ≡ w = omega arith in
+        (same, omega (arith, same, whole, low), omega (arith, same, whole, high))
+
+module _ {h : Header} {rows pending words : List ℕ} {before group stamp : ℕ} (g : Group h rows pending words before group stamp) where
+  abbrev summary : ℕ
+  summary = getD words (1024 + group) 0
+
+  abbrev flagged : ℕ → Bool
+  flagged k = bitOf summary k
+
+  -- what holds at the loop's head: the rows of the words before `place` are written, and the flags are those of the others
+  pub record Grouped (pending′ : List ℕ) (used flags : ℕ) : Type 0 where
+    pub place : ℕ
+    pub few : place ≤ 64
+    pub others : flags ≡ bitmapWord (onward flagged place) 64
+    pub written : Written h rows (g .pending₀) (g .test) stamp pending′ used (group * 4096 + place * 64)
+
+  pub grouped-begin : summary < 2 ^ 64 → Grouped pending before summary
+  grouped-begin small =
+      let e : group * 4096 + 0 * 64 ≡ group * 4096 = omega arith in
+      record { place = 0; few = omega arith; others = word-bits summary small ∙ onward-all flagged 64; written = rw e (g .written) }
+
+  -- a row of a word without a flag
+  unflagged : (i : ℕ) → i < 65536 → i / 64 / 64 ≡ group → flagged (i / 64 % 64) ≡ false → g .test i ≡ false
+  unflagged i b same off =
+      let few : i / 64 < 1024 = omega arith in
+      let z = g .summarised .empty (i / 64) few (ap (λ (n : ℕ). bitOf (getD words (1024 + n) 0) (i / 64 % 64)) same ∙ off) in
+      let e : 64 * (i / 64) + i % 64 ≡ i = omega arith in
+      sym (ap (g .test) e) ∙ bitmapWord-none (λ bit. g .test (64 * (i / 64) + bit)) 64 (sym (g .bitmap .marked (i / 64) few) ∙ z) (i % 64) (omega arith)
+
+  module _ {pending′ : List ℕ} {used flags : ℕ} (s : Grouped pending′ used flags) where
+    pub grouped-length : length pending′ ≡ length pending
+    grouped-length = written-length (g .room) (s .written) ∙ sym (written-length (g .room) (g .written))
+
+    skipped : (to : ℕ) → s .place ≤ to → to ≤ 64 → ((k : ℕ) → s .place ≤ k → k < to → flagged k ≡ false)
+        → Written h rows (g .pending₀) (g .test) stamp pending′ used (group * 4096 + to * 64)
+    skipped to low high none =
+        let below = g .below in
+        let e : group * 4096 + s .place * 64 + (to - s .place) * 64 ≡ group * 4096 + to * 64 = omega arith in
+        rw e at (written-skip (g .room) (s .written) ((to - s .place) * 64) (λ i p q.
+        let r : i < group * 4096 + to * 64 = rw e at q in
+        let w = word-place group (s .place) to i p r high in
+        unflagged i (omega (arith, r, below, high)) (w .0) (none (i / 64 % 64) (w .1) (w .2))))
+
+    pub grouped-end : flags ≡ 0 → Written h rows (g .pending₀) (g .test) stamp pending′ used (group * 4096 + 4096)
+    grouped-end z = skipped 64 (s .few) (omega arith) (no-more flagged (s .place) 64 flags (s .others) z)
+
+    module _ (some : flags ≡ 0 → ⊥) where
+      abbrev flag : ℕ
+      flag = trailingZeros 64 flags
+
+      next-word : Next flagged (s .place) 64 flags flag
+      next-word = next-bit flagged (s .place) 64 flags (s .others) (omega arith) some
+
+      pub at-below : group * 64 + flag < 1024
+      at-below = omega (arith, next-word .below, g .below)
+
+      pub grouped-block : Block h rows pending′ used ((group * 64 + flag) * 64) (getD words (group * 64 + flag) 0) stamp
+      grouped-block =
+          let e : 64 * (group * 64 + flag) ≡ (group * 64 + flag) * 64 = omega arith in
+          let f : group * 4096 + flag * 64 ≡ (group * 64 + flag) * 64 = omega arith in
+          record {
+            pending₀ = g .pending₀;
+            test = g .test;
+            room = g .room;
+            marked = rw e at (g .bitmap .marked (group * 64 + flag) at-below);
+            written = rw f at (skipped flag (next-word .after) (omega (arith, next-word .below)) (next-word .none));
+          }
+
+      pub grouped-on : {pending″ : List ℕ} {r : ℕ} → BlockWritten h rows pending′ used ((group * 64 + flag) * 64) (getD words (group * 64 + flag) 0) stamp r pending″
+          → Grouped pending″ r (bitAnd flags (flags - 1))
+      unfolding grouped-block
+      grouped-on w =
+          let e : (group * 64 + flag) * 64 + 64 ≡ group * 4096 + (flag + 1) * 64 = omega arith in
+          record { place = flag + 1; few = omega (arith, next-word .below); others = next-word .rest; written = rw e at (w .on grouped-block) }
+
+-- ---- all groups
 
 module _ {h : Header} {rows pending words : List ℕ} {count : ℕ} (stamp : ℕ) (s : Stageable h rows pending words count) where
   -- there is none
@@ -283,35 +374,37 @@ module _ {h : Header} {rows pending words : List ℕ} {count : ℕ} (stamp : ℕ
       rw zero-add at (written-skip (s .room) (written-begin (s .room) {stamp = stamp}) (h .rows) (λ i a b. none-counted h rows (s .test) (h .rows) (s .counted ∙ z) i (omega (arith, b))))
 
   -- what holds at the loop's head
-  pub record Iteration (pending′ : List ℕ) (used first : ℕ) : Type 0 where
-    pub aligned : first % 64 ≡ 0
-    pub written : Written h rows pending (s .test) stamp pending′ used first
+  pub record Iteration (pending′ : List ℕ) (used group : ℕ) : Type 0 where
+    pub few : group ≤ 16
+    pub written : Written h rows pending (s .test) stamp pending′ used (group * 4096)
 
   pub iteration-begin : Iteration pending (h .pending) 0
-  iteration-begin = record { aligned = omega arith; written = written-begin (s .room) }
+  iteration-begin = record { few = omega arith; written = written-begin (s .room) }
 
-  module _ {pending′ : List ℕ} {used first : ℕ} (t : Iteration pending′ used first) where
+  module _ {pending′ : List ℕ} {used group : ℕ} (t : Iteration pending′ used group) where
     pub iteration-length : length pending′ ≡ length pending
     iteration-length = written-length (s .room) (t .written)
 
-    pub iteration-end : h .rows ≤ first → Written h rows pending (s .test) stamp pending′ used (h .rows)
-    iteration-end = written-all (s .room) (t .written)
+    pub iteration-end : 16 ≤ group → Written h rows pending (s .test) stamp pending′ used (h .rows)
+    iteration-end past =
+        let i = outside-inside h (s .room .inside) in
+        written-all (s .room) (t .written) (omega (arith, past, i .rows-fit, i .bounds .capacity-few))
 
-    module _ (more : first < h .rows) where
-      pub word-below : first < 65536
-      word-below = let i = outside-inside h (s .room .inside) in omega (arith, i .rows-fit, i .bounds .capacity-few)
-
-      pub iteration-block : Block h rows pending′ used first (getD words (first / 64) 0) stamp
-      iteration-block =
-          let e : 64 * (first / 64) ≡ first = omega (arith, t .aligned) in
+    module _ (more : group < 16) where
+      pub iteration-group : Group h rows pending′ words used group stamp
+      iteration-group =
           record {
             pending₀ = pending;
             test = s .test;
+            bitmap = s .bitmap;
+            summarised = s .summarised;
             room = s .room;
-            marked = rw e at (s .bitmap .marked (first / 64) (omega (arith, word-below)));
+            below = more;
             written = t .written;
           }
 
-      pub iteration-on : {pending″ : List ℕ} {r : ℕ} → BlockWritten h rows pending′ used first (getD words (first / 64) 0) stamp r pending″ → Iteration pending″ r (first + 64)
-      unfolding iteration-block
-      iteration-on w = record { aligned = omega (arith, t .aligned); written = w .on iteration-block }
+      pub iteration-on : {pending″ : List ℕ} {r : ℕ} → GroupWritten h rows pending′ words used group stamp r pending″ → Iteration pending″ r (group + 1)
+      unfolding iteration-group
+      iteration-on w =
+          let e : group * 4096 + 4096 ≡ (group + 1) * 4096 = omega arith in
+          record { few = omega (arith, more); written = rw e at (w .on iteration-group) }

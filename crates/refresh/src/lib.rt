@@ -20,7 +20,8 @@ ghost use Rattle.refresh_spec.specs.Refreshes.{Refreshing};
 ghost use Rattle.refresh_spec.specs.inner.Finding.{Lendable, usable};
 ghost use Rattle.refresh.specs.inner.Testing.{earlyRefusal, Accepted};
 ghost use Rattle.refresh.specs.inner.Finding.{RowsFound};
-ghost use Rattle.refresh.specs.inner.Staging.{RowInStore, rowWords, rowsWords, numbered, Block, BlockWritten, Stageable, AllWritten, RowsStaged};
+ghost use Rattle.refresh.specs.inner.Staging.{RowInStore, rowWords, rowsWords, numbered, Block, BlockWritten, Group, GroupWritten, Stageable, AllWritten, RowsStaged};
+use bitmap::ROW_WORDS;
 use bitmap::WORDS;
 use refresh_index::ROWS_SEEN;
 use refresh_index::catch_up;
@@ -42,6 +43,9 @@ use table::refusing::is_rows_short;
 use table_stage::is_overfull;
 
 const MOST_COLUMNS: usize = 8;
+
+// The number of summary words of a bitmap. Each is for a group of 4,096 rows.
+const GROUPS: u32 = 16;
 
 // Whether every column named is one of the table's.
 fn are_columns_there(h: Header, columns: &[u32]) -> bool
@@ -179,6 +183,31 @@ fn write_block(
     used
 }
 
+// Writes the records of the rows in the bitmap among those of a group, from word to word by its summary word. Returns the number of
+// words in use.
+fn write_group(
+    h: Header,
+    rows: &[u32],
+    pending: &mut [u32],
+    words: &[u64],
+    before: u32,
+    group: u32,
+    stamp: u32,
+) -> u32
+    requires { ⌜ Group h (now rows) (now pending) (now words) before group stamp ⌝ }
+    ensures { λ r. ⌜ GroupWritten h (now (rows .entry)) (now (pending .entry)) (now (words .entry)) before group stamp r (now (pending .exit)) ⌝ }
+{
+    let mut used = before;
+    let mut flags = words[ROW_WORDS + group as usize];
+    while flags != 0 {
+        let at = group * 64 + u64::trailing_zeros(flags);
+        flags = flags & (flags - 1);
+        let word = words[at as usize];
+        used = write_block(h, rows, pending, used, at * 64, word, stamp);
+    }
+    used
+}
+
 // Writes the records of all rows in the bitmap, of which there are `count`, in rising order.
 fn write_marked(
     h: Header,
@@ -195,11 +224,10 @@ fn write_marked(
         return h.pending;
     }
     let mut used = h.pending;
-    let mut first: u32 = 0;
-    while first < h.rows {
-        let word = words[(first / 64) as usize];
-        used = write_block(h, rows, pending, used, first, word, stamp);
-        first += 64;
+    let mut group: u32 = 0;
+    while group < GROUPS {
+        used = write_group(h, rows, pending, words, used, group, stamp);
+        group += 1;
     }
     used
 }

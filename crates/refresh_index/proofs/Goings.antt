@@ -48,10 +48,10 @@ pub going-end : {all rest : ℕ → Bool} {words words′ : List ℕ} {more : �
 going-end g none = marked-weaker (λ i a. a) (λ i a. rw (a, none i)) (g .done)
 
 -- all that are marked are few
-pub marks-few : {allowed needed : ℕ → Bool} {words words′ : List ℕ} {more : ℕ} → Marked allowed needed words words′ more → length words ≡ 1024
+pub marks-few : {allowed needed : ℕ → Bool} {words words′ : List ℕ} {more : ℕ} → Marked allowed needed words words′ more → length words ≡ 1040
     → ((w : ℕ) → getD words w 0 < 2 ^ 64) → more ≤ 65536
 marks-few {words = words} m long bits = marked-few m (bitmap-of words long bits)
 
-pub going-few : {all rest : ℕ → Bool} {words words′ : List ℕ} {more : ℕ} → Going all rest words words′ more → length words ≡ 1024
+pub going-few : {all rest : ℕ → Bool} {words words′ : List ℕ} {more : ℕ} → Going all rest words words′ more → length words ≡ 1040
     → ((w : ℕ) → getD words w 0 < 2 ^ 64) → more ≤ 65536
 going-few g = marks-few (g .done)

@@ -168,7 +168,7 @@ fn mark_entry(
     value: u32,
     words: &mut [u64],
 ) -> u32
-    requires { ⌜ Readable h (now rows) (now columns) × (entry < h .rows * length (now columns)) × (length (now words) ≡ 1024) ⌝ }
+    requires { ⌜ Readable h (now rows) (now columns) × (entry < h .rows * length (now columns)) × (length (now words) ≡ 1040) ⌝ }
     ensures { λ r. ⌜ MarkedAll (leadsTo h (now (rows .entry)) (now (columns .entry)) value entry) (now (words .entry)) (now (words .exit)) r ⌝ }
 {
     let count = columns.len() as u32;
@@ -193,7 +193,7 @@ fn mark_chain(
     value: u32,
     words: &mut [u64],
 ) -> u32
-    requires { ⌜ Lendable h (now rows) (now columns) (now index) × (usable h (now columns) (now index) ≡ true) × (length (now words) ≡ 1024) ⌝ }
+    requires { ⌜ Lendable h (now rows) (now columns) (now index) × (usable h (now columns) (now index) ≡ true) × (length (now words) ≡ 1040) ⌝ }
     ensures { λ r. ⌜ MarkedAll (leads h (now (rows .entry)) (now (columns .entry)) value (entriesUnder (h .capacity) (now (index .entry)) value)) (now (words .entry)) (now (words .exit)) r ⌝ }
 {
     let mut limit = index[ROWS_SEEN] * columns.len() as u32;
@@ -233,7 +233,7 @@ fn mark_values(
     recent: &mut [u32],
     words: &mut [u64],
 ) -> u32
-    requires { ⌜ Lendable h (now rows) (now columns) (now index) × (usable h (now columns) (now index) ≡ true) × (length (now words) ≡ 1024) × Noted (now values) 0 (now recent) ⌝ }
+    requires { ⌜ Lendable h (now rows) (now columns) (now index) × (usable h (now columns) (now index) ≡ true) × (length (now words) ≡ 1040) × Noted (now values) 0 (now recent) ⌝ }
     ensures { λ r. ⌜ ListedMarked h (now (rows .entry)) (now (index .entry)) (now (columns .entry)) (now (values .entry)) (now (words .entry)) (now (words .exit)) r ⌝ }
 {
     let mut marked: u32 = 0;
@@ -258,7 +258,7 @@ pub fn mark_listed(
     values: &[u32],
     words: &mut [u64],
 ) -> u32
-    requires { ⌜ Lendable h (now rows) (now columns) (now index) × (usable h (now columns) (now index) ≡ true) × (length (now words) ≡ 1024) ⌝ }
+    requires { ⌜ Lendable h (now rows) (now columns) (now index) × (usable h (now columns) (now index) ≡ true) × (length (now words) ≡ 1040) ⌝ }
     ensures { λ r. ⌜ ListedMarked h (now (rows .entry)) (now (index .entry)) (now (columns .entry)) (now (values .entry)) (now (words .entry)) (now (words .exit)) r ⌝ }
 {
     let mut recent = [0u32; RECENT];

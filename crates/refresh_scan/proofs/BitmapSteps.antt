@@ -29,7 +29,7 @@ use Rattle.refresh_spec.specs.inner.Finding.{mentionsAt, mentionsFrom}
 use Rattle.refresh_scan.specs.inner.Scanning.{Scannable, mentionsOnly}
 
 -- what the scan requires holds from each row on, while bits are set
-pub scan-on : {h : Header} {rows columns words words′ : List ℕ} {from row : ℕ} → Scannable h rows from columns words → row ≤ h .rows → length words′ ≡ 1024
+pub scan-on : {h : Header} {rows columns words words′ : List ℕ} {from row : ℕ} → Scannable h rows from columns words → row ≤ h .rows → length words′ ≡ 1040
     → Scannable h rows row columns words′
 scan-on s k l =
     record {

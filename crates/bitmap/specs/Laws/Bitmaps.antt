@@ -17,7 +17,7 @@ use Rattle.lists.specs.Laws.Filter.{split}
 use Rattle.lists.specs.Laws.All.{or-right, or-second}
 use Rattle.bitmap.specs.Laws.Lowest.{bitmapWord-same}
 use Rattle.row_buffer.specs.Ranks.{bitmapWord, countTo}
-use Rattle.bitmap.specs.inner.Bitmaps.{Bitmap, MarkedOne, Marked}
+use Rattle.bitmap.specs.inner.Bitmaps.{Bitmap, bitOf, Summarised, MarkedOne, Marked}
 
 -- ---- setting one bit, in a sum over the bits; words and counts are such sums
 
@@ -67,8 +67,11 @@ sum-none weight zero = refl
 sum-none weight (suc n) = add-zero (sumTo weight (λ i. false) n) ∙ sum-none weight n
 
 -- the initial bitmap: no row is set
-pub bitmap-none : Bitmap (replicate 1024 0) (λ i. false)
-bitmap-none = record { long = length-replicate {A = ℕ} 1024 0; marked = λ w h. getD-replicate 1024 w 0 0 h ∙ sym (bitmapWord-sum _ 64 ∙ sum-none (λ i. 2 ^ i) 64) }
+pub bitmap-none : Bitmap (replicate 1040 0) (λ i. false)
+bitmap-none = record { long = length-replicate {A = ℕ} 1040 0; marked = λ w h. getD-replicate 1040 w 0 0 (omega arith) ∙ sym (bitmapWord-sum _ 64 ∙ sum-none (λ i. 2 ^ i) 64) }
+
+pub summarised-none : Summarised (replicate 1040 0)
+summarised-none = record { empty = λ w h off. getD-replicate 1040 w 0 0 (omega arith) }
 
 pub count-none : (n : ℕ) → countTo (λ i. false) n ≡ 0
 count-none n = count-sum _ n ∙ sum-none (λ i. 1) n
@@ -87,7 +90,12 @@ digits-bitmapWord word (suc n) =
       | no b ↦ let o : word / 2 ^ n % 2 ≡ 1 = omega arith in rw o (omega arith)
     ])
 
-pub bitmap-of : (words : List ℕ) → length words ≡ 1024 → ((w : ℕ) → getD words w 0 < 2 ^ 64) → Bitmap words (bitSet words)
+-- a word of 64 bits is the bitmap word of its bits
+pub word-bits : (word : ℕ) → word < 2 ^ 64 → word ≡ bitmapWord (λ bit. bitOf word bit) 64
+unfolding bitOf
+word-bits word h = sym (digits-bitmapWord word 64 ∙ mod-eq-of-lt h)
+
+pub bitmap-of : (words : List ℕ) → length words ≡ 1040 → ((w : ℕ) → getD words w 0 < 2 ^ 64) → Bitmap words (bitSet words)
 unfolding bitSet
 bitmap-of words long bits =
     record {
@@ -109,6 +117,7 @@ pub marked-one : {allowed : ℕ → Bool} {words words′ : List ℕ} {row more 
 marked-one {row = row} m h a =
     record {
       long = λ _. m .long;
+      summary = m .summary;
       adds = λ test b. (
         λ i. eqb i row || test i,
         record {
@@ -129,6 +138,7 @@ pub marked-none : {allowed : ℕ → Bool} {words : List ℕ} → Marked allowed
 marked-none =
     record {
       long = λ e. e;
+      summary = λ s. s;
       adds = λ test b. (
         test,
         record { kept = λ i t. t; allowed-only = λ i out now. absurd (false≢true (sym out ∙ now)); all-needed = λ i e. absurd (false≢true e) },
@@ -143,6 +153,7 @@ pub marked-then : {allowed needed needed′ : ℕ → Bool} {words words′ word
 marked-then {allowed} {needed} {needed′} {a = a} {b} m n =
     record {
       long = λ e. n .long (m .long e);
+      summary = λ s. n .summary (m .summary s);
       adds = λ test bitmap.
           let u = m .adds test bitmap in
           let v = n .adds (u .0) (u .2) in (
@@ -169,6 +180,7 @@ pub marked-weaker : {allowed needed allowed′ needed′ : ℕ → Bool} {words 
 marked-weaker wider fewer m =
     record {
       long = m .long;
+      summary = m .summary;
       adds = λ test b.
           let u = m .adds test b in (
             u .0,

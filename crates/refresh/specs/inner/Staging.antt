@@ -7,7 +7,7 @@ use lib.ListN.{length}
 use lib.Dec.{ltb}
 use Rattle.lists.specs.Lists.{splice, filter, rowAt, flatten, iota}
 use Rattle.row_buffer.specs.Ranks.{bitmapWord, countTo}
-use Rattle.bitmap.specs.inner.Bitmaps.{Bitmap}
+use Rattle.bitmap.specs.inner.Bitmaps.{Bitmap, Summarised}
 use Rattle.plain_table.specs.Plain.{Numbered}
 use Rattle.plain_table.specs.Refreshing.{refreshed}
 use Rattle.table.specs.declared.Header.{Header}
@@ -63,10 +63,25 @@ pub record Block (h : Header) (rows pending : List ℕ) (used first word stamp :
 pub record BlockWritten (h : Header) (rows pending : List ℕ) (used first word stamp : ℕ) (r : ℕ) (pending′ : List ℕ) : Type 0 where
   pub on : (b : Block h rows pending used first word stamp) → Written h rows (b .pending₀) (b .test) stamp pending′ r (first + 64)
 
+-- the same up to a group of 4,096 rows, which are in the words after that
+pub record Group (h : Header) (rows pending words : List ℕ) (used group stamp : ℕ) : Type 0 where
+  pub pending₀ : List ℕ
+  pub test : ℕ → Bool
+  pub bitmap : Bitmap words test
+  pub summarised : Summarised words
+  pub room : RecordsFit h rows pending₀ test
+  pub below : group < 16
+  pub written : Written h rows pending₀ test stamp pending used (group * 4096)
+
+-- the records of the rows of the group are written too
+pub record GroupWritten (h : Header) (rows pending words : List ℕ) (used group stamp : ℕ) (r : ℕ) (pending′ : List ℕ) : Type 0 where
+  pub on : (g : Group h rows pending words used group stamp) → Written h rows (g .pending₀) (g .test) stamp pending′ r (group * 4096 + 4096)
+
 -- a bitmap of so many rows, and room for their records
 pub record Stageable (h : Header) (rows pending words : List ℕ) (count : ℕ) : Type 0 where
   pub test : ℕ → Bool
   pub bitmap : Bitmap words test
+  pub summarised : Summarised words
   pub counted : countTo test (h .rows) ≡ count
   pub room : RecordsFit h rows pending test
 

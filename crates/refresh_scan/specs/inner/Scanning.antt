@@ -18,7 +18,7 @@ pub record Scannable (h : Header) (rows : List ℕ) (from : ℕ) (columns words 
   pub from-inside : from ≤ h .rows
   pub columns-few : length columns ≤ 8
   pub columns-there : all (λ column. ltb column (h .columns)) columns ≡ true
-  pub words-long : length words ≡ 1024
+  pub words-long : length words ≡ 1040
 
 -- row i is this one, is live and mentions a value
 unfoldable pub mentionsOnly : Header → List ℕ → List ℕ → List ℕ → ℕ → ℕ → Bool
