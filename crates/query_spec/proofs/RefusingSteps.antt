@@ -82,10 +82,7 @@ module _ (h : Header) (rows : ℕ) (subset : Subset) where
         | inr a ↦ elim (split (rowsShort h rows)) [
           | inl b ↦ rw (a, b)
           | inr b ↦ elim (split (wellFormed subset)) [
-            | inl c ↦ elim (split (pastRows h subset)) [
-              | inl d ↦ rw (a, b, c, d, wide d)
-              | inr d ↦ absurd (n (rw (a, b, c, d)))
-            ]
+            | inl c ↦ elim (split (pastRows h subset)) [ inl d ↦ rw (a, b, c, d, wide d) | inr d ↦ absurd (n (rw (a, b, c, d))) ]
             | inr c ↦ rw (a, b, c)
           ]
         ]
@@ -104,32 +101,22 @@ module _ (h : Header) (rows : ℕ) (subset : Subset) where
       unfolding refineRefusal firstRefusal queryChecks
       refine-rest knows a k = rw (a .inside, a .long, a .formed, a .below, k)
 
+    -- a refused one has nothing more to state
+    refine-refused : (knows : Bool) (number : ℕ) → ((conditions : List Constraint) → knows ≡ all (known (h .columns)) conditions → number ≡ refineRefusal h rows subset conditions output)
+        → (number ≡ 0 → ⊥) → RefineRefused h rows subset knows output number
+    refine-refused knows number is n = record { number-is = is; queryable = λ z. absurd (n z); room = λ z. absurd (n z) }
+
     pub refine-early : (knows : Bool) (number : ℕ) → number ≡ subsetRefusal h rows subset → (number ≡ 0 → ⊥) → RefineRefused h rows subset knows output number
-    refine-early knows number e n =
-        record {
-          number-is = λ conditions k. e ∙ refine-shared conditions (λ z. n (e ∙ z));
-          queryable = λ z. absurd (n z);
-          room = λ z. absurd (n z);
-        }
+    refine-early knows number e n = refine-refused knows number (λ conditions k. e ∙ refine-shared conditions (λ z. n (e ∙ z))) n
 
     module _ (knows : Bool) (e : subsetRefusal h rows subset ≡ 0) where
       pub refine-unknown : knows ≡ false → RefineRefused h rows subset knows output 6
       unfolding firstRefusal
-      refine-unknown f =
-          record {
-            number-is = λ conditions k. sym (refine-rest conditions knows (queryable-of e) k ∙ rw f);
-            queryable = λ z. absurd (omega arith);
-            room = λ z. absurd (omega arith);
-          }
+      refine-unknown f = refine-refused knows 6 (λ conditions k. sym (refine-rest conditions knows (queryable-of e) k ∙ rw f)) (λ z. omega arith)
 
       pub refine-narrow : knows ≡ true → output < size subset → RefineRefused h rows subset knows output 2
       unfolding firstRefusal
-      refine-narrow f n =
-          record {
-            number-is = λ conditions k. sym (refine-rest conditions knows (queryable-of e) k ∙ rw (f, lt-ltb output (size subset) n));
-            queryable = λ z. absurd (omega arith);
-            room = λ z. absurd (omega arith);
-          }
+      refine-narrow f n = refine-refused knows 2 (λ conditions k. sym (refine-rest conditions knows (queryable-of e) k ∙ rw (f, lt-ltb output (size subset) n))) (λ z. omega arith)
 
       pub refine-allowed : knows ≡ true → size subset ≤ output → RefineRefused h rows subset knows output 0
       unfolding firstRefusal
@@ -177,46 +164,28 @@ module _ (h : Header) (rows : ℕ) (subset : Subset) where
       page-rest knows a k = rw (a .inside, a .long, a .formed, a .below, k)
 
     module _ (knows : Bool) where
+      page-refused : (number : ℕ) → ((conditions : List Constraint) → knows ≡ all (known (h .columns)) conditions → number ≡ pageRefusal h rows subset start n conditions output)
+          → (number ≡ 0 → ⊥) → PageRefused h rows subset start n knows output number
+      page-refused number is m = record { number-is = is; queryable = λ z. absurd (m z); within = λ z. absurd (m z); room = λ z. absurd (m z) }
+
       pub page-early : (number : ℕ) → number ≡ subsetRefusal h rows subset → (number ≡ 0 → ⊥) → PageRefused h rows subset start n knows output number
-      page-early number e m =
-          record {
-            number-is = λ conditions k. e ∙ page-shared conditions (λ z. m (e ∙ z));
-            queryable = λ z. absurd (m z);
-            within = λ z. absurd (m z);
-            room = λ z. absurd (m z);
-          }
+      page-early number e m = page-refused number (λ conditions k. e ∙ page-shared conditions (λ z. m (e ∙ z))) m
 
       module _ (e : subsetRefusal h rows subset ≡ 0) where
         pub page-beyond : size subset < start → PageRefused h rows subset start n knows output 5
         unfolding firstRefusal
-        page-beyond l =
-            record {
-              number-is = λ conditions k. sym (page-rest conditions knows (queryable-of e) k ∙ rw (lt-ltb (size subset) start l));
-              queryable = λ z. absurd (omega arith);
-              within = λ z. absurd (omega arith);
-              room = λ z. absurd (omega arith);
-            }
+        page-beyond l = page-refused 5 (λ conditions k. sym (page-rest conditions knows (queryable-of e) k ∙ rw (lt-ltb (size subset) start l))) (λ z. omega arith)
 
         module _ (l : start ≤ size subset) where
           pub page-unknown : knows ≡ false → PageRefused h rows subset start n knows output 6
           unfolding firstRefusal
-          page-unknown f =
-              record {
-                number-is = λ conditions k. sym (page-rest conditions knows (queryable-of e) k ∙ rw (le-ltb (size subset) start l, f));
-                queryable = λ z. absurd (omega arith);
-                within = λ z. absurd (omega arith);
-                room = λ z. absurd (omega arith);
-              }
+          page-unknown f = page-refused 6 (λ conditions k. sym (page-rest conditions knows (queryable-of e) k ∙ rw (le-ltb (size subset) start l, f))) (λ z. omega arith)
 
           pub page-narrow : knows ≡ true → output < min n (size subset - start) → PageRefused h rows subset start n knows output 2
           unfolding firstRefusal
           page-narrow f m =
-              record {
-                number-is = λ conditions k. sym (page-rest conditions knows (queryable-of e) k ∙ rw (le-ltb (size subset) start l, f, lt-ltb output (min n (size subset - start)) m));
-                queryable = λ z. absurd (omega arith);
-                within = λ z. absurd (omega arith);
-                room = λ z. absurd (omega arith);
-              }
+              page-refused 2 (λ conditions k. sym (page-rest conditions knows (queryable-of e) k ∙ rw (le-ltb (size subset) start l, f, lt-ltb output (min n (size subset - start)) m)))
+              (λ z. omega arith)
 
           pub page-allowed : knows ≡ true → min n (size subset - start) ≤ output → PageRefused h rows subset start n knows output 0
           unfolding firstRefusal

@@ -21,8 +21,7 @@ use Rattle.query_spec.specs.Queries.{matches, deadAmong, pageRefusal, vi
 
 -- how many of these ids have a live row that fails a condition
 unfoldable pub failedAmong : Header → List ℕ → List Constraint → List ℕ → ℕ
-failedAmong h rows conditions ids =
-    count (λ id. isLive (rowAt (h .columns) id rows) && not (all (met (rowAt (h .columns) id rows)) conditions)) ids
+failedAmong h rows conditions ids = count (λ id. isLive (rowAt (h .columns) id rows) && not (all (met (rowAt (h .columns) id rows)) conditions)) ids
 
 pub visited-parts : (h : Header) (rows : List ℕ) (conditions : List Constraint) (ids : List ℕ)
     → length (filter (matches h rows conditions) ids) + deadAmong h rows ids + failedAmong h rows conditions ids ≡ length ids

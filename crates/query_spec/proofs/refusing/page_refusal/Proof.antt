@@ -7,9 +7,6 @@ use Rattle.query_spec.proofs.RefusingSteps.{page-early, page-beyond, pa
 use Rattle.query_spec.proofs.refusing.page_refusal.Statement.{statement}
 use Rattle.query_spec.proofs.refusing.page_refusal.Tie as tie
 
-returns-3 : tie.Need-returns-3
-returns-3 c = page-unknown _ _ _ _ _ _ _ (sym (c .before .before .before .before .subset-refusal .ensures) ∙ c .before .before .before .if1 .left) (omega (arith, c .before .before .size .ensures, c .before .if2 .left)) (not-true _ (c .if3 .taken))
-
 returns-4 : tie.Need-returns-4
 returns-4 c = page-narrow _ _ _ _ _ _ _ (sym (c .before .before .before .before .before .before .subset-refusal .ensures) ∙ c .before .before .before .before .before .if1 .left) (omega (arith, c .before .before .before .before .size .ensures, c .before .before .before .if2 .left)) (not-false _ (c .before .before .if3 .left)) (omega (arith, c .before .before .before .before .size .ensures, c .before .smaller .ensures, c .if4 .taken))
 
@@ -24,4 +21,5 @@ page-refusal-spec =
     (λ c. page-early _ _ _ _ _ _ _ _ (c .before .subset-refusal .ensures) (c .if1 .taken))
     (λ c κs. search needs)
     (λ c. page-beyond _ _ _ _ _ _ _ (sym (c .before .before .before .subset-refusal .ensures) ∙ c .before .before .if1 .left) (omega (arith, c .before .size .ensures, c .if2 .taken)))
-    returns-3 (λ c κs. search needs) returns-4 returns-5)
+    (λ c. page-unknown _ _ _ _ _ _ _ (sym (c .before .before .before .before .subset-refusal .ensures) ∙ c .before .before .before .if1 .left) (omega (arith, c .before .before .size .ensures, c .before .if2 .left)) (not-true _ (c .if3 .taken)))
+    (λ c κs. search needs) returns-4 returns-5)
