@@ -1,9 +1,14 @@
 -- The answers of the queries: refused, or by the ids that a scan has kept. Assumes nothing.
-use Rattle.query_scan.proofs.Prelude.{ℕ, _+_, _-_, _≤_, _<_, min, _≡_, refl, sym, ap, _∙_, Bool, true, false, and-true, false≢true, List, [], _∷_, inl, inr, ℕ-discrete, arith, eqb, length, getD, eqb-true, eq-eqb, filter, all, split}
-use Rattle.query_scan.proofs.Prelude.{and-left, and-right, filter-all, filter-length-all, length-filter, count-le, refused, accepted, reply, reply-refused, reply-accepted, SubsetHead, RetainBuilder, Subset, range, list, members, size}
-use Rattle.query_scan.proofs.Prelude.{retain, narrowed, subsetOf, Answered, Builds, BuilderEnds, dense-is, sparse-is, formed-order, length-members, answered-range, answered-list, length-range, getD-range, narrowed-all, narrowed-some}
-use Rattle.query_scan.proofs.Prelude.{narrowed-list, Constraint, known, Header, matches, refineRefusal, visited, refineOneReply, refineListReply, RefinedOne, RefinedList, Queryable, RefineRefused, MatchRefused, PageRefused, Scan, Refine}
-use Rattle.query_scan.proofs.Prelude.{Match, Page, upTo, places, firstPlace, roomRequired, refusalOf, BeginsAt, Finished, ScanStarts, ScanAnswered, CanWrite, Writes, whole, CanClose, RefineClosed, idsVisited}
+use Rattle.query_scan.proofs.Prelude.{ℕ, _+_, _-_, _≤_, _<_, min, _≡_, refl, sym, ap, _∙_, Bool, true, false, and-true, false≢true, List, [], _∷_, inl, inr, ℕ-discrete, arith, eqb, length, getD, eqb-true, eq-eqb, filter, all, split, and-left, and-right, filter-all, filter-length-all}
+use Rattle.query_scan.proofs.Prelude.{length-filter, count-le, refused, accepted, reply, reply-refused, reply-accepted, Constraint, known, Header, matches, refineRefusal, visited, refineOneReply, refineListReply, RefinedOne, RefinedList, Queryable, RefineRefused, MatchRefused, PageRefused}
+use Rattle.query_scan.proofs.Prelude.{Scan, Refine, Match, Page, upTo, places, firstPlace, roomRequired, refusalOf, BeginsAt, Finished, ScanStarts, ScanAnswered, CanWrite, Writes, whole, CanClose, RefineClosed, idsVisited}
+use Rattle.offsets.specs.declared.SubsetHead.{SubsetHead}
+use Rattle.offsets_retain.specs.declared.RetainBuilder.{RetainBuilder}
+use Rattle.offsets.specs.Subsets.{Subset, range, list, members, size, retain, narrowed}
+use Rattle.offsets.specs.Answers.{subsetOf, Answered}
+use Rattle.offsets_retain.specs.inner.RetainBuilder.{Builds, BuilderEnds}
+use Rattle.offsets.specs.Laws.Subsets.{dense-is, sparse-is, formed-order, length-members, answered-range, answered-list}
+use Rattle.offsets.specs.Laws.Forms.{length-range, getD-range, narrowed-all, narrowed-some, narrowed-list}
 use Rattle.offsets.specs.declared.SubsetAnswer.{SubsetAnswer}
 use Rattle.offsets.specs.declared.SubsetAnswer.the-variants.{Refused, Range, List as Ids}
 use Rattle.offsets.specs.inner.Writing.{Wrote}
@@ -16,13 +21,11 @@ use Rattle.query_scan.proofs.Visits.{upTo-nil, upTo-all, upTo-first, vi
 
 module _ (number : ℕ) (value : Subset) (output : List ℕ) where
   answered-refused : (n : ℕ) → n ≡ number → (n ≡ 0 → ⊥) → Answered (reply number value) output (Refused n) output
-  answered-refused n e z =
-      let k : reply number value ≡ refused n = sym (reply-refused (refused n) number n value refl e z) in rw k (refused-answered n output)
+  answered-refused n e z = let k : reply number value ≡ refused n = sym (reply-refused (refused n) number n value refl e z) in rw k (refused-answered n output)
 
   answered-accepted : (answer : SubsetAnswer) (output′ : List ℕ) → number ≡ 0 → Answered (accepted value) output answer output′
       → Answered (reply number value) output answer output′
-  answered-accepted answer output′ e a =
-      let k : reply number value ≡ accepted value = sym (reply-accepted (accepted value) number value refl e) in rw k a
+  answered-accepted answer output′ e a = let k : reply number value ≡ accepted value = sym (reply-accepted (accepted value) number value refl e) in rw k a
 
 -- ---- the beginning
 
@@ -148,10 +151,7 @@ module _ (query : QueryKind) (h : Header) (rows : List ℕ) (subset : Subset) (c
         within = λ z. let w = o .can-start output refl in omega (arith, w .order, w .within, o .first-is (was z));
         grows = λ z. rw (← o .visits-is (was z) wanted) (f .grows);
         counted = λ z.
-            record {
-              next = rw (← o .visits-is (was z) wanted, ← o .first-is (was z)) (f .next-is);
-              dead = rw (← o .visits-is (was z) wanted) (f .dead-is);
-            };
+            record { next = rw (← o .visits-is (was z) wanted, ← o .first-is (was z)) (f .next-is); dead = rw (← o .visits-is (was z) wanted) (f .dead-is) };
         unwritten = λ n. nothing-kept wanted _ output output′ (s′ .found) (no-visits n) (f .grows);
       }
 
@@ -235,11 +235,7 @@ module _ (test : ℕ → Bool) (a b : ℕ) where
     all-kept n = filter-length-all test ids-of (sym (grows .number) ∙ n ∙ sym (length-range a b))
 
     not-all : (g .count ≡ b - a → ⊥) → all test ids-of ≡ false
-    not-all f =
-        elim (split (all test ids-of)) [
-          | inl q ↦ absurd (f (grows .number ∙ ap length (filter-all test ids-of q) ∙ length-range a b))
-          | inr q ↦ q
-        ]
+    not-all f = elim (split (all test ids-of)) [ inl q ↦ absurd (f (grows .number ∙ ap length (filter-all test ids-of q) ∙ length-range a b)) | inr q ↦ q ]
 
     -- where all is kept the ids are neighbours, and nothing is written
     all-unwritten : all test ids-of ≡ true → output ≡ output₀

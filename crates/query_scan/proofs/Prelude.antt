@@ -16,13 +16,6 @@ pub use Rattle.constraints.specs.declared.Constraint.{Constraint}
 pub use Rattle.lists.specs.Laws.Filter.{split, and-left, and-right, filter-all, filter-length-all, length-filter, count-le, filter-append, count-append}
 pub use Rattle.lists.specs.Lists.{splice, iota, rising}
 unfoldable pub use Rattle.lists.specs.Lists.{filter, all, count, rowAt, any}
-pub use Rattle.offsets.specs.Answers.{subsetOf, Answered}
-pub use Rattle.offsets.specs.Laws.Forms.{length-range, getD-range, narrowed-all, narrowed-some, narrowed-list, size-range, end-range, size-list, members-list}
-pub use Rattle.offsets.specs.Laws.Subsets.{dense-is, sparse-is, formed-order, length-members, answered-range, answered-list, rising-members, members-below, formed-short}
-pub use Rattle.offsets.specs.Subsets.{Subset, range, list, members, size, retain, narrowed, endOf}
-pub use Rattle.offsets.specs.declared.SubsetHead.{SubsetHead}
-pub use Rattle.offsets_retain.specs.declared.RetainBuilder.{RetainBuilder}
-pub use Rattle.offsets_retain.specs.inner.RetainBuilder.{Builds, BuilderEnds, NextId}
 unfoldable pub use Rattle.query_scan.specs.Visits.{idsVisited, upToFirst}
 pub use Rattle.query_scan.specs.declared.QueryKind.the-variants.{Refine, Match, Page}
 pub use Rattle.query_scan.specs.declared.Scan.{Scan}

@@ -1,8 +1,14 @@
 -- A scan, place by place: ids and rows by the subset's kind, and what each step keeps. Assumes nothing.
-use Rattle.query_scan.proofs.Prelude.{ℕ, _+_, _-_, _*_, _≤_, _<_, _≡_, refl, sym, ap, ap₂, subst, _∙_, inl, inr, Bool, true, false, and-true, and-false, false≢true, List, [], _∷_, _++_, append-assoc, append-nil, ℕ-discrete, arith, length}
-use Rattle.query_scan.proofs.Prelude.{take, drop, getD, ltb-false, splice, filter, count, all, iota, rising, rowAt, split, filter-append, SubsetHead, RetainBuilder, Subset, range, list, members, size, endOf, subsetOf, NextId, dense-is}
-use Rattle.query_scan.proofs.Prelude.{sparse-is, rising-members, members-below, formed-short, size-range, end-range, getD-range, size-list, members-list, Constraint, isLive, met, meets, Header, Scan, matches, pastRows, deadAmong, visited}
-use Rattle.query_scan.proofs.Prelude.{RowInStore, upTo, places, scannedIds, CanStart, ScanInvariant, Keeps, CanMove, Moves, CanStep, ScanSteps, Finished, CanWrite, Writes, Queryable}
+use Rattle.query_scan.proofs.Prelude.{ℕ, _+_, _-_, _*_, _≤_, _<_, _≡_, refl, sym, ap, ap₂, subst, _∙_, inl, inr, Bool, true, false, and-true, and-false, false≢true, List, [], _∷_, _++_, append-assoc, append-nil, ℕ-discrete, arith, length, take, drop, getD, ltb-false, splice, filter, count}
+use Rattle.query_scan.proofs.Prelude.{all, iota, rising, rowAt, split, filter-append, Constraint, isLive, met, meets, Header, Scan, matches, pastRows, deadAmong, visited, RowInStore, upTo, places, scannedIds, CanStart, ScanInvariant, Keeps, CanMove, Moves, CanStep, ScanSteps, Finished}
+use Rattle.query_scan.proofs.Prelude.{CanWrite, Writes, Queryable}
+use Rattle.offsets.specs.declared.SubsetHead.{SubsetHead}
+use Rattle.offsets_retain.specs.declared.RetainBuilder.{RetainBuilder}
+use Rattle.offsets.specs.Subsets.{Subset, range, list, members, size, endOf}
+use Rattle.offsets.specs.Answers.{subsetOf}
+use Rattle.offsets_retain.specs.inner.RetainBuilder.{NextId}
+use Rattle.offsets.specs.Laws.Subsets.{dense-is, sparse-is, rising-members, members-below, formed-short}
+use Rattle.offsets.specs.Laws.Forms.{size-range, end-range, getD-range, size-list, members-list}
 use Rattle.lists.specs.Laws.Parts.{part-width}
 use Rattle.lists.specs.Laws.Rising.{rising-filter, rising-take, rising-drop}
 use Rattle.lists.specs.Laws.Rows.{row-in}
@@ -306,11 +312,7 @@ module _ (h : Header) (rows : List ℕ) (subset : Subset) (test : ℕ → Bool) 
               ]
 
       pub stepped : ScanInvariant h rows subset test s₀ output₀ s′ output′
-      stepped =
-          elim (split hit) [
-            | inl f ↦ stepped-hit f
-            | inr f ↦ stepped-miss f
-          ]
+      stepped = elim (split hit) [ inl f ↦ stepped-hit f | inr f ↦ stepped-miss f ]
 
   -- the end
   pub finished : s .end ≤ s .next → Finished h rows subset test s₀ output₀ s output

@@ -1,6 +1,8 @@
 -- The ids that a scan visits. Assumes nothing.
-use Rattle.query_scan.proofs.Prelude.{ℕ, zero, suc, _+_, _-_, _≤_, _<_, min, _≡_, refl, sym, ap, _∙_, inl, inr, Bool, true, false, not, List, [], _∷_, _++_, decLt, arith, eqb, length, take, drop, getD, length-take, length-drop, filter, any}
-use Rattle.query_scan.proofs.Prelude.{split, length-filter, count-le, count-append, Subset, members, size, length-members, Header, deadAmong, visited, upToFirst, upTo}
+use Rattle.query_scan.proofs.Prelude.{ℕ, zero, suc, _+_, _-_, _≤_, _<_, min, _≡_, refl, sym, ap, _∙_, inl, inr, Bool, true, false, not, List, [], _∷_, _++_, decLt, arith, eqb, length, take, drop, getD, length-take, length-drop, filter, any, split, length-filter, count-le, count-append}
+use Rattle.query_scan.proofs.Prelude.{Header, deadAmong, visited, upToFirst, upTo}
+use Rattle.offsets.specs.Subsets.{Subset, members, size}
+use Rattle.offsets.specs.Laws.Subsets.{length-members}
 use native.Mathlib.Numerals.{add-one}
 use lib.Seq.{getD-drop, take-suc, take-all, drop-cons}
 
@@ -41,11 +43,7 @@ module _ (test : ℕ → Bool) where
   pub first-decides : (ids : List ℕ) → not (eqb (length (filter test (upToFirst test ids))) 0) ≡ any test ids
   unfolding any filter upToFirst
   first-decides [] = refl
-  first-decides (x ∷ xs) =
-      elim (split (test x)) [
-        | inl e ↦ rw e
-        | inr e ↦ rw e (first-decides xs)
-      ]
+  first-decides (x ∷ xs) = elim (split (test x)) [ inl e ↦ rw e | inr e ↦ rw e (first-decides xs) ]
 
 -- ---- ids from a place on
 

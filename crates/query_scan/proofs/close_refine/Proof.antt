@@ -4,9 +4,6 @@ use Rattle.query_scan.proofs.AnswerSteps.{closed-refused, closed-whole,
 use Rattle.query_scan.proofs.close_refine.Statement.{statement}
 use Rattle.query_scan.proofs.close_refine.Tie as tie
 
-returns-3 : tie.Need-returns-3
-returns-3 c = closed-list _ _ _ _ _ (c .before .before .before .before .before .before .if1 .left) (sym (c .before .before .before .before .before .is-whole .ensures) ∙ c .before .before .before .before .if2 .left) (c .before .before .write-found .ensures)
-
 pub close-refine-spec : {M : Type 1} → statement M
 close-refine-spec =
     tie.close
@@ -15,4 +12,5 @@ close-refine-spec =
     (λ c κs. c .before .before .before .pre (c .if1 .left) .order)
     (λ c. closed-whole _ _ _ (c .before .before .if1 .left) (sym (c .before .is-whole .ensures) ∙ c .if2 .taken))
     (λ c κs. c .before .before .before .before .before .before .pre (c .before .before .before .if1 .left) .can-write)
-    (λ c. search needs) returns-3)
+    (λ c. search needs)
+    (λ c. closed-list _ _ _ _ _ (c .before .before .before .before .before .before .if1 .left) (sym (c .before .before .before .before .before .is-whole .ensures) ∙ c .before .before .before .before .if2 .left) (c .before .before .write-found .ensures)))

@@ -5,12 +5,6 @@ use Rattle.query_scan.proofs.AnswerSteps.{page-stopped, page-opened}
 use Rattle.query_scan.proofs.open_page.Statement.{statement}
 use Rattle.query_scan.proofs.open_page.Tie as tie
 
-add-at-place : tie.Need-add-at-place
-add-at-place c = let r = c .before .before .before .page-refusal .ensures in omega (arith, c .smaller .ensures, c .before .size .ensures, size-few _ _ _ (r .queryable (c .before .before .if1 .left)), r .within (c .before .before .if1 .left))
-
-returns-2 : tie.Need-returns-2
-returns-2 c = page-opened _ _ _ _ _ _ _ _ _ (c .before .before .before .before .page-refusal .ensures) (c .before .before .before .if1 .left) (rw (c .before .smaller .ensures, c .before .before .size .ensures) at (c .at-place2 .ensures))
-
 pub open-page-spec : {M : Type 1} → statement M
 open-page-spec =
     tie.close
@@ -21,6 +15,6 @@ open-page-spec =
     (λ c. omega (arith, c .size .ensures, c .before .before .page-refusal .ensures .within (c .before .if1 .left)))
     (λ c κs. search needs)
     (λ c. omega (arith, c .smaller .ensures, c .before .size .ensures, size-few _ _ _ (c .before .before .before .page-refusal .ensures .queryable (c .before .before .if1 .left))))
-    add-at-place
+    (λ c. let r = c .before .before .before .page-refusal .ensures in omega (arith, c .smaller .ensures, c .before .size .ensures, size-few _ _ _ (r .queryable (c .before .before .if1 .left)), r .within (c .before .before .if1 .left)))
     (λ c κs. omega (arith, c .smaller .ensures, c .before .size .ensures, c .before .before .before .page-refusal .ensures .within (c .before .before .if1 .left)))
-    returns-2)
+    (λ c. page-opened _ _ _ _ _ _ _ _ _ (c .before .before .before .before .page-refusal .ensures) (c .before .before .before .if1 .left) (rw (c .before .smaller .ensures, c .before .before .size .ensures) at (c .at-place2 .ensures))))

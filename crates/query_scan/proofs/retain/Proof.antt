@@ -1,5 +1,6 @@
 -- `query_scan::retain` meets its contract. Assumes nothing.
-use Rattle.query_scan.proofs.Prelude.{_-_, [], _∷_, subsetOf, matches, ScanInvariant}
+use Rattle.query_scan.proofs.Prelude.{_-_, [], _∷_, matches, ScanInvariant}
+use Rattle.offsets.specs.Answers.{subsetOf}
 use Rattle.query_scan.proofs.ScanSteps.{scanned-begin, next-in-store, can-step, steps-less, stepped, finished}
 use Rattle.query_scan.proofs.retain.Statement.{statement}
 use Rattle.query_scan.proofs.retain.Tie as tie
@@ -10,17 +11,11 @@ Inv-loop h rows head ids c out₀ at₀ out at = ScanInvariant h rows (subsetOf 
 abbrev μ-loop : tie.MeasureT-loop
 μ-loop h rows head ids c out₀ at₀ out at = at .end - at .next
 
-is-match-requires : tie.Need-is-match-requires Inv-loop μ-loop
-is-match-requires c κs = next-in-store _ (c .before .before .before .before .before .before .args .rows .now) _ _ _ _ (c .before .before .before .before .before .before .pre) _ _ (c .before .before .loop .inv) (c .if1 .taken)
-
 step-requires : tie.Need-step-requires Inv-loop μ-loop
 step-requires c κs = can-step _ (c .before .before .before .before .before .before .before .before .args .rows .now) _ _ _ _ (c .before .before .before .before .before .before .before .before .pre) _ _ (c .before .before .before .before .loop .inv) (c .before .before .if1 .taken) _ (c .before .is-match .ensures)
 
 loop-again : tie.Need-loop-again Inv-loop μ-loop
 loop-again c = stepped _ (c .before .before .before .before .before .before .before .before .before .before .before .args .rows .now) _ _ _ _ (c .before .before .before .before .before .before .before .before .before .before .before .pre) _ _ (c .before .before .before .before .before .before .before .loop .inv) (c .before .before .before .before .before .if1 .taken) _ (c .before .before .before .before .is-match .ensures) _ _ (c .before .before .step .ensures)
-
-returns : tie.Need-returns Inv-loop μ-loop
-returns c = finished _ (c .before .before .before .before .before .before .args .rows .now) _ _ _ _ (c .before .before .before .before .before .before .pre) _ _ (c .before .before .loop .inv) (c .if1 .left)
 
 pub retain-spec : {M : Type 1} → statement M
 retain-spec =
@@ -28,8 +23,9 @@ retain-spec =
     (tie.spec
     Inv-loop μ-loop
     (λ c. scanned-begin _ _ _ _ _ _ (c .before .before .before .pre))
-    is-match-requires step-requires
+    (λ c κs. next-in-store _ (c .before .before .before .before .before .before .args .rows .now) _ _ _ _ (c .before .before .before .before .before .before .pre) _ _ (c .before .before .loop .inv) (c .if1 .taken))
+    step-requires
     (λ c. steps-less _ _ _ _ _ _ _ _ (c .before .before .before .before .before .if1 .taken) (c .before .before .step .ensures))
     loop-again
     (λ c. c .before .before .loop .inv .grows .same)
-    returns)
+    (λ c. finished _ (c .before .before .before .before .before .before .args .rows .now) _ _ _ _ (c .before .before .before .before .before .before .pre) _ _ (c .before .before .loop .inv) (c .if1 .left)))
