@@ -19,10 +19,7 @@ module _ (start : Bool) (test : Constraint → Bool) (cs : List Constraint) wher
 
   pub passed-none : start ≡ passed 0
   unfolding all
-  passed-none = elim (split start) [
-    | inl e ↦ rw e
-    | inr e ↦ rw e
-  ]
+  passed-none = elim (split start) [ inl e ↦ rw e | inr e ↦ rw e ]
 
   -- where they do, the first i + 1 do if the next does
   pub passed-next : (i : ℕ) → i < length cs → passed i ≡ true → test (getD cs i none) ≡ passed (i + 1)

@@ -47,8 +47,6 @@ pub use Rattle.query_scan.specs.inner.Scanning.{RowNeeded, RowInStore, ScanStar
 unfoldable pub use Rattle.query_scan.specs.inner.Scanning.{allPass, starts, passes}
 pub use types.SemTy.{cells, Arr}
 pub use denote.Lend.{Held, lends-slice, slice-back, lends-shr-slice}
-pub use Rattle.offsets.specs.declared.SubsetHead.{SubsetHead}
-pub use Rattle.offsets.specs.Answers.{subsetOf}
 pub use denote.Array.{Array, array-vals, array-tells, array-lawful, array-makes}
 pub use borrow.Author.Tests.{ltb-false, ltb-true, le-ltb, lt-ltb}
 pub use Rattle.lists.specs.Laws.Filter.{and-left, and-right}
