@@ -11,9 +11,7 @@ use Rattle.query_scan.proofs.Scan as ST
 use Rattle.query_scan.proofs.QueryKind as QT
 use Rattle.query_loop.proofs.Lent.{Lent, OwnConditions, OwnOut, Owns, Ranged, Rooms, fits, head-val, header-val, headers, heads, lent-of, lifetimes, out-at, query-kinds, shares, slice-val, slices-off, slices-on, subset, scan-val, scans, tokens-off, tokens-on}
 use Rattle.query_loop.proofs.Walking.{AllPassed, Callee, Cites, Tokens, Walked, arg, by-value, calls, lent-slice, own, stays, typed, walk-runs}
-use Rattle.query_loop.proofs.scan.Symbol as scan-def
-use Rattle.query_loop.proofs.scan.Symbol.{name as #query-loop·scan}
-use Rattle.query_loop.proofs.scan.Met as scan-thm
+use Rattle.query_loop.proofs.scan as scan
 use Rattle.query_scan.proofs.close_match as cls
 use Rattle.query.proofs.ScanCall.{CitesScan, calls-scan}
 use Rattle.query.proofs.contains_match as f
@@ -75,5 +73,5 @@ unfolding f.Code.routine tablesOf
 contains-match-spec 𝓤 H 𝓜 𝓖 𝓡 =
     walk-runs f.ended params 𝓤 H 𝓜 𝓖 𝓡 (f.clauses 𝓤 H (𝓖 .A) (𝓜 .mem) (𝓡 .run)) f.Code.env f.Key.name f.Code.function (f.Code.unfolded 𝓤 H 𝓜 𝓡) (λ κs qs bounds a g are. via 𝓤 _ (fst∗ 𝓤 _ (emp 𝓤))
     (walk 𝓤 H (𝓖 .A) (givenOf 𝓤 H 𝓜 𝓖) (𝓜 .mem) (𝓡 .run) (lent-of κs qs a (a .1 .1 .1 .1 .0)) (are .0, are .1 .1 .0) (are .1 .0 .0 .1, (are .1 .1 .1 .0 .0 .1, are .1 .1 .1 .1 .0 .0 .1)) (tablesOf 𝓤 H 𝓜 (tables 𝓤 H 𝓜 𝓡 f.Code.env))
-    (cited 𝓤 H _ 𝓜 𝓡 f.Code.env #query-loop·scan scan-def.routine f.Code.calls-query-loop·scan (scan-thm.met 𝓤 H 𝓜 𝓖 𝓡))
+    (cited 𝓤 H _ 𝓜 𝓡 f.Code.env scan.Symbol.name scan.Symbol.routine f.Code.calls-query-loop·scan (scan.Met.met 𝓤 H 𝓜 𝓖 𝓡))
     (cited 𝓤 H _ 𝓜 𝓡 f.Code.env cls.Symbol.name cls.Symbol.routine f.Code.calls-query-scan·close-match (cls.Met.met 𝓤 H 𝓜 𝓖 𝓡))))

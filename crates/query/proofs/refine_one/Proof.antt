@@ -4,19 +4,10 @@ use borrow.Author.Needs.{needs}
 use Rattle.query.proofs.refine_one.Statement.{statement}
 use Rattle.query.proofs.refine_one.Tie as tie
 
-returns : tie.Need-returns
-returns c = one-refused _ _ _ _ _ _ _ (c .before .before .before .before .scan-one .ensures) (c .if1 .taken)
-
-finish-retain-requires : tie.Need-finish-retain-requires
-finish-retain-requires c κs e = (kept-all _ _ _ _ _ _ _ (c .before .before .before .before .before .scan-one .ensures) (c .before .if1 .left)) .as-range e .fits
-
 returns-2 : tie.Need-returns-2
 returns-2 c =
     one-answered _ _ _ _ _ _ _ (c .before .before .before .before .before .before .scan-one .ensures) _ _ (c .before .before .if1 .left)
     (retained-range _ _ _ _ _ _ _ (c .before .if2 .taken) (kept-all _ _ _ _ _ _ _ (c .before .before .before .before .before .before .scan-one .ensures) (c .before .before .if1 .left)) (c .finish-retain .ensures))
-
-write-found-requires : tie.Need-write-found-requires
-write-found-requires c κs = can-write _ _ _ _ _ _ _ (c .before .before .before .before .before .before .scan-one .ensures) (c .before .before .if1 .left)
 
 returns-3 : tie.Need-returns-3
 returns-3 c =
@@ -27,5 +18,9 @@ pub refine-one-spec : {M : Type 1} → statement M
 refine-one-spec =
     tie.close
     (tie.spec
-    (λ c κs. search needs) (λ c. search needs) returns finish-retain-requires (λ c. search needs) returns-2
-    write-found-requires (λ c. search needs) returns-3)
+    (λ c κs. search needs) (λ c. search needs)
+    (λ c. one-refused _ _ _ _ _ _ _ (c .before .before .before .before .scan-one .ensures) (c .if1 .taken))
+    (λ c κs e. (kept-all _ _ _ _ _ _ _ (c .before .before .before .before .before .scan-one .ensures) (c .before .if1 .left)) .as-range e .fits)
+    (λ c. search needs) returns-2
+    (λ c κs. can-write _ _ _ _ _ _ _ (c .before .before .before .before .before .before .scan-one .ensures) (c .before .before .if1 .left))
+    (λ c. search needs) returns-3)
