@@ -49,8 +49,7 @@ module _ {M : Type 1} {𝓤 : URA M} {H : Heap 𝓤} {A : Atoms 𝓤} {K : Type 
 
   pub tokens-in : K → (n : ℕ) (κs : Lfts n) (qs : Shares n) {Γ : List (Item 𝓤)} → Step K W (raw (toks 𝓤 A n κs qs) ∷ Γ) G (Spread n κs qs Γ) G
   tokens-in t zero κs qs = step (λ s. use0 W (raw (toks 𝓤 A 0 κs qs)) (id⊢ 𝓤 _) $ s)
-  tokens-in t (suc n) κs qs =
-      step (λ s. tokens-in t n (κs .1) (qs .1) $ move t (1 ∷ []) $ join t $ use1 W (raw (toks 𝓤 A (suc n) κs qs)) (id⊢ 𝓤 _) $ s)
+  tokens-in t (suc n) κs qs = step (λ s. tokens-in t n (κs .1) (qs .1) $ move t (1 ∷ []) $ join t $ use1 W (raw (toks 𝓤 A (suc n) κs qs)) (id⊢ 𝓤 _) $ s)
 
   pub owns-out : K → (Ps : List Fml) {Γ : List (Item 𝓤)} → Step K W (SpreadOwns Ps Γ) G (‵ (Owns Ps) ∷ Γ) G
   owns-out t [] = step (λ s. drop t $ s)
