@@ -1,8 +1,9 @@
 -- Steps that the manual proofs of this crate share: a header and a subset are decoded, and the stored answer meets the contract.
 -- Assumes nothing.
-use Rattle.query_borrowed.proofs.Prelude.{ℕ, zero, _≡_, refl, sym, ap, subst, Option, just, List, [], _∷_, URA, fullShare, T, Sym, named, w32, Ty, tyStruct, Tys, place, field, Operand, copy, aggregate, Body, seq, assign, call, Val, Vals, vstruct, ofList, WT, hasTy, getV, SProp, id⊢, Lft, Share, Fml}
-use Rattle.query_borrowed.proofs.Prelude.{fsep, flft, feq, Memory, fieldOf, fieldAt, Routine, Heap, Calls, Loops, spotOf, Atoms, Fun, FmC, Given, Item, ‵, Post, Goal, runs, Seq, Step, step, _$_, move, use1, fjoin, drop, Opd, load, from, stop, fld, and-then, no-more, assigns, Part, look-in, sub, agg, Is}
-use Rattle.query_borrowed.proofs.Prelude.{Typed, uint-makes, bool-makes, u32, bool, Array, RefT, NamedLft, now, ShrRef, ptr-vals, ShrSlice, slice-vals, finally, only, owned, nothing, heard, own-shut, tripleOf, Triple, Constraint, SubsetHead, Header}
+use Rattle.query_borrowed.proofs.Prelude.{ℕ, zero, _≡_, refl, sym, ap, subst, Option, just, List, [], _∷_, URA, fullShare, T, Sym, named, w32, Ty, tyStruct, Tys, place, field, Operand, copy, aggregate, Body, seq, assign, call, Val, Vals, vstruct, ofList, WT, hasTy, getV, SProp, id⊢, Lft, Share}
+use Rattle.query_borrowed.proofs.Prelude.{Fml, fsep, flft, feq, Memory, fieldOf, fieldAt, Routine, Heap, Calls, Loops, spotOf, Atoms, Fun, FmC, Given, Item, ‵, Post, Goal, runs, Seq, Step, step, _$_, move, use1, fjoin, drop, Opd, load, from, stop, fld, and-then, no-more, assigns, Part, look-in}
+use Rattle.query_borrowed.proofs.Prelude.{sub, agg, Is, Typed, uint-makes, bool-makes, u32, bool, Array, RefT, NamedLft, now, ShrRef, ptr-vals, ShrSlice, slice-vals, finally, only, owned, nothing, heard, own-shut, tripleOf, Triple, Constraint, Header}
+use Rattle.offsets.specs.declared.SubsetHead.{SubsetHead}
 use lib.ListN.{length}
 use denote.Struct.Laws as LL
 use Rattle.refusals.specs.Refusals.{Reply}

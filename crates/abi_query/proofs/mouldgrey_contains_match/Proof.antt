@@ -1,6 +1,8 @@
 -- `abi_query::mouldgrey_contains_match` meets its contract: a manual proof over its MIR. Ownership of the answer passes to the
 -- call that stores it. Assumes nothing.
-use Rattle.query_borrowed.proofs.Prelude.{refl, [], _∷_, erased, named, w32, emp, ftrue, fsep, Shares, factI, keep, uint-lawful, NamedLft, now, ptr-vals, slice-vals, heard, SubsetHead, subsetOf, Header, Matched, matchView}
+use Rattle.query_borrowed.proofs.Prelude.{refl, [], _∷_, erased, named, w32, emp, ftrue, fsep, Shares, factI, keep, uint-lawful, NamedLft, now, ptr-vals, slice-vals, heard, Header, Matched, matchView}
+use Rattle.offsets.specs.declared.SubsetHead.{SubsetHead}
+use Rattle.offsets.specs.Answers.{subsetOf}
 use Rattle.constraints.proofs.Constraint as CT
 use Rattle.query_spec.specs.declared.MatchAnswer.{MatchAnswer}
 use Rattle.query_spec.proofs.MatchAnswer as AT

@@ -1,6 +1,8 @@
 -- `abi_query::mouldgrey_read_page` meets its contract: a manual proof over its MIR. Ownership of the output passes to the query,
 -- that of the answer to the call that stores it. Assumes nothing.
-use Rattle.query_borrowed.proofs.Prelude.{refl, List, [], _∷_, ℕ, erased, named, w32, w64, vint, emp, ftrue, fsep, Shares, factI, keep, fjoin, uint-lawful, NamedLft, now, ptr-vals, slice-vals, heard, SubsetHead, subsetOf, Header, PageRead, pageView}
+use Rattle.query_borrowed.proofs.Prelude.{refl, List, [], _∷_, ℕ, erased, named, w32, w64, vint, emp, ftrue, fsep, Shares, factI, keep, fjoin, uint-lawful, NamedLft, now, ptr-vals, slice-vals, heard, Header, PageRead, pageView}
+use Rattle.offsets.specs.declared.SubsetHead.{SubsetHead}
+use Rattle.offsets.specs.Answers.{subsetOf}
 use Rattle.constraints.proofs.Constraint as CT
 use Rattle.query_spec.specs.declared.PageAnswer.{PageAnswer}
 use Rattle.query_spec.proofs.PageAnswer as AT

@@ -1,6 +1,9 @@
 -- `abi_query::mouldgrey_refine_one` meets its contract: a manual proof over its MIR. Ownership of the output passes to the query,
 -- that of the answer to the call that stores it. Assumes nothing.
-use Rattle.query_borrowed.proofs.Prelude.{refl, subst, List, [], _∷_, ℕ, erased, named, w32, emp, ftrue, fsep, Shares, factI, keep, fjoin, uint-lawful, NamedLft, now, ptr-vals, slice-vals, heard, Constraint, SubsetHead, subsetOf, Header, SubsetAnswer, RefinedOne}
+use Rattle.query_borrowed.proofs.Prelude.{refl, subst, List, [], _∷_, ℕ, erased, named, w32, emp, ftrue, fsep, Shares, factI, keep, fjoin, uint-lawful, NamedLft, now, ptr-vals, slice-vals, heard, Constraint, Header, RefinedOne}
+use Rattle.offsets.specs.declared.SubsetHead.{SubsetHead}
+use Rattle.offsets.specs.Answers.{subsetOf}
+use Rattle.offsets.specs.declared.SubsetAnswer.{SubsetAnswer}
 use Rattle.offsets.proofs.SubsetAnswer as AT
 use Rattle.query_borrowed.proofs.SubsetRef.Laws as DT′
 use Rattle.query_borrowed.proofs.Locals.{enters, cell, copies, lends, leaves}

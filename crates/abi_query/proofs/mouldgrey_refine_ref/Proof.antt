@@ -1,6 +1,9 @@
 -- `abi_query::mouldgrey_refine_ref` meets its contract: a manual proof over its MIR. Ownership of the output passes to the query,
 -- that of the answer to the call that stores it. Assumes nothing.
-use Rattle.query_borrowed.proofs.Prelude.{refl, List, [], _∷_, ℕ, erased, named, w32, emp, ftrue, fsep, Shares, factI, keep, fjoin, uint-lawful, NamedLft, now, ptr-vals, slice-vals, heard, SubsetHead, subsetOf, Header, SubsetAnswer, RefinedList}
+use Rattle.query_borrowed.proofs.Prelude.{refl, List, [], _∷_, ℕ, erased, named, w32, emp, ftrue, fsep, Shares, factI, keep, fjoin, uint-lawful, NamedLft, now, ptr-vals, slice-vals, heard, Header, RefinedList}
+use Rattle.offsets.specs.declared.SubsetHead.{SubsetHead}
+use Rattle.offsets.specs.Answers.{subsetOf}
+use Rattle.offsets.specs.declared.SubsetAnswer.{SubsetAnswer}
 use Rattle.constraints.proofs.Constraint as CT
 use Rattle.offsets.proofs.SubsetAnswer as AT
 use Rattle.query_borrowed.proofs.SubsetRef.Laws as DT′
