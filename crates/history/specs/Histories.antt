@@ -15,14 +15,16 @@ use Rattle.table.specs.Numbers.{tableView, mergeView}
 use Rattle.refresh_spec.specs.declared.RefreshAnswer.{RefreshAnswer}
 use Rattle.refresh_spec.specs.Index.{IndexSound}
 use Rattle.refresh_spec.specs.Refreshes.{refreshView, recordsFound, recordsStaged, headerRefreshed, Refreshing}
-use Rattle.table.specs.Contracts.{Stores, stores, Body, body, bodyOf, joined, CompactionWords, compactionWords, lengthsLent, headerAfter, headerMerged, Opened, Staging, Merging, Compacting, Clearing}
+use Rattle.table.specs.Contracts.{Stores, stores, Body, body, bodyOf, joined, CompactionWords, headerAfter, headerMerged, Opened, Staging, Merging, Compacting, Clearing}
 
--- a call that is lent these stores and compaction words
-abbrev pub lentCall : Call → Stores → CompactionWords → LentCall
-lentCall c s w = record { call = c; lengths = lengthsLent s w }
-
-abbrev pub noWords : CompactionWords
-noWords = compactionWords [] []
+-- A call that is lent these stores, and so many compaction words of either kind. If it is lent none, its checks do not read these
+-- two numbers, and they may be any.
+abbrev pub lentCall : Call → Stores → ℕ → ℕ → LentCall
+lentCall c s live base =
+    record {
+      call = c;
+      lengths = record { rows = length (s .rows); keys = length (s .keys); sorts = length (s .sorts); pending = length (s .pending); liveWords = live; baseWords = base };
+    }
 
 -- the stores after a refresh
 abbrev pub refreshedStores : Stores → RefreshAnswer → List ℕ → Stores
@@ -31,22 +33,22 @@ refreshedStores s answer pending′ = joined (headerRefreshed (s .header) (refre
 -- One call, by the contract of its entry point: the lent stores before and after it, and their lengths. A store that it is not lent
 -- is unchanged.
 pub data Called (s : Stores) : LentCall → Stores → Type 0 where
-  stages : (r : Staged) (answer : TableAnswer) (pending′ : List ℕ) → Staging (s .header) (s .pending) r answer pending′
-      → Called s (lentCall (staging r) s noWords) (joined (headerAfter (s .header) (tableView answer)) (bodyOf s) pending′)
+  stages : {live base : ℕ} (r : Staged) (answer : TableAnswer) (pending′ : List ℕ) → Staging (s .header) (s .pending) r answer pending′
+      → Called s (lentCall (staging r) s live base) (joined (headerAfter (s .header) (tableView answer)) (bodyOf s) pending′)
   merges : (w : CompactionWords) (answer : MergeAnswer) (b′ : Body) (w′ : CompactionWords) → Merging s w answer b′ w′
-      → Called s (lentCall merging s w) (joined (headerMerged (s .header) (mergeView answer)) b′ (s .pending))
+      → Called s (lentCall merging s (length (w .live)) (length (w .base))) (joined (headerMerged (s .header) (mergeView answer)) b′ (s .pending))
   compacts : (w : CompactionWords) (answer : TableAnswer) (b′ : Body) (w′ : CompactionWords) → Compacting (s .header) (bodyOf s) w answer b′ w′
-      → Called s (lentCall compacting s w) (joined (headerAfter (s .header) (tableView answer)) b′ (s .pending))
-  clears : (answer : TableAnswer) (keys′ : List ℕ) → Clearing (s .header) (s .keys) answer keys′
-      → Called s (lentCall clearing s noWords) (joined (headerAfter (s .header) (tableView answer)) (body (s .rows) keys′ (s .sorts)) (s .pending))
+      → Called s (lentCall compacting s (length (w .live)) (length (w .base))) (joined (headerAfter (s .header) (tableView answer)) b′ (s .pending))
+  clears : {live base : ℕ} (answer : TableAnswer) (keys′ : List ℕ) → Clearing (s .header) (s .keys) answer keys′
+      → Called s (lentCall clearing s live base) (joined (headerAfter (s .header) (tableView answer)) (body (s .rows) keys′ (s .sorts)) (s .pending))
   -- over a sound index store "the plain table stages these records of its own rows"
-  refreshes : (r : Refresh) (index : List ℕ) (answer : RefreshAnswer) (pending′ index′ : List ℕ) → Refreshing (s .header) (s .rows) (s .pending) index r answer pending′ index′
+  refreshes : {live base : ℕ} (r : Refresh) (index : List ℕ) (answer : RefreshAnswer) (pending′ index′ : List ℕ) → Refreshing (s .header) (s .rows) (s .pending) index r answer pending′ index′
       → IndexSound (s .header) (s .rows) (r .columns) index
-      → Called s (lentCall (refreshing r (length index)) s noWords) (refreshedStores s answer pending′)
+      → Called s (lentCall (refreshing r (length index)) s live base) (refreshedStores s answer pending′)
   -- "Over such an unsound index store, and nowhere else, it is fed the records that the call staged"
-  refreshes-unsound : (r : Refresh) (index : List ℕ) (answer : RefreshAnswer) (pending′ index′ : List ℕ) (m : Refreshing (s .header) (s .rows) (s .pending) index r answer pending′ index′)
+  refreshes-unsound : {live base : ℕ} (r : Refresh) (index : List ℕ) (answer : RefreshAnswer) (pending′ index′ : List ℕ) (m : Refreshing (s .header) (s .rows) (s .pending) index r answer pending′ index′)
       → (IndexSound (s .header) (s .rows) (r .columns) index → ⊥)
-      → Called s (lentCall (feeding (recordsStaged (refreshView answer) (recordsFound (s .header) (s .rows) r (m .found)))) s noWords) (refreshedStores s answer pending′)
+      → Called s (lentCall (feeding (recordsStaged (refreshView answer) (recordsFound (s .header) (s .rows) r (m .found)))) s live base) (refreshedStores s answer pending′)
 
 -- stores with more cells behind each
 abbrev pub behind : Stores → Body → List ℕ → Stores

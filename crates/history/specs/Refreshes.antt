@@ -17,11 +17,11 @@ use Rattle.table.specs.Contracts.{Stores, Body}
 use Rattle.refresh_spec.specs.declared.RefreshAnswer.{RefreshAnswer}
 use Rattle.refresh_spec.specs.Index.{isNew, lookedUp, IndexSound, Current}
 use Rattle.refresh_spec.specs.Refreshes.{refreshView, answered, Refreshing}
-use Rattle.history.specs.Histories.{lentCall, noWords, refreshedStores, behind, Step, History}
+use Rattle.history.specs.Histories.{lentCall, refreshedStores, behind, Step, History}
 
 -- a refresh on a plain table, lent these stores
 abbrev pub ownRefresh : Stores → List ℕ → Refresh → LentCall
-ownRefresh t lent r = lentCall (refreshing r (length lent)) t noWords
+ownRefresh t lent r = lentCall (refreshing r (length lent)) t 0 0
 
 -- A history, the stores after it, and an index store that was new when the table took it. Other calls leave the index store
 -- unchanged, also refreshes over other index stores. A refresh over it may be lent any first part of it, as of the row and pending

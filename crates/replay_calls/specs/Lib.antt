@@ -1,4 +1,3 @@
-pub mod Lending
 pub mod Requests
 pub mod Encoding
 pub mod inner

@@ -3,17 +3,16 @@
 use Prim.Native.Nat.{ℕ, _+_, _*_}
 use mathlib.Core.Path.{_≡_}
 use mathlib.Core.Bool.{Bool, true, false}
-use mathlib.Core.List.{List, [], _∷_}
+use mathlib.Core.List.{List, [], _∷_, map}
 use lib.ListN.{length, drop}
 use Rattle.plain_table.specs.Refusing.{Lengths}
 use Rattle.plain_table.specs.Refreshing.{Refresh}
-use Rattle.plain_table.specs.Calls.{Call, refreshing, feeding}
+use Rattle.plain_table.specs.Calls.{Call, refreshing, feeding, LentCall}
 use Rattle.table.specs.Contracts.{Stores}
 use Rattle.refresh_spec.specs.declared.RefreshAnswer.{RefreshAnswer}
 use Rattle.refresh_spec.specs.Index.{IndexSound}
 use Rattle.refresh_spec.specs.Refreshes.{refreshView, recordsFound, recordsStaged, Refreshing}
 use Rattle.history.specs.Histories.{refreshedStores, Called}
-use Rattle.replay_calls.specs.Lending.{lentTo}
 
 -- A refresh is a request of its own: which call of the plain table it corresponds to depends on the index store.
 pub data Request : Type 0 where
@@ -24,14 +23,16 @@ unfoldable pub isRefresh : Request → Bool
 isRefresh (make c) = false
 isRefresh (refresh r) = true
 
--- the call that a request corresponds to with a sound index store of this length
-unfoldable pub requested : ℕ → Request → Call
-requested index (make c) = c
-requested index (refresh r) = refreshing r index
-
 -- "16 words plus 3 for each row of the capacity and named column", of at most eight columns: words past these are never written
 abbrev pub IndexPast : ℕ → List ℕ → List ℕ → Type 0
 IndexPast capacity index index′ = drop (16 + 24 * capacity) index′ ≡ drop (16 + 24 * capacity) index
+
+-- calls that are lent the whole stores
+abbrev pub lentTo : Lengths → Call → LentCall
+lentTo l c = record { call = c; lengths = l }
+
+abbrev pub lentAll : Lengths → List Call → List LentCall
+lentAll l calls = map (lentTo l) calls
 
 -- one request, its call of the history, and its result: stores of these lengths, and the index store
 pub data Served (l : Lengths) (s : Stores) (index : List ℕ) : Request → Call → Stores → List ℕ → Type 0 where

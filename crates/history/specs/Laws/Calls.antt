@@ -20,7 +20,7 @@ use Rattle.table.specs.declared.TableAnswer.{TableAnswer}
 use Rattle.table.specs.declared.MergeAnswer.{MergeAnswer}
 use Rattle.table.specs.Numbers.{tableView, mergeView}
 use Rattle.table.specs.Refusing.{stageRefusal, mergeRefusal, compactRefusal, clearRefusal}
-use Rattle.table.specs.Contracts.{Stores, Represents, headerAfter, headerMerged, Staging, Merging, Compacting, Clearing, Body, body, bodyOf, joined, CompactionWords, compactionWords, lengthsLent}
+use Rattle.table.specs.Contracts.{Stores, Represents, headerAfter, headerMerged, Staging, Merging, Compacting, Clearing, Body, body, bodyOf, joined, CompactionWords, lengthsLent}
 use Rattle.table.specs.Laws.Checks.{stage-checks, merge-checks, compact-checks, clear-checks}
 use Rattle.table.specs.Laws.Staging.{stage-accepted}
 use Rattle.table.specs.Laws.Refusals.{merge-accepted, compact-accepted, clear-accepted}
@@ -30,7 +30,7 @@ use Rattle.refresh_spec.specs.declared.RefreshAnswer.{RefreshAnswer}
 use Rattle.refresh_spec.specs.Index.{IndexSound}
 use Rattle.refresh_spec.specs.Refreshes.{refreshView, recordsStaged, headerRefreshed, Refreshing}
 use Rattle.refresh_spec.specs.Laws.Keeps.{refresh-checks, records-all, records-whole, number, found-records, passed, refreshing-done, refreshing-refused, fed-accepted, fed-refused}
-use Rattle.history.specs.Histories.{Called, stages, merges, compacts, clears, refreshes, refreshes-unsound, behind, Step, called, Steps, end, next, History}
+use Rattle.history.specs.Histories.{lentCall, Called, stages, merges, compacts, clears, refreshes, refreshes-unsound, behind, Step, called, Steps, end, next, History}
 
 -- ---- the calls
 
@@ -47,11 +47,11 @@ module _ {p : Plain} (s : Stores) (rest : Body) (more : List ℕ) (r : Represent
   stays : (l : Lengths) (c : Call) (t : Stores) → 0 < refusal p l c → t ≡ s → Represents (after p l c) (behind t rest more)
   stays l c t h e = rw (refused-nothing p l c h) (unchanged t e)
 
-  staged-represents : (q : Staged) (answer : TableAnswer) (pending′ : List ℕ) → Staging (s .header) (s .pending) q answer pending′
-      → Represents (after p (lengthsLent s (compactionWords [] [])) (staging q)) (behind (joined (headerAfter (s .header) (tableView answer)) (bodyOf s) pending′) rest more)
+  staged-represents : (live base : ℕ) (q : Staged) (answer : TableAnswer) (pending′ : List ℕ) → Staging (s .header) (s .pending) q answer pending′
+      → Represents (after p (lentCall (staging q) s live base .lengths) (staging q)) (behind (joined (headerAfter (s .header) (tableView answer)) (bodyOf s) pending′) rest more)
   unfolding done
-  staged-represents q answer pending′ m =
-      let l = lengthsLent s (compactionWords [] []) in
+  staged-represents live base q answer pending′ m =
+      let l = lentCall (staging q) s live base .lengths in
       let n : ℕ = stageRefusal (s .header) (length (s .pending)) q in
       let same : n ≡ refusal p l (staging q) = stage-checks r l q in
       elim (some-number n) [
@@ -91,11 +91,11 @@ module _ {p : Plain} (s : Stores) (rest : Body) (more : List ℕ) (r : Represent
         | inr h ↦ stays l compacting _ (rw same at h) (compacting-refused m h)
       ]
 
-  cleared-represents : (answer : TableAnswer) (keys′ : List ℕ) → Clearing (s .header) (s .keys) answer keys′
-      → Represents (after p (lengthsLent s (compactionWords [] [])) clearing) (behind (joined (headerAfter (s .header) (tableView answer)) (body (s .rows) keys′ (s .sorts)) (s .pending)) rest more)
+  cleared-represents : (live base : ℕ) (answer : TableAnswer) (keys′ : List ℕ) → Clearing (s .header) (s .keys) answer keys′
+      → Represents (after p (lentCall clearing s live base .lengths) clearing) (behind (joined (headerAfter (s .header) (tableView answer)) (body (s .rows) keys′ (s .sorts)) (s .pending)) rest more)
   unfolding done
-  cleared-represents answer keys′ m =
-      let l = lengthsLent s (compactionWords [] []) in
+  cleared-represents live base answer keys′ m =
+      let l = lentCall clearing s live base .lengths in
       let n : ℕ = clearRefusal (s .header) (length (s .keys)) in
       let same : n ≡ refusal p l clearing = clear-checks r l in
       elim (some-number n) [
@@ -120,17 +120,18 @@ module _ {p : Plain} (s : Stores) (rest : Body) (more : List ℕ) (r : Represent
     pub own-records : IndexSound (s .header) (s .rows) (q .columns) index → s .header .capacity * s .header .columns ≤ length (s .rows) → found-records m ≡ recordsOf p q
     own-records sound long = records-all (rows-part (rest .rows) r long) q (m .found) (m .all-found sound)
 
-    pub refresh-same : IndexSound (s .header) (s .rows) (q .columns) index → number m ≡ refusal p (lengthsLent s (compactionWords [] [])) (refreshing q (length index))
-    refresh-same sound = refresh-checks r (lengthsLent s (compactionWords [] [])) (length index) q (found-records m) (own-records sound)
+    pub refresh-same : (live base : ℕ) → IndexSound (s .header) (s .rows) (q .columns) index
+        → number m ≡ refusal p (lentCall (refreshing q (length index)) s live base .lengths) (refreshing q (length index))
+    refresh-same live base sound = refresh-checks r (lentCall (refreshing q (length index)) s live base .lengths) (length index) q (found-records m) (own-records sound)
 
-    refreshed-represents : IndexSound (s .header) (s .rows) (q .columns) index
-        → Represents (after p (lengthsLent s (compactionWords [] [])) (refreshing q (length index))) refreshed-stores
+    refreshed-represents : (live base : ℕ) → IndexSound (s .header) (s .rows) (q .columns) index
+        → Represents (after p (lentCall (refreshing q (length index)) s live base .lengths) (refreshing q (length index))) refreshed-stores
     unfolding done
-    refreshed-represents sound =
-        let l = lengthsLent s (compactionWords [] []) in
+    refreshed-represents live base sound =
+        let l = lentCall (refreshing q (length index)) s live base .lengths in
         elim (some-number (number m)) [
-          | inl e ↦ goes p l (refreshing q (length index)) (sym (refresh-same sound) ∙ e) (rw (own-records sound (passed m e .rows-long)) at (found-represents e))
-          | inr h ↦ stays l (refreshing q (length index)) _ (rw (refresh-same sound) at h) (refreshing-refused m h)
+          | inl e ↦ goes p l (refreshing q (length index)) (sym (refresh-same live base sound) ∙ e) (rw (own-records sound (passed m e .rows-long)) at (found-represents e))
+          | inr h ↦ stays l (refreshing q (length index)) _ (rw (refresh-same live base sound) at h) (refreshing-refused m h)
         ]
 
     -- over an unsound one the plain table is fed these records; none has a wrong width
@@ -152,12 +153,12 @@ module _ {p : Plain} (s : Stores) (rest : Body) (more : List ℕ) (r : Represent
         ])
 
   called-represents : {c : LentCall} {t : Stores} → Called s c t → Represents (after p (c .lengths) (c .call)) (behind t rest more)
-  called-represents (stages q answer pending′ m) = staged-represents q answer pending′ m
+  called-represents (stages {live} {base} q answer pending′ m) = staged-represents live base q answer pending′ m
   called-represents (merges w answer b′ w′ m) = merged-represents w answer b′ w′ m
   called-represents (compacts w answer b′ w′ m) = compacted-represents w answer b′ w′ m
-  called-represents (clears answer keys′ m) = cleared-represents answer keys′ m
-  called-represents (refreshes q index answer pending′ index′ m sound) = refreshed-represents m sound
-  called-represents (refreshes-unsound q index answer pending′ index′ m unsound) = fed-represents m (lengthsLent s (compactionWords [] []))
+  called-represents (clears {live} {base} answer keys′ m) = cleared-represents live base answer keys′ m
+  called-represents (refreshes {live} {base} q index answer pending′ index′ m sound) = refreshed-represents m live base sound
+  called-represents (refreshes-unsound q index answer pending′ index′ m unsound) = fed-represents m _
 
 -- ---- histories
 

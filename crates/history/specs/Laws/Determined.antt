@@ -15,13 +15,13 @@ use Rattle.plain_table.specs.Calls.{Call, staging, merging, compacting, clearin
 use Rattle.table.specs.declared.Header.{Header}
 use Rattle.table.specs.Refusing.{compactRefusal}
 use Rattle.table.specs.Stores.{rowStore, sortStore, recordWords}
-use Rattle.table.specs.Contracts.{Stores, Body, bodyOf, joined, compactionWords, lengthsLent, Represents, mergedStore, MergedTable, CompactedTable}
+use Rattle.table.specs.Contracts.{Stores, Body, bodyOf, joined, lengthsLent, Represents, mergedStore, MergedTable, CompactedTable}
 use Rattle.table.specs.Laws.Checks.{stage-checks, merge-checks, compact-checks}
 use Rattle.table.specs.Laws.Refusals.{merge-accepted, compact-accepted}
 use Rattle.table.specs.Laws.Fronts.{pending-part, body-part}
 use Rattle.refresh_spec.specs.Refreshes.{refreshView, recordsStaged}
 use Rattle.refresh_spec.specs.Laws.Keeps.{found-records, passed, fed-written}
-use Rattle.history.specs.Histories.{Called, stages, merges, compacts, clears, refreshes, refreshes-unsound, behind, Step, called, Steps, end, next}
+use Rattle.history.specs.Histories.{lentCall, Called, stages, merges, compacts, clears, refreshes, refreshes-unsound, behind, Step, called, Steps, end, next}
 use Rattle.history.specs.Laws.Calls.{own-records, refresh-same, fed-right, step-represents}
 
 -- equal in everything but the key store
@@ -85,8 +85,8 @@ module _ (p : Plain) (c : LentCall) (s t : Stores) where
 module _ {p : Plain} (s : Stores) (rest : Body) (more : List ℕ) (r : Represents p (behind s rest more)) where
   called-leaves : {c : LentCall} {t : Stores} → Called s c t → Leaves p c (behind s rest more) (behind t rest more)
   unfolding rowsDone sortsDone pendingDone
-  called-leaves (stages q answer pending′ m) =
-      let l = lengthsLent s (compactionWords [] []) in
+  called-leaves (stages {live} {base} q answer pending′ m) =
+      let l = lentCall (staging q) s live base .lengths in
       let same = stage-checks r l q in
       record {
         rows = front-changed (refusal p l (staging q)) _ (s .rows) (rest .rows) (s .rows) (λ e. refl) (λ e. refl);
@@ -115,27 +115,28 @@ module _ {p : Plain} (s : Stores) (rest : Body) (more : List ℕ) (r : Represent
         sorts = front-changed (refusal p l compacting) _ (s .sorts) (rest .sorts) (b′ .sorts) (λ e. table e .sorts-after) (λ e. ap (λ (b : Body). b .sorts) (m .unchanged (rw same e) .0));
         pending = front-changed (refusal p l compacting) _ (s .pending) more (s .pending) (λ e. refl) (λ e. refl);
       }
-  called-leaves (clears answer keys′ m) =
-      let n : ℕ = refusal p (lengthsLent s (compactionWords [] [])) clearing in
+  called-leaves (clears {live} {base} answer keys′ m) =
+      let n : ℕ = refusal p (lentCall clearing s live base .lengths) clearing in
       record {
         rows = front-changed n _ (s .rows) (rest .rows) (s .rows) (λ e. refl) (λ e. refl);
         sorts = front-changed n _ (s .sorts) (rest .sorts) (s .sorts) (λ e. refl) (λ e. refl);
         pending = front-changed n _ (s .pending) more (s .pending) (λ e. refl) (λ e. refl);
       }
-  called-leaves (refreshes q index answer pending′ index′ m sound) =
-      let n : ℕ = refusal p (lengthsLent s (compactionWords [] [])) (refreshing q (length index)) in
-      let same = refresh-same s rest more r m sound in
+  called-leaves (refreshes {live} {base} q index answer pending′ index′ m sound) =
+      let n : ℕ = refusal p (lentCall (refreshing q (length index)) s live base .lengths) (refreshing q (length index)) in
+      let same = refresh-same s rest more r m live base sound in
       record {
         rows = front-changed n _ (s .rows) (rest .rows) (s .rows) (λ e. refl) (λ e. refl);
         sorts = front-changed n _ (s .sorts) (rest .sorts) (s .sorts) (λ e. refl) (λ e. refl);
         pending = front-changed n _ (s .pending) more pending′ (λ e. rw (own-records s rest more r m sound (passed m (same ∙ e) .rows-long)) at (m .staged (same ∙ e))) (λ e. m .unchanged (rw same e) .0);
       }
-  called-leaves (refreshes-unsound q index answer pending′ index′ m unsound) =
-      let n : ℕ = refusal p (lengthsLent s (compactionWords [] [])) (feeding (recordsStaged (refreshView answer) (found-records m))) in
+  called-leaves (refreshes-unsound {live} {base} q index answer pending′ index′ m unsound) =
+      let c = lentCall (feeding (recordsStaged (refreshView answer) (found-records m))) s live base in
+      let n : ℕ = refusal p (c .lengths) (c .call) in
       record {
         rows = front-changed n _ (s .rows) (rest .rows) (s .rows) (λ e. refl) (λ e. refl);
         sorts = front-changed n _ (s .sorts) (rest .sorts) (s .sorts) (λ e. refl) (λ e. refl);
-        pending = front-changed n _ (s .pending) more pending′ (λ e. fed-written m) (λ e. absurd (omega (arith, fed-right s rest more r m (lengthsLent s (compactionWords [] [])))));
+        pending = front-changed n _ (s .pending) more pending′ (λ e. fed-written m) (λ e. absurd (omega (arith, fed-right s rest more r m (c .lengths))));
       }
 
 -- ---- one after another

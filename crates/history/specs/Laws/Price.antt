@@ -20,13 +20,13 @@ use Rattle.table.specs.declared.TableAnswer.{TableAnswer}
 use Rattle.table.specs.declared.MergeAnswer.{MergeAnswer}
 use Rattle.table.specs.Numbers.{tableView, mergeView}
 use Rattle.table.specs.Refusing.{mergeRefusal, compactRefusal, clearRefusal}
-use Rattle.table.specs.Contracts.{Stores, Represents, mergeOf, Merging, Compacting, Clearing, Body, bodyOf, joined, CompactionWords, compactionWords, lengthsLent}
+use Rattle.table.specs.Contracts.{Stores, Represents, mergeOf, Merging, Compacting, Clearing, Body, bodyOf, joined, CompactionWords, lengthsLent}
 use Rattle.table.specs.Laws.Checks.{merge-checks, compact-checks, clear-checks}
 use Rattle.table.specs.Laws.Refusals.{merge-accepted, compact-accepted, clear-accepted}
 use Rattle.table.specs.Laws.Fronts.{pending-part, keys-part, body-part}
 use Rattle.table.specs.Laws.Opening.{cleared-rows}
 use Rattle.table.specs.Laws.Shown.{rows-counted}
-use Rattle.history.specs.Histories.{Called, stages, merges, compacts, clears, refreshes, refreshes-unsound, behind, called, Steps, end, next}
+use Rattle.history.specs.Histories.{lentCall, Called, stages, merges, compacts, clears, refreshes, refreshes-unsound, behind, called, Steps, end, next}
 use Rattle.history.specs.Price.{Wear, wear, counted, wearOfCall, wearOfSteps, PriceOfCompaction}
 use Rattle.history.specs.Laws.Calls.{step-represents, opened-represents, history-represents}
 
@@ -123,12 +123,12 @@ module _ {p : Plain} (s : Stores) (rest : Body) (more : List ℕ) (r : Represent
         | inr h ↦ rw (counted-refused (tableView answer) n (compacting-wears s) (ruled-refused (tableView answer) n (m .refusal) h)) (refused-balanced p c (rw same at h))
       ]
 
-  cleared-balanced : (answer : TableAnswer) (keys′ : List ℕ) → Clearing (s .header) (s .keys) answer keys′
-      → Balanced p (record { call = clearing; lengths = lengthsLent s (compactionWords [] []) }) (counted (tableView answer) (clearing-wears s))
+  cleared-balanced : {live base : ℕ} (answer : TableAnswer) (keys′ : List ℕ) → Clearing (s .header) (s .keys) answer keys′
+      → Balanced p (lentCall clearing s live base) (counted (tableView answer) (clearing-wears s))
   unfolding done byKind
-  cleared-balanced answer keys′ m =
-      let l = lengthsLent s (compactionWords [] []) in
-      let c : LentCall = record { call = clearing; lengths = l } in
+  cleared-balanced {live} {base} answer keys′ m =
+      let c = lentCall clearing s live base in
+      let l = c .lengths in
       let n : ℕ = clearRefusal (s .header) (length (s .keys)) in
       let same : n ≡ refusal p l clearing = clear-checks r l in
       elim (some-number n) [

@@ -17,13 +17,13 @@ use Rattle.table.specs.declared.Header.{Header}
 use Rattle.table.specs.Numbers.{largestView}
 use Rattle.table.specs.Refusing.{outside, pendingOutside}
 use Rattle.table.specs.Stores.{rowsIn}
-use Rattle.table.specs.Contracts.{body, compactionWords, lengthsLent}
+use Rattle.table.specs.Contracts.{body}
 use Rattle.table.specs.Laws.Opening.{emptyHeader}
 use Rattle.refresh_spec.specs.declared.Refreshed.{Refreshed}
 use Rattle.refresh_spec.specs.declared.RefreshAnswer.the-variants.{Refreshed as RefreshDone}
 use Rattle.refresh_spec.specs.Index.{isNew, generationSeen, rowsSeen, columnsNamed, namedIn, IndexSound, startsAfresh}
 use Rattle.refresh_spec.specs.Refreshes.{refreshView, refreshRefusal, recordsFound, recordsStaged, headerRefreshed, Refreshing}
-use Rattle.history.specs.Histories.{refreshes, refreshes-unsound, called, end, next, History}
+use Rattle.history.specs.Histories.{lentCall, refreshes, refreshes-unsound, called, end, next, History}
 use Rattle.history.specs.Laws.LentLengths.{example, exampleStores, example-opened}
 
 abbrev empty : Header
@@ -80,9 +80,7 @@ unfolding indexShort startsAfresh isNew generationSeen rowsSeen columnsNamed nam
 wrong-unsound sound = let o = sound (omega arith) refl refl in omega (arith, o .seen)
 
 pub both-kinds : History example 0
-    (record { call = refreshing byColumn 28; lengths = lengthsLent exampleStores (compactionWords [] []) }
-    ∷ record { call = feeding []; lengths = lengthsLent exampleStores (compactionWords [] []) }
-    ∷ [])
+    (lentCall (refreshing byColumn 28) exampleStores 0 0 ∷ lentCall (feeding []) exampleStores 0 0 ∷ [])
     exampleStores
 unfolding refreshView headerRefreshed recordsStaged recordsFound refreshed mentioning liveRows liveFrom rowsIn rowsOf filter flatten
 both-kinds =

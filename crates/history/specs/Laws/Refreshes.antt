@@ -153,7 +153,7 @@ module _ (t : Stores) (rest : Body) (pending lent more : List ℕ) (b : Beside (
     -- it has the effect of the plain table's refresh
     module _ {p : Plain} (r : Represents p (behind t rest pending)) where
       refused-same : number m ≡ ownRefusal p t q lent
-      refused-same = refresh-same t rest pending r m (lent-sound (q .columns))
+      refused-same = refresh-same t rest pending r m 0 0 (lent-sound (q .columns))
 
       accepted-same : ownRefusal p t q lent ≡ 0 → number m ≡ 0
       accepted-same e = refused-same ∙ e

@@ -8,13 +8,13 @@ use Rattle.history.specs.Total.{EveryOutcomeIsACall}
 pub every-outcome-is-a-call : EveryOutcomeIsACall
 every-outcome-is-a-call =
     record {
-      staging = λ s r answer pending′ m. (_, stages r answer pending′ m);
+      staging = λ s r answer pending′ m. (_, stages {live = 0} {base = 0} r answer pending′ m);
       merge = λ s w answer b′ w′ m. (_, merges w answer b′ w′ m);
       compact = λ s w answer b′ w′ m. (_, compacts w answer b′ w′ m);
-      clear = λ s answer keys′ m. (_, clears answer keys′ m);
+      clear = λ s answer keys′ m. (_, clears {live = 0} {base = 0} answer keys′ m);
       refresh = λ s r index answer pending′ index′ m.
           elim (index-decided (s .header) (s .rows) (r .columns) index) [
-            | inl sound ↦ (_, refreshes r index answer pending′ index′ m sound)
-            | inr unsound ↦ (_, refreshes-unsound r index answer pending′ index′ m unsound)
+            | inl sound ↦ (_, refreshes {live = 0} {base = 0} r index answer pending′ index′ m sound)
+            | inr unsound ↦ (_, refreshes-unsound {live = 0} {base = 0} r index answer pending′ index′ m unsound)
           ];
     }

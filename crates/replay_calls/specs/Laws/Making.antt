@@ -24,8 +24,7 @@ use Rattle.refresh_spec.specs.Refreshes.{refreshView, headerRefreshed, Refreshi
 use Rattle.refresh_spec.specs.Laws.Decided.{index-decided}
 use Rattle.history.specs.Histories.{stages, merges, compacts, clears, refreshes, refreshes-unsound}
 use Rattle.history.specs.Laws.Calls.{steps-represents}
-use Rattle.replay_calls.specs.Lending.{lengthsFor, lentTo, lentAll}
-use Rattle.replay_calls.specs.Requests.{Request, make, refresh, Served, made, refreshed, refreshed-unsound, end, next}
+use Rattle.replay_calls.specs.Requests.{Request, make, refresh, lentTo, lentAll, Served, made, refreshed, refreshed-unsound, end, next}
 use Rattle.replay_calls.specs.Laws.Requests.{served-steps, served-then}
 use Rattle.replay_calls.specs.inner.Making.{Made, MadeOnPending, MadeOnIndex}
 
@@ -91,7 +90,6 @@ module _ {h : Header} {pending : List ℕ} {requests : List Request} where
 
   pub staging-made : {h′ : Header} {pending′ : List ℕ} {q : Staged} {answer : TableAnswer} → requests ≡ make (staging q) ∷ [] → Staging h pending q answer pending′
       → h′ ≡ headerAfter h (tableView answer) → MadeOnPending requests h pending h′ pending′
-  unfolding lengthsFor
   staging-made {h′} {pending′} {q} {answer} e m same =
       record { made = λ rows keys sorts live base index. rw (e, same) (words-unlent (lengths rows keys sorts pending live base) (compactionWords live base) (made (stages q answer pending′ m)) (λ p r. refl)) }
 
@@ -101,7 +99,6 @@ module _ {h : Header} {rows pending index : List ℕ} {requests : List Request} 
 
   pub refreshing-made : {h′ : Header} {pending′ index′ : List ℕ} {r : Refresh} {answer : RefreshAnswer} → requests ≡ refresh r ∷ [] → Refreshing h rows pending index r answer pending′ index′
       → h′ ≡ headerRefreshed h (refreshView answer) → MadeOnIndex requests h rows pending index h′ pending′ index′
-  unfolding lengthsFor
   refreshing-made {h′} {pending′} {index′} {r} {answer} e m same =
       record {
         made = λ keys sorts live base.
@@ -122,9 +119,9 @@ table-capacity : {p : Plain} {s : Stores} → Represents p s → s .header .capa
 table-capacity r = ap (λ (h : Header). h .capacity) (r .shown .header)
 
 -- the table after one accepted call
-one-done : (p : Plain) (l : Lengths) (c : Call) → refusal p (lengthsFor l c) c ≡ 0 → afterAll p (lentTo l c ∷ []) ≡ done p c
+one-done : (p : Plain) (l : Lengths) (c : Call) → refusal p l c ≡ 0 → afterAll p (lentTo l c ∷ []) ≡ done p c
 unfolding afterAll
-one-done p l c e = accepted-done p (lengthsFor l c) c e
+one-done p l c e = accepted-done p l c e
 
 compaction-rises : (p : Plain) → compacted p .generation ≡ p .generation → ⊥
 unfolding compacted
@@ -134,7 +131,7 @@ module _ {h h′ : Header} {rows keys sorts pending rows′ keys′ sorts′ : L
   pub merging-made : {live′ base′ : List ℕ} {answer : MergeAnswer} → requests ≡ make merging ∷ [] → Merging (stores h rows keys sorts pending) (compactionWords live base) answer (body rows′ keys′ sorts′) (compactionWords live′ base′)
       → h′ ≡ headerMerged h (mergeView answer)
       → Made requests (lengths rows keys sorts pending live base) (stores h rows keys sorts pending) (compactionWords live base) index (stores h′ rows′ keys′ sorts′ pending) (compactionWords live′ base′) index
-  unfolding lengthsFor done
+  unfolding done
   merging-made {live′} {base′} {answer} e m same =
       let l : Lengths = lengths rows keys sorts pending live base in
       rw (e, same)
@@ -152,7 +149,7 @@ module _ {h h′ : Header} {rows keys sorts pending rows′ keys′ sorts′ : L
   pub compacting-made : {live′ base′ : List ℕ} {answer : TableAnswer} → requests ≡ make compacting ∷ [] → Compacting h (body rows keys sorts) (compactionWords live base) answer (body rows′ keys′ sorts′) (compactionWords live′ base′)
       → h′ ≡ headerAfter h (tableView answer)
       → Made requests (lengths rows keys sorts pending live base) (stores h rows keys sorts pending) (compactionWords live base) index (stores h′ rows′ keys′ sorts′ pending) (compactionWords live′ base′) index
-  unfolding lengthsFor done
+  unfolding done
   compacting-made {live′} {base′} {answer} e m same =
       let l : Lengths = lengths rows keys sorts pending live base in
       -- the pending store is not lent, and the checks do not read it
@@ -175,7 +172,6 @@ module _ {h h′ : Header} {rows keys sorts pending rows′ keys′ sorts′ : L
 pub clearing-made : {h h′ : Header} {rows keys sorts pending keys′ : List ℕ} (live base index : List ℕ) {requests : List Request} {answer : TableAnswer} → requests ≡ make clearing ∷ []
     → Clearing h keys answer keys′ → h′ ≡ headerAfter h (tableView answer)
     → Made requests (lengths rows keys sorts pending live base) (stores h rows keys sorts pending) (compactionWords live base) index (stores h′ rows keys′ sorts pending) (compactionWords live base) index
-unfolding lengthsFor
 clearing-made {h} {h′} {rows} {keys} {sorts} {pending} {keys′} live base index {requests} {answer} e m same =
     rw (e, same)
     (words-unlent (lengths rows keys sorts pending live base) (compactionWords live base) (made (clears answer keys′ m)) (λ p r. rw (table-capacity r) at (m .past)))

@@ -17,7 +17,7 @@ use Rattle.plain_table.specs.Staged.{Opening}
 use Rattle.plain_table.specs.Refusing.{Lengths}
 use Rattle.plain_table.specs.Plain.{Plain}
 use Rattle.plain_table.specs.Refreshing.{Refresh, refreshChecks}
-use Rattle.plain_table.specs.Calls.{Call, afterAll, LentCall}
+use Rattle.plain_table.specs.Calls.{Call, refreshing, afterAll, LentCall}
 use Rattle.plain_table.specs.Laws.Calls.{firstRefusal-no, firstRefusal-rest}
 use Rattle.plain_table.specs.Laws.Notes.{onward-all}
 use Rattle.table.specs.declared.Header.{Header}
@@ -31,8 +31,7 @@ use Rattle.history.specs.Refreshes.{ownRefresh, OwnIndex, adopted, other-call, 
 use Rattle.history.specs.Laws.Calls.{step-represents}
 use Rattle.history.specs.Laws.Refreshes.{own-indexes-sound}
 use Rattle.history.specs.Laws.Further.{behind-nothing, whole-step}
-use Rattle.replay_calls.specs.Lending.{lentTo, lentAll}
-use Rattle.replay_calls.specs.Requests.{Request, isRefresh, requested, IndexPast, Served, made, refreshed, refreshed-unsound, ServedAll, end, next}
+use Rattle.replay_calls.specs.Requests.{Request, make, refresh, isRefresh, IndexPast, lentTo, lentAll, Served, made, refreshed, refreshed-unsound, ServedAll, end, next}
 
 -- ---- steps of a history
 
@@ -98,6 +97,11 @@ index-past {l} {p} r (next {c = c} one more) =
     (rw opening at (index-past (step-represents r (whole-step (served-called one))) more)) ∙ served-past r one
 
 -- ---- with a new index store
+
+-- the call that a request corresponds to with a sound index store of this length
+unfoldable pub requested : ℕ → Request → Call
+requested index (make c) = c
+requested index (refresh r) = refreshing r index
 
 both : {c d : Call} {cs ds : List Call} → c ≡ d → cs ≡ ds → c ∷ cs ≡ d ∷ ds
 both e f = λ i. e i ∷ f i
