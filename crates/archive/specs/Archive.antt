@@ -2,32 +2,28 @@
 -- of saving and loading is what the contracts of `write_image` and `read_image` state. Assumes nothing.
 use Prim.Native.Nat.{ℕ, _≤_}
 use mathlib.Core.Path.{_≡_}
-use mathlib.Core.Bool.{true, cond, _||_}
+use mathlib.Core.Bool.{true}
 use mathlib.Core.List.{List, [], _∷_, _++_}
 use mathlib.Core.Option.{some}
 use lib.ListN.{length, take}
-use lib.Dec.{ltb, eqb}
-use Rattle.lists.specs.Lists.{all, any, filter, rising, splice}
+use lib.Dec.{ltb}
+use Rattle.lists.specs.Lists.{all, splice}
 use Rattle.refusals.specs.Refusals.{check, firstRefusal, refused, reply, outcome}
 use Rattle.crc32.specs.Crc.{bytesOf}
-use Rattle.offsets.specs.Subsets.{Subset, members}
 use Rattle.plain_table.specs.Staged.{Opening}
-use Rattle.plain_table.specs.Refusing.{storesShort}
-use Rattle.plain_table.specs.Plain.{Plain, liveRows, opened}
+use Rattle.plain_table.specs.Plain.{Plain, opened}
 use Rattle.plain_table.specs.Calls.{LentCall, after, afterAll}
 use Rattle.table.specs.declared.Header.{Header}
 use Rattle.table.specs.declared.TableAnswer.{TableAnswer}
 use Rattle.table.specs.declared.TableAnswer.the-variants.{Table}
-use Rattle.table.specs.Numbers.{openingOf, tableView}
-use Rattle.table.specs.Refusing.{outside}
-use Rattle.table.specs.Contracts.{Stores, Body, body, bodyOf, joined, lengths, Represents}
+use Rattle.table.specs.Numbers.{tableView}
+use Rattle.table.specs.Contracts.{Stores, Body, body, bodyOf, joined, Represents}
 use Rattle.image_spec.specs.declared.LengthAnswer.{LengthAnswer}
 use Rattle.image_spec.specs.declared.LengthAnswer.the-variants.{Length}
 use Rattle.image_spec.specs.Image.{Image, imageWords, Reads, imageOf}
-use Rattle.image_spec.specs.Contracts.{lengthView, ImageWritten, ImageChecked, ImageRead, TextRead, withCapacity}
+use Rattle.image_spec.specs.Contracts.{lengthView, ImageWritten, ImageChecked, ImageRead, TextRead, resizedOpening, withCapacity, storesChecks}
 use Rattle.history.specs.Histories.{behind, Step, History}
-use Rattle.history.specs.Runs.{Query, refines, Run}
-use Rattle.history.specs.Claim.{liveIn, wanted}
+use Rattle.history.specs.Claim.{Claimed}
 
 -- the words that `write_image` wrote of these stores, with a text
 pub record Saved (s : Stores) (words : List ℕ) : Type 0 where
@@ -39,36 +35,15 @@ pub record Saved (s : Stores) (words : List ℕ) : Type 0 where
   pub written : ImageWritten (s .header) (s .rows) (s .sorts) (s .pending) text output (Length count) output′
   pub image : words ≡ take count output′
 
--- a plain table with another capacity; 0: the capacity stays
+-- a plain table with this capacity; 0: its own
 abbrev pub resized : Plain → ℕ → Plain
 resized p capacity =
-    record {
-      opening =
-          record {
-            columns = p .opening .columns;
-            keys = p .opening .keys;
-            sort = p .opening .sort;
-            rule = p .opening .rule;
-            capacity = cond (eqb capacity 0) (p .opening .capacity) capacity;
-          };
-      generation = p .generation;
-      rows = p .rows;
-      staged = p .staged;
-      largest = p .largest;
-    }
-
--- what `read_image` refuses of the caller's capacity and stores, behind 19 and 20
-abbrev pub storesRefusal : Header → ℕ → Body → List ℕ → ℕ
-storesRefusal h capacity b pending =
-    firstRefusal
-    (check (outside (withCapacity h capacity)) 1
-    ∷ check (storesShort (openingOf (withCapacity h capacity)) (lengths (b .rows) (b .keys) (b .sorts) pending [] []) || ltb (length pending) (h .pending)) 2
-    ∷ [])
+    record { opening = resizedOpening (p .opening) capacity; generation = p .generation; rows = p .rows; staged = p .staged; largest = p .largest }
 
 -- Loading after saving: refused by nothing but a capacity outside its bounds or a short store; else the same plain table, with that
 -- capacity.
 pub record ReadAfterWrite (p : Plain) (s : Stores) (capacity : ℕ) (b : Body) (pending : List ℕ) (answer : TableAnswer) (b′ : Body) (pending′ : List ℕ) : Type 0 where
-  pub refusal : outcome (tableView answer) ≡ reply (storesRefusal (s .header) capacity b pending) tt
+  pub refusal : outcome (tableView answer) ≡ reply (firstRefusal (storesChecks (s .header) capacity b pending)) tt
   pub represents : (h : Header) → answer ≡ Table h → Represents (resized p capacity) (joined h b′ pending′)
 
 -- The text after saving: refused by nothing but a short output; else the text at the start of the output.
@@ -101,26 +76,12 @@ pub data Archived : Plain → Stores → Type 0 where
   loads : {p : Plain} {s t : Stores} (capacity : ℕ) → Archived p s → Reloaded capacity s t → Archived (resized p capacity) t
   goes-on : {p : Plain} {c : LentCall} {s t : Stores} → Archived p s → Step s c t → Archived (after p (c .lengths) (c .call)) t
 
--- The claim of term 3 (`Claimed`) of such a history.
-pub record ArchiveClaimed (p : Plain) (s : Stores) : Type 0 where
-  pub live-rows : liveIn s ≡ liveRows p
-  pub ids-left : (start : Subset) (queries : List Query) (end : Subset) (accepted : List Query)
-      → Run s start queries end accepted → any refines accepted ≡ true
-      → (members end ≡ filter (wanted s accepted) (members start)) × (rising (members end) ≡ true)
-
 -- ---- damage
 
--- two sequences of bytes that are equal but for at most four neighbouring bytes, and not equal
-pub record Damaged (bytes bytes′ : List ℕ) : Type 0 where
-  pub before : List ℕ
-  pub four : List ℕ
-  pub four′ : List ℕ
-  pub after : List ℕ
-  pub long : length four ≡ 4
-  pub long′ : length four′ ≡ 4
-  pub is : bytes ≡ before ++ four ++ after
-  pub is′ : bytes′ ≡ before ++ four′ ++ after
-  pub differ : bytes ≡ bytes′ → ⊥
+-- two sequences of bytes that differ, in at most four neighbouring bytes
+pub data Damaged : List ℕ → List ℕ → Type 0 where
+  damaged : (before four four′ after : List ℕ) → length four ≡ 4 → length four′ ≡ 4 → (four ≡ four′ → ⊥)
+      → Damaged (before ++ four ++ after) (before ++ four′ ++ after)
 
 -- every function that reads images refuses these words with 19
 pub record RefusedAsImage (words : List ℕ) : Type 0 where
@@ -145,4 +106,5 @@ pub record Archives : Type 0 where
       → h .generation ≤ 4294967295 → ImageRead words capacity b pending (Table h) b′ pending′
       → (p : Plain) × Represents p (joined h b′ pending′)
   pub damage-refused : (words words′ : List ℕ) (i : Image) → Reads words (some i) → Damaged (bytesOf words) (bytesOf words′) → RefusedAsImage words′
-  pub term-three : (p : Plain) (s : Stores) → Archived p s → ArchiveClaimed p s
+  -- the claim of term 3
+  pub term-three : (p : Plain) (s : Stores) → Archived p s → Claimed p s

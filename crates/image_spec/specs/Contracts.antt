@@ -10,8 +10,9 @@ use mathlib.Core.Option.{Option, none, some}
 use lib.ListN.{length}
 use lib.Dec.{ltb, eqb}
 use Rattle.lists.specs.Lists.{splice}
-use Rattle.refusals.specs.Refusals.{check, firstRefusal, Reply, refused, accepted, reply, outcome}
+use Rattle.refusals.specs.Refusals.{Check, check, firstRefusal, Reply, refused, accepted, reply, outcome}
 use Rattle.key_index.specs.Slots.{KeysSound}
+use Rattle.plain_table.specs.Staged.{Opening}
 use Rattle.plain_table.specs.Refusing.{storesShort}
 use Rattle.table.specs.declared.Header.{Header}
 use Rattle.table.specs.declared.TableAnswer.{TableAnswer}
@@ -64,12 +65,14 @@ pub record Decoded (words : List ℕ) : Type 0 where
   pub if-sound : sound ≡ true → (i : Image) → image ≡ some i → SoundImage i
   pub if-unsound : sound ≡ false → (i : Image) → image ≡ some i → SoundImage i → ⊥
 
--- the header of a table that is read: the image's, with this capacity; 0: the image's own
+-- an opening with this capacity; 0: its own
+abbrev pub resizedOpening : Opening → ℕ → Opening
+resizedOpening o capacity =
+    record { columns = o .columns; keys = o .keys; sort = o .sort; rule = o .rule; capacity = cond (eqb capacity 0) (o .capacity) capacity }
+
+-- the header of a table that is read: the image's, with this capacity
 abbrev pub withCapacity : Header → ℕ → Header
-withCapacity h capacity =
-    header
-    (record { columns = h .columns; keys = h .keys; sort = h .sort; rule = h .rule; capacity = cond (eqb capacity 0) (h .capacity) capacity })
-    (h .rows) (h .dead) (h .entries) (h .pending) (h .generation) (h .largest)
+withCapacity h capacity = header (resizedOpening (openingOf h) capacity) (h .rows) (h .dead) (h .entries) (h .pending) (h .generation) (h .largest)
 
 -- *Check image*: 19, 20; else the image's header
 unfoldable pub checkReply : Option Image → Bool → Reply Header
@@ -81,17 +84,15 @@ pub record ImageChecked (words : List ℕ) (answer : TableAnswer) : Type 0 where
   pub answers : tableView answer ≡ checkReply (decoded .image) (decoded .sound)
 
 -- *Read image*: 19, 20; 1 for a capacity outside its bounds or below the row count; 2 for a store shorter than needed
+abbrev pub storesChecks : Header → ℕ → Body → List ℕ → List Check
+storesChecks h capacity b pending =
+    check (outside (withCapacity h capacity)) 1
+    ∷ check (storesShort (openingOf (withCapacity h capacity)) (lengths (b .rows) (b .keys) (b .sorts) pending [] []) || ltb (length pending) (h .pending)) 2
+    ∷ []
+
 unfoldable pub readRefusal : Option Image → Bool → ℕ → Body → List ℕ → ℕ
 readRefusal none sound capacity b pending = 19
-readRefusal (some i) sound capacity b pending =
-    firstRefusal
-    (check (not sound) 20
-    ∷ check (outside (withCapacity (i .header) capacity)) 1
-    ∷ check
-    (storesShort (openingOf (withCapacity (i .header) capacity)) (lengths (b .rows) (b .keys) (b .sorts) pending [] [])
-    || ltb (length pending) (i .header .pending))
-    2
-    ∷ [])
+readRefusal (some i) sound capacity b pending = firstRefusal (check (not sound) 20 ∷ storesChecks (i .header) capacity b pending)
 
 -- the stores hold the image from their start on, and nothing behind it changes; of the key store soundness is promised
 pub record Loaded (i : Image) (capacity : ℕ) (b : Body) (pending : List ℕ) (answer : TableAnswer) (b′ : Body) (pending′ : List ℕ) : Type 0 where

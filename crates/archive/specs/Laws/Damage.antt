@@ -19,7 +19,7 @@ use Rattle.table.specs.declared.TableAnswer.the-variants.{Table}
 use Rattle.table.specs.Numbers.{tableView}
 use Rattle.image_spec.specs.Image.{Image, imageBody, imageWords, isImage, Reads, reads, reads-none}
 use Rattle.image_spec.specs.Contracts.{lengthView, checkReply, readRefusal, textRefusal, textOf, ImageChecked, ImageRead, TextRead}
-use Rattle.archive.specs.Archive.{Damaged, RefusedAsImage}
+use Rattle.archive.specs.Archive.{Damaged, damaged, RefusedAsImage}
 
 -- ---- bytes
 
@@ -59,16 +59,12 @@ read-cases words none (reads-none _) = inl refl
 
 -- damage within four bytes changes the register
 damaged-register : (bytes bytes′ : List ℕ) → Below 256 bytes → Below 256 bytes′ → Damaged bytes bytes′ → register bytes ≡ register bytes′ → ⊥
-damaged-register bytes bytes′ h h′ d e =
-    let k = rw (d .is) at h in
-    let k′ = rw (d .is′) at h′ in
-    let front = below-first (d .before ++ d .four) (d .after) k in
-    let front′ = below-first (d .before ++ d .four′) (d .after) k′ in
-    let same : d .four ≡ d .four′ =
-    damage-shows (d .before) (d .four) (d .four′) (d .after) (below-first (d .before) (d .four) front) (below-second (d .before) (d .four) front)
-    (below-second (d .before) (d .four′) front′) (below-second (d .before ++ d .four) (d .after) k) (d .long) (d .long′)
-    (sym (ap register (d .is)) ∙ e ∙ ap register (d .is′)) in
-    d .differ (d .is ∙ ap (λ (x : List ℕ). d .before ++ x ++ d .after) same ∙ sym (d .is′))
+damaged-register _ _ k k′ (damaged before four four′ after long long′ differ) e =
+    let front = below-first (before ++ four) after k in
+    let front′ = below-first (before ++ four′) after k′ in
+    differ
+    (damage-shows before four four′ after (below-first before four front) (below-second before four front)
+    (below-second before four′ front′) (below-second (before ++ four) after k) long long′ e)
 
 pub damaged-none : (words words′ : List ℕ) (i : Image) → words ≡ imageWords i → Damaged (bytesOf words) (bytesOf words′)
     → (j : Image) → words′ ≡ imageWords j → ⊥

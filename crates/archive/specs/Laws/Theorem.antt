@@ -39,11 +39,11 @@ use Rattle.image_spec.specs.Image.{Image, imageWords, SoundImage, imageOf}
 use Rattle.image_spec.specs.Contracts.{lengthView, writeRefusal, withCapacity, readRefusal, Loaded, ImageRead, textRefusal, textOf, TextRead}
 use Rattle.image_spec.specs.Laws.Unique.{Parts, image-parts, reads-unique}
 use Rattle.history.specs.Histories.{behind, Step}
-use Rattle.history.specs.Claim.{liveIn}
+use Rattle.history.specs.Claim.{liveIn, Claimed}
 use Rattle.history.specs.Laws.Calls.{step-represents, history-represents}
 use Rattle.history.specs.Laws.Narrowing.{narrowed-wanted, narrowed-rising}
 use Rattle.history.specs.Laws.Theorem.{run-narrows}
-use Rattle.archive.specs.Archive.{Saved, resized, ReadAfterWrite, TextAfterWrite, ImageOfLoaded, Reloaded, reloaded, Archived, made, loads, goes-on, ArchiveClaimed, Archives}
+use Rattle.archive.specs.Archive.{Saved, resized, ReadAfterWrite, TextAfterWrite, ImageOfLoaded, Reloaded, reloaded, Archived, made, loads, goes-on, Archives}
 use Rattle.archive.specs.Laws.Contents.{SameInUse, contents-same}
 use Rattle.archive.specs.Laws.Resized.{SameShape, all-words-same, all-widths-same}
 use Rattle.archive.specs.Laws.Saved.{accepted-number, savedImage, saved-reads}
@@ -260,7 +260,7 @@ archive-represents (loads capacity a (reloaded {s} {t} rows sorts pending words 
     pending-more more (body-more rest (loaded-represents (lent-represents rows sorts pending (archive-represents a) saved) saved capacity m (t .header) refl))
 archive-represents (goes-on a step) = step-represents (archive-represents a) step
 
-pub archived-claimed : (p : Plain) (s : Stores) → Archived p s → ArchiveClaimed p s
+pub archived-claimed : (p : Plain) (s : Stores) → Archived p s → Claimed p s
 archived-claimed p s a =
     let shown = archive-represents a in
     record {
