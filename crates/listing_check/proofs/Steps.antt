@@ -19,7 +19,7 @@ use Rattle.listing_check.specs.declared.CheckAnswer.{CheckAnswer}
 use Rattle.listing_check.specs.declared.CheckAnswer.the-variants.{Refused, Checked}
 use Rattle.listing_check.specs.declared.Row.{Row}
 use Rattle.listing_check.specs.declared.CheckScan.{CheckScan}
-use Rattle.listing_check.specs.Answers.{rightNumbers, misplaced, wrongNumbers, lowest, rightOrWrong, placed, verdictOn, verdictOf, verdictView, checkRefusal, checkView, AnswersChecked}
+use Rattle.listing_check.specs.Answers.{rightNumbers, misplaced, wrongNumbers, lowest, findingOf, verdictOn, verdictOf, verdictView, checkRefusal, checkView, AnswersChecked}
 use Rattle.listing_check.specs.inner.Scanning.{firstApart, rightAmong, unlessWrong, RowRead, rowsLeft, Underway, finishedAs, Stepped, closed}
 use Rattle.listing_check.specs.Laws.Numbers.{misplaced-none}
 use Rattle.listing_check.specs.Laws.Verdicts.{above-kept, right-rising}
@@ -33,8 +33,8 @@ settle {given = given} p = record { whole = λ l. absurd (omega arith); due = λ
 
 -- ---- the beginning
 
-view-right : (o : Option ℕ) → checkView (unlessWrong (Checked Right) o) ≡ accepted (rightOrWrong o)
-unfolding checkView verdictView unlessWrong rightOrWrong
+view-right : (o : Option ℕ) → checkView (unlessWrong (Checked Right) o) ≡ accepted (findingOf none o)
+unfolding checkView verdictView unlessWrong findingOf
 view-right none = refl
 view-right (some n) = refl
 
@@ -68,14 +68,14 @@ module _ (text : List ℕ) (conditions : List Constraint) (given : List ℕ) whe
 
     module _ (knows : all (known (s .columns)) conditions ≡ true) where
       pub out-of-place : {place : ℕ} → misplaced given ≡ some place → AnswersChecked text conditions given (Checked (Misplaced place))
-      unfolding checkView verdictView reply verdictOn placed
+      unfolding checkView verdictView reply verdictOn findingOf
       out-of-place e = answered (rw (knows, e))
 
       pub begin : misplaced given ≡ none → Underway (s .columns) text conditions given (record { answer = Checked Right; start = s .start; end = length text; place = 0 })
       begin e = record {
         whole = λ h. refl;
         due = λ h. record { narrow = l .narrow; before = h; valid-rows = record { count = s .count; least = 0; left = 65536; good = l .good } };
-        comes = answered (view-right (firstApart given (rightAmong conditions (rowsLeft text at))) ∙ ap (λ o. accepted (rightOrWrong o)) parts ∙ sym reply-is);
+        comes = answered (view-right (firstApart given (rightAmong conditions (rowsLeft text at))) ∙ ap (λ o. accepted (findingOf none o)) parts ∙ sym reply-is);
       }
         where
           at : CheckScan
@@ -92,8 +92,8 @@ module _ (text : List ℕ) (conditions : List Constraint) (given : List ℕ) whe
               ap (λ (rows : List (List ℕ)). firstApart given (rightAmong conditions rows)) rows-are
               ∙ unfold rightAmong rightNumbers in sym (lowest-first given right (misplaced-none given e) (right-rising conditions (listingIn text) (shown-listing (text-shown true text (l .of-form)))))
 
-          reply-is : reply (cond (not (all (known (s .columns)) conditions)) 6 0) (verdictOn given right) ≡ accepted (rightOrWrong (lowest (wrongNumbers given right)))
-          reply-is = rw knows (unfold reply verdictOn placed in rw e)
+          reply-is : reply (cond (not (all (known (s .columns)) conditions)) 6 0) (verdictOn given right) ≡ accepted (findingOf none (lowest (wrongNumbers given right)))
+          reply-is = rw knows (unfold reply verdictOn in rw e)
 
 -- ---- one row processed
 

@@ -52,18 +52,14 @@ verdictView Right = correct
 verdictView (Misplaced place) = outOfOrder place
 verdictView (Wrong number) = lowestWrong number
 
--- "the lowest row number wrongly present or absent", and yes if there is none
-unfoldable pub rightOrWrong : Option ℕ → Finding
-rightOrWrong none = correct
-rightOrWrong (some number) = lowestWrong number
-
--- "or, if the list is not strictly rising, the place"
-unfoldable pub placed : Option ℕ → Finding → Finding
-placed none finding = finding
-placed (some place) finding = outOfOrder place
+-- "or, if the list is not strictly rising, the place"; else "the lowest row number wrongly present or absent", and yes if there is none
+unfoldable pub findingOf : Option ℕ → Option ℕ → Finding
+findingOf (some place) wrong = outOfOrder place
+findingOf none (some number) = lowestWrong number
+findingOf none none = correct
 
 unfoldable pub verdictOn : List ℕ → List ℕ → Finding
-verdictOn given right = placed (misplaced given) (rightOrWrong (lowest (wrongNumbers given right)))
+verdictOn given right = findingOf (misplaced given) (lowest (wrongNumbers given right))
 
 -- the finding for the listing of a text, if it has one
 unfoldable pub verdictOf : Option Listing → List Constraint → List ℕ → Finding

@@ -7,7 +7,7 @@ use Rattle.lists.specs.Lists.{filter, all, elem}
 use Rattle.constraints.specs.declared.Constraint.{Constraint}
 use Rattle.constraints.specs.Constraints.{compares, met}
 use Rattle.listing_spec.specs.Listings.{Listing, rowNumbers}
-use Rattle.listing_check.specs.Answers.{correct, outOfOrder, lowestWrong, rightNumbers, misplacedBehind, misplaced, wrongNumbers, lowest, rightOrWrong, placed, verdictOn, verdictOf}
+use Rattle.listing_check.specs.Answers.{correct, outOfOrder, lowestWrong, rightNumbers, misplacedBehind, misplaced, wrongNumbers, lowest, findingOf, verdictOn, verdictOf}
 
 abbrev listing : Listing
 listing = record { head = 2 ∷ 1 ∷ 0 ∷ 0 ∷ 0 ∷ 9 ∷ []; rows = (2 ∷ 7 ∷ 1 ∷ []) ∷ (5 ∷ 3 ∷ 1 ∷ []) ∷ (8 ∷ 7 ∷ 4 ∷ []) ∷ [] }
@@ -17,5 +17,5 @@ condition = record { kind = 1; column = 0; value = 7 }
 
 pub example : map (verdictOf (some listing) (condition ∷ [])) ((2 ∷ 8 ∷ []) ∷ (2 ∷ 5 ∷ 8 ∷ []) ∷ (2 ∷ []) ∷ (1 ∷ 2 ∷ 8 ∷ []) ∷ (9 ∷ 2 ∷ 8 ∷ []) ∷ (2 ∷ 2 ∷ []) ∷ [])
     ≡ correct ∷ lowestWrong 5 ∷ lowestWrong 8 ∷ lowestWrong 1 ∷ outOfOrder 1 ∷ outOfOrder 1 ∷ []
-unfolding verdictOf verdictOn rightNumbers rowNumbers filter all met compares misplaced misplacedBehind wrongNumbers elem lowest placed rightOrWrong
+unfolding verdictOf verdictOn rightNumbers rowNumbers filter all met compares misplaced misplacedBehind wrongNumbers elem lowest findingOf
 example = refl

@@ -14,7 +14,7 @@ use Rattle.constraints.specs.declared.Constraint.{Constraint}
 use Rattle.constraints.specs.Constraints.{met}
 use Rattle.listing_spec.specs.Listings.{Listing, rowNumbers, isListing}
 use Rattle.listing_spec.specs.Laws.Texts.{rising-from, listing-parts}
-use Rattle.listing_check.specs.Answers.{correct, outOfOrder, lowestWrong, rightNumbers, misplaced, wrongNumbers, lowest, rightOrWrong, placed, verdictOn, verdictOf}
+use Rattle.listing_check.specs.Answers.{correct, outOfOrder, lowestWrong, rightNumbers, misplaced, wrongNumbers, lowest, findingOf, verdictOn, verdictOf}
 use Rattle.listing_check.specs.Laws.Numbers.{Apart, wrong-none, wrong-some, wrong-same, FirstNotAbove, misplaced-none, misplaced-rising, misplaced-some, misplaced-at}
 
 -- ---- the right numbers rise
@@ -46,21 +46,21 @@ right-rising conditions l e =
 
 -- ---- the cases of a verdict
 
-finding-right : (o w : Option ℕ) → placed o (rightOrWrong w) ≡ correct → (o ≡ none) × (w ≡ none)
-unfolding placed rightOrWrong
+finding-right : (o w : Option ℕ) → findingOf o w ≡ correct → (o ≡ none) × (w ≡ none)
+unfolding findingOf
 finding-right none none e = (refl, refl)
 finding-right none (some m) e = absurd (let z : _≡_ {A = ℕ} 0 1 = cc in omega arith)
 finding-right (some m) w e = absurd (let z : _≡_ {A = ℕ} 0 1 = cc in omega arith)
 
 module _ (n : ℕ) where
-  finding-wrong : (o w : Option ℕ) → placed o (rightOrWrong w) ≡ lowestWrong n → w ≡ some n
-  unfolding placed rightOrWrong
+  finding-wrong : (o w : Option ℕ) → findingOf o w ≡ lowestWrong n → w ≡ some n
+  unfolding findingOf
   finding-wrong none none e = absurd (let z : _≡_ {A = ℕ} 0 1 = cc in omega arith)
   finding-wrong none (some m) e = cc
   finding-wrong (some m) w e = absurd (let z : _≡_ {A = ℕ} 0 1 = cc in omega arith)
 
-  finding-misplaced : (o w : Option ℕ) → placed o (rightOrWrong w) ≡ outOfOrder n → o ≡ some n
-  unfolding placed rightOrWrong
+  finding-misplaced : (o w : Option ℕ) → findingOf o w ≡ outOfOrder n → o ≡ some n
+  unfolding findingOf
   finding-misplaced none none e = absurd (let z : _≡_ {A = ℕ} 0 1 = cc in omega arith)
   finding-misplaced none (some m) e = absurd (let z : _≡_ {A = ℕ} 0 1 = cc in omega arith)
   finding-misplaced (some m) w e = cc
@@ -73,7 +73,7 @@ module _ (given right : List ℕ) where
     λ e.
         let s = finding-right (misplaced given) (lowest (wrongNumbers given right)) e in
         rising-ext given right (misplaced-none given (s .0)) rises (wrong-none given right (s .1)),
-    λ e. rw (e, misplaced-rising right rises, wrong-same right) (unfold placed rightOrWrong in refl),
+    λ e. rw (e, misplaced-rising right rises, wrong-same right) (unfold findingOf in refl),
   )
 
   -- "the lowest row number wrongly present or absent"
@@ -88,7 +88,7 @@ module _ (given right : List ℕ) where
 
   pub first-misplaced : {place : ℕ} → FirstNotAbove given place → verdictOn given right ≡ outOfOrder place
   unfolding verdictOn
-  first-misplaced {place} f = rw (misplaced-at given f) (unfold placed in refl)
+  first-misplaced {place} f = rw (misplaced-at given f) (unfold findingOf in refl)
 
 -- the same for a listing
 pub yes-exactly : (conditions : List Constraint) (l : Listing) (given : List ℕ) → isListing true l ≡ true
