@@ -4,7 +4,7 @@ use Prim.Native.Nat.{ℕ}
 use mathlib.Core.Path.{_≡_}
 use mathlib.Core.Bool.{Bool, true, false, cond, not}
 use mathlib.Core.Option.{Option, none, some}
-use mathlib.Core.List.{List, [], _∷_}
+use mathlib.Core.List.{List, [], _∷_, _++_}
 use lib.ListN.{getD}
 use lib.Dec.{leb, eqb}
 use Rattle.refusals.specs.Refusals.{Reply, refused, accepted}
@@ -19,9 +19,18 @@ use Rattle.table.specs.declared.Largest.the-variants.{None as NoLargest, Value}
 use Rattle.table.specs.declared.Header.{Header}
 use Rattle.table.specs.declared.Merge.{Merge}
 use Rattle.table.specs.declared.Version.{Version}
+use Rattle.table.specs.Numbers.{header}
 use Rattle.query_spec.specs.Queries.{PageReply}
 
 -- ---- arguments
+
+-- an opening is six words: these numbers, and the generation
+abbrev pub decodeOpening : List ℕ → Opening
+decodeOpening words =
+    record { columns = getD words 0 0; keys = getD words 1 0; sort = getD words 2 0; rule = getD words 3 0; capacity = getD words 4 0 }
+
+abbrev pub openingGeneration : List ℕ → ℕ
+openingGeneration words = getD words 5 0
 
 -- The largest sort value is two words: a flag, 0 or 1, and the value, which is not read if the flag is 0.
 unfoldable pub decodeLargest : ℕ → ℕ → Largest
@@ -31,30 +40,15 @@ decodeLargest flag value = cond (eqb flag 1) (Value value) NoLargest
 unfoldable pub decodeColumns : ℕ → ℕ → ℕ
 decodeColumns columns flag = cond (leb flag 1) columns 0
 
--- a header is twelve words: its ten numbers in order, and the largest sort value
+-- a header is twelve words: an opening's five numbers, the counts of rows, dead rows, entries and pending words, the generation, and
+-- the largest sort value
 unfoldable pub decodeHeader : List ℕ → Header
 decodeHeader words =
-    record {
-      columns = decodeColumns (getD words 0 0) (getD words 10 0);
-      keys = getD words 1 0;
-      sort = getD words 2 0;
-      rule = getD words 3 0;
-      capacity = getD words 4 0;
-      rows = getD words 5 0;
-      dead = getD words 6 0;
-      entries = getD words 7 0;
-      pending = getD words 8 0;
-      generation = getD words 9 0;
-      largest = decodeLargest (getD words 10 0) (getD words 11 0);
-    }
-
--- an opening is six words: these numbers, and the generation
-abbrev pub decodeOpening : List ℕ → Opening
-decodeOpening words =
-    record { columns = getD words 0 0; keys = getD words 1 0; sort = getD words 2 0; rule = getD words 3 0; capacity = getD words 4 0 }
-
-abbrev pub openingGeneration : List ℕ → ℕ
-openingGeneration words = getD words 5 0
+    let o = decodeOpening words in
+    header
+    (record { columns = decodeColumns (o .columns) (getD words 10 0); keys = o .keys; sort = o .sort; rule = o .rule; capacity = o .capacity })
+    (getD words 5 0) (getD words 6 0) (getD words 7 0) (getD words 8 0) (getD words 9 0)
+    (decodeLargest (getD words 10 0) (getD words 11 0))
 
 -- a condition is three words
 abbrev pub decodeCondition : List ℕ → Constraint
@@ -80,19 +74,8 @@ largestValue (Value v) = v
 
 unfoldable pub encodeHeader : Header → List ℕ
 encodeHeader h =
-    h .columns
-    ∷ h .keys
-    ∷ h .sort
-    ∷ h .rule
-    ∷ h .capacity
-    ∷ h .rows
-    ∷ h .dead
-    ∷ h .entries
-    ∷ h .pending
-    ∷ h .generation
-    ∷ largestFlag (h .largest)
-    ∷ largestValue (h .largest)
-    ∷ []
+    (h .columns ∷ h .keys ∷ h .sort ∷ h .rule ∷ h .capacity ∷ [])
+    ++ (h .rows ∷ h .dead ∷ h .entries ∷ h .pending ∷ h .generation ∷ largestFlag (h .largest) ∷ largestValue (h .largest) ∷ [])
 
 -- the stop's number and place, whether a row was appended, and how many rows its compaction kept and dropped
 unfoldable pub encodeMerge : Merge → List ℕ
@@ -100,6 +83,10 @@ encodeMerge m = m .status ∷ m .place ∷ bit (m .added) ∷ m .kept ∷ m .dro
 
 unfoldable pub encodeBool : Bool → List ℕ
 encodeBool b = bit b ∷ []
+
+-- a length or a position
+unfoldable pub encodeNumber : ℕ → List ℕ
+encodeNumber n = n ∷ []
 
 -- 1 and the number, or 0 and 0 if there is none
 unfoldable pub encodeOption : Option ℕ → List ℕ

@@ -3,8 +3,7 @@
 ghost use Rattle.table.specs.Numbers.{tableView};
 ghost use Rattle.table.specs.Contracts.{body};
 ghost use Rattle.image_spec.specs.Contracts.{lengthView, ImageSized, ImageWritten, ImageChecked, ImageRead, TextRead};
-ghost use Rattle.abi.specs.Encoding.{decodeHeader, encodeHeader, Stored, Answers};
-ghost use Rattle.abi_image.specs.Encoding.{encodeLength};
+ghost use Rattle.abi.specs.Encoding.{decodeHeader, encodeHeader, encodeNumber, Stored, Answers};
 use abi::decode_header;
 use abi::store_table;
 use image_check::check_image;
@@ -17,7 +16,7 @@ use refusals::ACCEPTED;
 
 // Stores a length as one word of 64 bits.
 fn store_length(answer: LengthAnswer, length: &mut [u64; 1]) -> u32
-    ensures { λ r. ⌜ Stored lengthView encodeLength answer (now (length .entry)) r (now (length .exit)) ⌝ }
+    ensures { λ r. ⌜ Stored lengthView encodeNumber answer (now (length .entry)) r (now (length .exit)) ⌝ }
 {
     match answer {
         LengthAnswer::Refused(number) => number,
@@ -31,7 +30,7 @@ fn store_length(answer: LengthAnswer, length: &mut [u64; 1]) -> u32
 // Stores how many words the image of a table has, with a text of so many bytes. Refuses with 1 or 21.
 #[no_mangle]
 pub extern "C" fn mouldgrey_image_size(header: &[u32; 12], text: usize, words: &mut [u64; 1]) -> u32
-    ensures { λ r. ⌜ Answers (λ answer. ImageSized (decodeHeader (now (header .entry))) text answer) lengthView encodeLength (now (words .entry)) r (now (words .exit)) ⌝ }
+    ensures { λ r. ⌜ Answers (λ answer. ImageSized (decodeHeader (now (header .entry))) text answer) lengthView encodeNumber (now (words .entry)) r (now (words .exit)) ⌝ }
 {
     let h = decode_header(header);
     let answer = image_size(h, text);
@@ -49,7 +48,7 @@ pub extern "C" fn mouldgrey_write_image(
     image: &mut [u32],
     words: &mut [u64; 1],
 ) -> u32
-    ensures { λ r. ⌜ Answers (λ answer. ImageWritten (decodeHeader (now (header .entry))) (now (rows .entry)) (now (sorts .entry)) (now (pending .entry)) (now (text .entry)) (now (image .entry)) answer (now (image .exit))) lengthView encodeLength (now (words .entry)) r (now (words .exit)) ⌝ }
+    ensures { λ r. ⌜ Answers (λ answer. ImageWritten (decodeHeader (now (header .entry))) (now (rows .entry)) (now (sorts .entry)) (now (pending .entry)) (now (text .entry)) (now (image .entry)) answer (now (image .exit))) lengthView encodeNumber (now (words .entry)) r (now (words .exit)) ⌝ }
 {
     let h = decode_header(header);
     let answer = write_image(h, rows, sorts, pending, text, image);
@@ -90,7 +89,7 @@ pub extern "C" fn mouldgrey_read_image_text(
     text: &mut [u8],
     bytes: &mut [u64; 1],
 ) -> u32
-    ensures { λ r. ⌜ Answers (λ answer. TextRead (now (image .entry)) (now (text .entry)) answer (now (text .exit))) lengthView encodeLength (now (bytes .entry)) r (now (bytes .exit)) ⌝ }
+    ensures { λ r. ⌜ Answers (λ answer. TextRead (now (image .entry)) (now (text .entry)) answer (now (text .exit))) lengthView encodeNumber (now (bytes .entry)) r (now (bytes .exit)) ⌝ }
 {
     let answer = read_text(image, text);
     store_length(answer, bytes)

@@ -5,8 +5,8 @@ ghost use lib.Dec.{eqb};
 ghost use Rattle.listing_spec.specs.Listings.{listingView, numberedView, textView, ListingRead, ListingConverted};
 ghost use Rattle.listing_check.specs.Answers.{verdictView, checkView, AnswersChecked};
 ghost use Rattle.listing_write.specs.Writing.{ListingWritten};
-ghost use Rattle.abi.specs.Encoding.{decodeHeader, Stored, Answers};
-ghost use Rattle.abi_listing.specs.Encoding.{encodeHead, encodeLength, encodeFinding};
+ghost use Rattle.abi.specs.Encoding.{decodeHeader, encodeNumber, Stored, Answers};
+ghost use Rattle.abi_listing.specs.Encoding.{encodeFinding};
 use abi::decode_header;
 use constraints::Constraint;
 use listing_check::CheckAnswer;
@@ -26,7 +26,7 @@ const MISPLACED: u64 = 1;
 const WRONG: u64 = 2;
 
 fn store_listing(answer: ListingAnswer, head: &mut [u32; 6]) -> u32
-    ensures { λ r. ⌜ Stored listingView encodeHead answer (now (head .entry)) r (now (head .exit)) ⌝ }
+    ensures { λ r. ⌜ Stored listingView (λ numbers. numbers) answer (now (head .entry)) r (now (head .exit)) ⌝ }
 {
     match answer {
         ListingAnswer::Refused(number) => number,
@@ -38,7 +38,7 @@ fn store_listing(answer: ListingAnswer, head: &mut [u32; 6]) -> u32
 }
 
 fn store_numbered(answer: NumberedAnswer, head: &mut [u32; 7]) -> u32
-    ensures { λ r. ⌜ Stored numberedView encodeHead answer (now (head .entry)) r (now (head .exit)) ⌝ }
+    ensures { λ r. ⌜ Stored numberedView (λ numbers. numbers) answer (now (head .entry)) r (now (head .exit)) ⌝ }
 {
     match answer {
         NumberedAnswer::Refused(number) => number,
@@ -58,7 +58,7 @@ fn store_numbered(answer: NumberedAnswer, head: &mut [u32; 7]) -> u32
 }
 
 fn store_length(answer: TextAnswer, length: &mut [u64; 1]) -> u32
-    ensures { λ r. ⌜ Stored textView encodeLength answer (now (length .entry)) r (now (length .exit)) ⌝ }
+    ensures { λ r. ⌜ Stored textView encodeNumber answer (now (length .entry)) r (now (length .exit)) ⌝ }
 {
     match answer {
         TextAnswer::Refused(number) => number,
@@ -100,7 +100,7 @@ pub extern "C" fn mouldgrey_write_listing(
     output: &mut [u8],
     length: &mut [u64; 1],
 ) -> u32
-    ensures { λ r. ⌜ Answers (λ answer. ListingWritten (not (eqb numbered 0)) (decodeHeader (now (header .entry))) (now (rows .entry)) (now (output .entry)) answer (now (output .exit))) textView encodeLength (now (length .entry)) r (now (length .exit)) ⌝ }
+    ensures { λ r. ⌜ Answers (λ answer. ListingWritten (not (eqb numbered 0)) (decodeHeader (now (header .entry))) (now (rows .entry)) (now (output .entry)) answer (now (output .exit))) textView encodeNumber (now (length .entry)) r (now (length .exit)) ⌝ }
 {
     let h = decode_header(header);
     let answer = write_listing(h, rows, numbered != 0, output);
@@ -114,7 +114,7 @@ pub extern "C" fn mouldgrey_read_listing(
     output: &mut [u32],
     head: &mut [u32; 6],
 ) -> u32
-    ensures { λ r. ⌜ Answers (λ answer. ListingRead false (now (text .entry)) (now (output .entry)) (listingView answer) (now (output .exit))) listingView encodeHead (now (head .entry)) r (now (head .exit)) ⌝ }
+    ensures { λ r. ⌜ Answers (λ answer. ListingRead false (now (text .entry)) (now (output .entry)) (listingView answer) (now (output .exit))) listingView (λ numbers. numbers) (now (head .entry)) r (now (head .exit)) ⌝ }
 {
     let answer = listing_read::read_listing(text, output);
     store_listing(answer, head)
@@ -127,7 +127,7 @@ pub extern "C" fn mouldgrey_read_numbered(
     output: &mut [u32],
     head: &mut [u32; 7],
 ) -> u32
-    ensures { λ r. ⌜ Answers (λ answer. ListingRead true (now (text .entry)) (now (output .entry)) (numberedView answer) (now (output .exit))) numberedView encodeHead (now (head .entry)) r (now (head .exit)) ⌝ }
+    ensures { λ r. ⌜ Answers (λ answer. ListingRead true (now (text .entry)) (now (output .entry)) (numberedView answer) (now (output .exit))) numberedView (λ numbers. numbers) (now (head .entry)) r (now (head .exit)) ⌝ }
 {
     let answer = listing_read::read_numbered(text, output);
     store_numbered(answer, head)
@@ -140,7 +140,7 @@ pub extern "C" fn mouldgrey_to_numbered(
     output: &mut [u8],
     length: &mut [u64; 1],
 ) -> u32
-    ensures { λ r. ⌜ Answers (λ answer. ListingConverted false (now (text .entry)) (now (output .entry)) answer (now (output .exit))) textView encodeLength (now (length .entry)) r (now (length .exit)) ⌝ }
+    ensures { λ r. ⌜ Answers (λ answer. ListingConverted false (now (text .entry)) (now (output .entry)) answer (now (output .exit))) textView encodeNumber (now (length .entry)) r (now (length .exit)) ⌝ }
 {
     let answer = listing_convert::to_numbered(text, output);
     store_length(answer, length)
@@ -153,7 +153,7 @@ pub extern "C" fn mouldgrey_from_numbered(
     output: &mut [u8],
     length: &mut [u64; 1],
 ) -> u32
-    ensures { λ r. ⌜ Answers (λ answer. ListingConverted true (now (text .entry)) (now (output .entry)) answer (now (output .exit))) textView encodeLength (now (length .entry)) r (now (length .exit)) ⌝ }
+    ensures { λ r. ⌜ Answers (λ answer. ListingConverted true (now (text .entry)) (now (output .entry)) answer (now (output .exit))) textView encodeNumber (now (length .entry)) r (now (length .exit)) ⌝ }
 {
     let answer = listing_convert::from_numbered(text, output);
     store_length(answer, length)

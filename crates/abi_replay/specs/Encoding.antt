@@ -1,13 +1,8 @@
--- The encoding of the result of a run of queries. Assumes nothing.
+-- The encoding of the result of a run of queries, which is never refused. Assumes nothing.
 use Prim.Native.Nat.{ℕ, min}
 use mathlib.Core.List.{List, [], _∷_}
-use Rattle.refusals.specs.Refusals.{Reply, accepted}
 use Rattle.replay_queries.specs.declared.RunAnswer.{RunAnswer}
 use Rattle.abi.specs.Encoding.{bit}
-
--- a run of queries is never refused
-abbrev pub runView : RunAnswer → Reply RunAnswer
-runView a = accepted a
 
 -- Whether the ids left are a range; its start and end; how many ids the list has; which list it is: 0 the whole starting list, 1
 -- the first lent list, 2 the second; whether an accepted query refined; how many queries were taken from the list, at most

@@ -1,6 +1,7 @@
 // The two lists of the order's term 3 as C functions: an opening with a list of calls, and a list of queries.
 ghost use mathlib.Core.Path.{_≡_};
 ghost use Prim.Native.Nat.{min};
+ghost use Rattle.refusals.specs.Refusals.{accepted};
 ghost use Rattle.offsets.specs.Answers.{subsetOf};
 ghost use Rattle.table.specs.Numbers.{tableView};
 ghost use Rattle.table.specs.Contracts.{body, compactionWords};
@@ -9,7 +10,7 @@ ghost use Rattle.replay.specs.Replays.{Replayed};
 ghost use Rattle.replay_queries.specs.Encoding.{queriesIn};
 ghost use Rattle.replay_run.specs.RunQueries.{RunMade};
 ghost use Rattle.abi.specs.Encoding.{decodeHeader, decodeOpening, openingGeneration, decodeSubset, encodeHeader, Stored, Answers};
-ghost use Rattle.abi_replay.specs.Encoding.{runView, encodeRun};
+ghost use Rattle.abi_replay.specs.Encoding.{encodeRun};
 use abi::decode_header;
 use abi::decode_subset;
 use abi::encode_bool;
@@ -68,7 +69,7 @@ fn count_word(n: usize) -> u32
 }
 
 fn store_run(l: RunAnswer, words: &mut [u32; 7]) -> u32
-    ensures { λ r. ⌜ Stored runView encodeRun l (now (words .entry)) r (now (words .exit)) ⌝ }
+    ensures { λ r. ⌜ Stored accepted encodeRun l (now (words .entry)) r (now (words .exit)) ⌝ }
 {
     *words = [
         encode_bool(l.dense),
@@ -96,7 +97,7 @@ pub extern "C" fn mouldgrey_run_queries(
     second: &mut [u32],
     answer: &mut [u32; 7],
 ) -> u32
-    ensures { λ r. ⌜ Answers (λ a. RunMade (decodeHeader (now (header .entry))) (now (rows .entry)) (now (sorts .entry)) (subsetOf (decodeSubset (now (subset .entry))) (now (ids .entry))) (now (ids .entry)) (queriesIn (now (queries .entry))) (now (first .entry)) (now (second .entry)) a (now (first .exit)) (now (second .exit))) runView encodeRun (now (answer .entry)) r (now (answer .exit)) ⌝ }
+    ensures { λ r. ⌜ Answers (λ a. RunMade (decodeHeader (now (header .entry))) (now (rows .entry)) (now (sorts .entry)) (subsetOf (decodeSubset (now (subset .entry))) (now (ids .entry))) (now (ids .entry)) (queriesIn (now (queries .entry))) (now (first .entry)) (now (second .entry)) a (now (first .exit)) (now (second .exit))) accepted encodeRun (now (answer .entry)) r (now (answer .exit)) ⌝ }
 {
     let h = decode_header(header);
     let start = decode_subset(subset);

@@ -1,4 +1,4 @@
--- The encoding of the answers on short histories. Assumes nothing.
+-- The encoding of the steps of short histories. Assumes nothing.
 use Prim.Native.Nat.{ℕ}
 use mathlib.Core.List.{List, [], _∷_}
 use lib.ListN.{getD}
@@ -15,6 +15,3 @@ encodeCall compacting = []
 encodeCall clearing = []
 encodeCall (refreshing r index) = []
 encodeCall (feeding rs) = []
-
-unfoldable pub encodeNumber : ℕ → List ℕ
-encodeNumber n = n ∷ []

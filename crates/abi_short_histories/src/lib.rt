@@ -1,7 +1,7 @@
 // All short histories as C functions.
 ghost use Rattle.short_histories.specs.Sequences.{stepView, positionView, sequenceView, StepAnswered, PositionAnswered, SequenceFound, NextFound};
-ghost use Rattle.abi.specs.Encoding.{encodeOption, Stored, Answers};
-ghost use Rattle.abi_short_histories.specs.Encoding.{encodeCall, encodeNumber};
+ghost use Rattle.abi.specs.Encoding.{encodeNumber, encodeOption, Stored, Answers};
+ghost use Rattle.abi_short_histories.specs.Encoding.{encodeCall};
 use refusals::ACCEPTED;
 use short_histories::PositionAnswer;
 use short_histories::SequenceAnswer;

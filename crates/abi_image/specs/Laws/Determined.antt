@@ -11,18 +11,17 @@ use Rattle.image_spec.specs.Contracts.{lengthView, ImageSized, ImageWritten, Im
 use Rattle.image_write.specs.Laws.Determined.{sized-determined, written-determined}
 use Rattle.image_check.specs.Laws.Determined.{image-checked-determined}
 use Rattle.image_read.specs.Laws.Determined.{SameRead, image-read-determined, text-read-determined}
-use Rattle.abi.specs.Encoding.{encodeHeader, Answers}
+use Rattle.abi.specs.Encoding.{encodeHeader, encodeNumber, Answers}
 use Rattle.abi.specs.Laws.Determined.{SameOutcome, answers-determined}
-use Rattle.abi_image.specs.Encoding.{encodeLength}
 
 module _ {words words₁ words₂ : List ℕ} {r₁ r₂ : ℕ} where
-  pub size-determined : (h : Header) (text : ℕ) → Answers (λ a. ImageSized h text a) lengthView encodeLength words r₁ words₁
-      → Answers (λ a. ImageSized h text a) lengthView encodeLength words r₂ words₂ → SameOutcome lengthView (λ x y. x ≡ y) r₁ r₂ words₁ words₂
+  pub size-determined : (h : Header) (text : ℕ) → Answers (λ a. ImageSized h text a) lengthView encodeNumber words r₁ words₁
+      → Answers (λ a. ImageSized h text a) lengthView encodeNumber words r₂ words₂ → SameOutcome lengthView (λ x y. x ≡ y) r₁ r₂ words₁ words₂
   size-determined h text = answers-determined (λ x y. sized-determined)
 
   pub write-determined : (h : Header) (rows sorts pending text image image₁ image₂ : List ℕ)
-      → Answers (λ a. ImageWritten h rows sorts pending text image a image₁) lengthView encodeLength words r₁ words₁
-      → Answers (λ a. ImageWritten h rows sorts pending text image a image₂) lengthView encodeLength words r₂ words₂
+      → Answers (λ a. ImageWritten h rows sorts pending text image a image₁) lengthView encodeNumber words r₁ words₁
+      → Answers (λ a. ImageWritten h rows sorts pending text image a image₂) lengthView encodeNumber words r₂ words₂
       → SameOutcome lengthView (λ x y. Same x y image₁ image₂) r₁ r₂ words₁ words₂
   write-determined h rows sorts pending text image image₁ image₂ = answers-determined (λ x y. written-determined)
 
@@ -38,6 +37,6 @@ module _ {words words₁ words₂ : List ℕ} {r₁ r₂ : ℕ} where
   read-determined image capacity b pending b₁ b₂ pending₁ pending₂ =
       answers-determined (λ x y. image-read-determined image capacity b pending x b₁ pending₁ y b₂ pending₂)
 
-  pub read-text-determined : (image text text₁ text₂ : List ℕ) → Answers (λ a. TextRead image text a text₁) lengthView encodeLength words r₁ words₁
-      → Answers (λ a. TextRead image text a text₂) lengthView encodeLength words r₂ words₂ → SameOutcome lengthView (λ x y. Same x y text₁ text₂) r₁ r₂ words₁ words₂
+  pub read-text-determined : (image text text₁ text₂ : List ℕ) → Answers (λ a. TextRead image text a text₁) lengthView encodeNumber words r₁ words₁
+      → Answers (λ a. TextRead image text a text₂) lengthView encodeNumber words r₂ words₂ → SameOutcome lengthView (λ x y. Same x y text₁ text₂) r₁ r₂ words₁ words₂
   read-text-determined image text text₁ text₂ = answers-determined (λ x y. text-read-determined)

@@ -1,15 +1,14 @@
 -- `abi_listing::store_length` meets its contract. Assumes nothing.
 use mathlib.Core.Path.{refl}
 use Rattle.listing_spec.specs.Listings.{textView}
-use Rattle.abi.specs.Encoding.{returned, stored}
+use Rattle.abi.specs.Encoding.{encodeNumber, returned, stored}
 use Rattle.abi.specs.Laws.Encoding.{stored-as}
-use Rattle.abi_listing.specs.Encoding.{encodeLength}
 use borrow.Author.Needs.{needs}
 use Rattle.abi_listing.proofs.store_length.Statement.{statement}
 use Rattle.abi_listing.proofs.store_length.Tie as tie
 
 pub store-length-spec : {M : Type 1} → statement M
-unfolding textView encodeLength returned stored
+unfolding textView encodeNumber returned stored
 store-length-spec =
     tie.close
     (tie.spec

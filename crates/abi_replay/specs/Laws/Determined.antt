@@ -6,6 +6,7 @@ use mathlib.Core.Bool.{true, false}
 use mathlib.Core.Logic.{_⊎_}
 use mathlib.Core.List.{List}
 use Rattle.lists.specs.Lists.{any}
+use Rattle.refusals.specs.Refusals.{accepted}
 use Rattle.offsets.specs.Subsets.{Subset}
 use Rattle.table.specs.declared.Header.{Header}
 use Rattle.table.specs.declared.TableAnswer.{TableAnswer}
@@ -21,7 +22,7 @@ use Rattle.replay_run.specs.RunQueries.{RunMade}
 use Rattle.replay_run.specs.Laws.Determined.{RunLeft, SameRun, run-made-determined}
 use Rattle.abi.specs.Encoding.{decodeOpening, openingGeneration, encodeHeader, Answers}
 use Rattle.abi.specs.Laws.Determined.{SameOutcome, answers-determined}
-use Rattle.abi_replay.specs.Encoding.{runView, encodeRun}
+use Rattle.abi_replay.specs.Encoding.{encodeRun}
 
 abbrev replayLeft : TableAnswer → Body → List ℕ → CompactionWords → List ℕ → ReplayLeft
 replayLeft answer b pending w index = record { answer = answer; body = b; pending = pending; words = w; index = index }
@@ -44,9 +45,9 @@ module _ (opening : List ℕ) (requests : List Request) (b : Body) (pending : Li
 module _ (h : Header) (rows sorts : List ℕ) (start : Subset) (ids : List ℕ) (queries : List Query) (first second : List ℕ) where
   abbrev Runs : List ℕ → ℕ → List ℕ → List ℕ → List ℕ → Type 0
   Runs words r words′ first′ second′ =
-      Answers (λ a. RunMade h rows sorts start ids queries first second a first′ second′) runView encodeRun words r words′
+      Answers (λ a. RunMade h rows sorts start ids queries first second a first′ second′) accepted encodeRun words r words′
 
   pub run-queries-determined : {words words₁ words₂ : List ℕ} {r₁ r₂ : ℕ} (first₁ second₁ first₂ second₂ : List ℕ) → Runs words r₁ words₁ first₁ second₁ → Runs words r₂ words₂ first₂ second₂
-      → SameOutcome runView (λ x y. SameRun h rows sorts start ids queries first second (runLeft x first₁ second₁) (runLeft y first₂ second₂)) r₁ r₂ words₁ words₂
+      → SameOutcome accepted (λ x y. SameRun h rows sorts start ids queries first second (runLeft x first₁ second₁) (runLeft y first₂ second₂)) r₁ r₂ words₁ words₂
   run-queries-determined first₁ second₁ first₂ second₂ =
       answers-determined (λ x y. run-made-determined h rows sorts start ids queries first second (runLeft x first₁ second₁) (runLeft y first₂ second₂))

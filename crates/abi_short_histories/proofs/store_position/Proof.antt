@@ -1,9 +1,8 @@
 -- `abi_short_histories::store_position` meets its contract. Assumes nothing.
 use mathlib.Core.Path.{refl}
 use Rattle.short_histories.specs.Sequences.{positionView}
-use Rattle.abi.specs.Encoding.{returned, stored}
+use Rattle.abi.specs.Encoding.{encodeNumber, returned, stored}
 use Rattle.abi.specs.Laws.Encoding.{stored-as}
-use Rattle.abi_short_histories.specs.Encoding.{encodeNumber}
 use borrow.Author.Needs.{needs}
 use Rattle.abi_short_histories.proofs.store_position.Statement.{statement}
 use Rattle.abi_short_histories.proofs.store_position.Tie as tie

@@ -7,9 +7,9 @@ use mathlib.Core.List.{List}
 use Rattle.refusals.specs.Laws.Determined.{Same}
 use Rattle.short_histories.specs.Sequences.{stepView, positionView, sequenceView, StepAnswered, PositionAnswered, SequenceAnswered}
 use Rattle.short_histories.specs.Laws.Determined as library
-use Rattle.abi.specs.Encoding.{encodeOption, Answers}
+use Rattle.abi.specs.Encoding.{encodeNumber, encodeOption, Answers}
 use Rattle.abi.specs.Laws.Determined.{SameOutcome, answers-determined}
-use Rattle.abi_short_histories.specs.Encoding.{encodeCall, encodeNumber}
+use Rattle.abi_short_histories.specs.Encoding.{encodeCall}
 
 module _ {words words₁ words₂ : List ℕ} {r₁ r₂ : ℕ} where
   pub step-at-determined : (step : ℕ) → Answers (StepAnswered step) stepView encodeCall words r₁ words₁ → Answers (StepAnswered step) stepView encodeCall words r₂ words₂
