@@ -31,14 +31,18 @@ refines (refineList cs) = true
 refines (intersectWith b) = false
 refines (intersectRange c) = false
 
--- a refused query leaves the ids unchanged and counts for nothing
-unfoldable pub subsetAfter : Subset → Reply Subset → Subset
-subsetAfter before (refused n) = before
-subsetAfter before (accepted subset) = subset
+-- the ids left, and the queries that were accepted
+pub record Outcome : Type 0 where
+  pub ids : Subset
+  pub accepted : List Query
 
-unfoldable pub countedQueries : Query → Reply Subset → List Query
-countedQueries q (refused n) = []
-countedQueries q (accepted subset) = q ∷ []
+abbrev pub outcome : Subset → List Query → Outcome
+outcome ids counted = record { ids = ids; accepted = counted }
+
+-- the result of a query, by its reply: a refused one leaves the ids unchanged and counts for nothing
+unfoldable pub byReply : Subset → Query → Reply Subset → Outcome
+byReply a q (refused n) = outcome a []
+byReply a q (accepted subset) = outcome subset (q ∷ [])
 
 -- `intersect` takes the two subsets in either order
 abbrev pub Intersected : Subset → Subset → List ℕ → SubsetAnswer → List ℕ → Type 0
@@ -46,29 +50,29 @@ Intersected a b output answer output′ =
     Answered (intersectReply a b (length output)) output answer output′
     ⊎ Answered (intersectReply b a (length output)) output answer output′
 
--- One query on a table, on the current ids: the ids after it, and the query itself if it counts. Each query has its own output and
--- is lent the first `lent` cells of a store, or all of them if it has no more. So a query may be refused for a store of which the
--- next one is lent more. "where [the fast range] is *none*, the step and its condition count for nothing", as if it is refused
-pub data Queried (s : Stores) (a : Subset) : Query → Subset → List Query → Type 0 where
+-- One query on a table, on the current ids. Each query has its own output and is lent the first `lent` cells of a store, or all of them
+-- if it has no more. So a query may be refused for a store of which the next one is lent more. "where [the fast range] is *none*, the
+-- step and its condition count for nothing", as if it is refused
+pub data Queried (s : Stores) (a : Subset) : Query → Outcome → Type 0 where
   one-refined : (c : Constraint) (lent : ℕ) (output output′ : List ℕ) (answer : SubsetAnswer)
       → RefinedOne (s .header) (take lent (s .rows)) a c output answer output′
-      → Queried s a (refineOne c) (subsetAfter a (subsetView answer output′)) (countedQueries (refineOne c) (subsetView answer output′))
+      → Queried s a (refineOne c) (byReply a (refineOne c) (subsetView answer output′))
   list-refined : (cs : List Constraint) (lent : ℕ) (output output′ : List ℕ) (answer : SubsetAnswer)
       → RefinedList (s .header) (take lent (s .rows)) a cs output answer output′
-      → Queried s a (refineList cs) (subsetAfter a (subsetView answer output′)) (countedQueries (refineList cs) (subsetView answer output′))
+      → Queried s a (refineList cs) (byReply a (refineList cs) (subsetView answer output′))
   intersected : (b : Subset) (output output′ : List ℕ) (answer : SubsetAnswer) → Intersected a b output answer output′
-      → Queried s a (intersectWith b) (subsetAfter a (subsetView answer output′)) (countedQueries (intersectWith b) (subsetView answer output′))
+      → Queried s a (intersectWith b) (byReply a (intersectWith b) (subsetView answer output′))
   range-intersected : (b : Subset) (c : Constraint) (lent : ℕ) (range : RangeAnswer) (output output′ : List ℕ) (answer : SubsetAnswer)
       → RangeRead (s .header) (take lent (s .sorts)) c range → rangeView range ≡ accepted (some b)
       → Intersected a b output answer output′
-      → Queried s a (intersectRange c) (subsetAfter a (subsetView answer output′)) (countedQueries (intersectRange c) (subsetView answer output′))
+      → Queried s a (intersectRange c) (byReply a (intersectRange c) (subsetView answer output′))
   range-nothing : (c : Constraint) (lent : ℕ) (range : RangeAnswer)
       → RangeRead (s .header) (take lent (s .sorts)) c range → ((b : Subset) → rangeView range ≡ accepted (some b) → ⊥)
-      → Queried s a (intersectRange c) a []
+      → Queried s a (intersectRange c) (outcome a [])
 
 -- The queries in order, and those that were accepted. Each query may take any subset with the current ids, a range or a list: a
 -- caller may copy the ids from one form into the other.
 pub data Run (s : Stores) : Subset → List Query → Subset → List Query → Type 0 where
   end : (a : Subset) → Run s a [] a []
-  next : {a b b′ c : Subset} {q : Query} {qs counted rest : List Query}
-      → Queried s a q b counted → members b′ ≡ members b → Run s b′ qs c rest → Run s a (q ∷ qs) c (counted ++ rest)
+  next : {a b c : Subset} {q : Query} {o : Outcome} {qs rest : List Query}
+      → Queried s a q o → members b ≡ members (o .ids) → Run s b qs c rest → Run s a (q ∷ qs) c (o .accepted ++ rest)

@@ -16,7 +16,7 @@ use Rattle.table.specs.declared.RangeAnswer.{RangeAnswer}
 use Rattle.table.specs.Numbers.{rangeView}
 use Rattle.table.specs.Contracts.{RangeRead}
 use Rattle.query_spec.specs.Queries.{refineOneReply, refineListReply}
-use Rattle.history.specs.Runs.{Query, refineOne, refineList, intersectWith, intersectRange, subsetAfter, countedQueries}
+use Rattle.history.specs.Runs.{Query, refineOne, refineList, intersectWith, intersectRange, Outcome, outcome, byReply}
 use Rattle.replay_queries.specs.declared.RunAnswer.{RunAnswer}
 
 -- the first ids of the list of a place: 1 and 2 are the two lent lists; any other place is the whole starting list
@@ -28,21 +28,9 @@ unfoldable pub subsetLeft : RunAnswer → List ℕ → List ℕ → List ℕ →
 subsetLeft l ids first second =
     subsetOf (record { dense = l .dense; start = l .start; end = l .end }) (idsAt (l .place) (l .count) ids first second)
 
--- the ids left, and the queries that were accepted
-pub record Outcome : Type 0 where
-  pub ids : Subset
-  pub accepted : List Query
-
-abbrev pub outcome : Subset → List Query → Outcome
-outcome ids counted = record { ids = ids; accepted = counted }
-
 -- the result of queries after others that were accepted
 abbrev pub behind : List Query → Outcome → Outcome
 behind before o = outcome (o .ids) (before ++ o .accepted)
-
--- the result of a query, by its reply
-abbrev pub byReply : Subset → Query → Reply Subset → Outcome
-byReply a q r = outcome (subsetAfter a r) (countedQueries q r)
 
 -- a range step, by the fast range: without one, it has no effect
 unfoldable pub rangeStep : Subset → Constraint → ℕ → Reply (Option Subset) → Outcome

@@ -11,11 +11,11 @@ use Rattle.replay_frames.specs.Laws.Frames.{framed-end, framed-next}
 use Rattle.offsets.specs.declared.SubsetHead.{SubsetHead}
 use Rattle.offsets.specs.Answers.{subsetOf}
 use Rattle.table.specs.declared.Header.{Header}
-use Rattle.history.specs.Runs.{Query, refines}
+use Rattle.history.specs.Runs.{Query, refines, Outcome, outcome}
 use Rattle.history.specs.Laws.Narrowing.{or-assoc, or-false, any-both}
 use Rattle.replay_queries.specs.declared.RunAnswer.{RunAnswer}
 use Rattle.replay_queries.specs.Encoding.{queryOf, queriesIn}
-use Rattle.replay_queries.specs.Outcomes.{idsAt, subsetLeft, Outcome, outcome, behind, QueriedAll, end}
+use Rattle.replay_queries.specs.Outcomes.{idsAt, subsetLeft, behind, QueriedAll, end}
 use Rattle.replay_run.specs.RunQueries.{shorter, RunMade}
 use Rattle.replay_run.specs.inner.Executing.{QueriesExecuted, QueryExecuted}
 use Rattle.replay_run.specs.Laws.Executing.{queried-then}

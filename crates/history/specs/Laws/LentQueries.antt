@@ -28,7 +28,7 @@ use Rattle.table.specs.Laws.Refusals.{outside-inside}
 use Rattle.table.specs.Laws.Shown.{represents-inside}
 use Rattle.query_spec.specs.Queries.{matches, pastRows, queryChecks, refineRefusal, refineOneReply}
 use Rattle.history.specs.Histories.{end as no-calls, History}
-use Rattle.history.specs.Runs.{refineOne, refines, subsetAfter, countedQueries, Queried, one-refined, Run, end, next}
+use Rattle.history.specs.Runs.{refineOne, refines, byReply, Queried, one-refined, Run, end, next}
 use Rattle.history.specs.Claim.{wanted}
 use Rattle.history.specs.Laws.Calls.{history-represents}
 use Rattle.history.specs.Laws.Queries.{by-reply}
@@ -59,7 +59,7 @@ module _ {p : Plain} {s : Stores} (r : Represents p s) where
 
 -- a refine with a given reply
 queried-by : (s : Stores) (lent : ℕ) (a : Subset) (c : Constraint) (output : List ℕ) (r : Reply Subset) → replied s lent a c (length output) ≡ r
-    → Queried s a (refineOne c) (subsetAfter a r) (countedQueries (refineOne c) r)
+    → Queried s a (refineOne c) (byReply a (refineOne c) r)
 queried-by s lent a c output r e =
     by-reply a (refineOne c) r output (λ output′ answer m. one-refined c lent output output′ answer (record { answered = rw e m }))
 
@@ -67,7 +67,7 @@ queried-by s lent a c output r e =
 module _ {p : Plain} {s : Stores} (r : Represents p s) (a v b w : Subset) (c : Constraint) (output : List ℕ) (one : replied s (needed s) a c (length output) ≡ accepted v) (same : members b ≡ members v)
     (three : replied s (needed s) b c (length output) ≡ accepted w) where
   pub short-between : Run s a (refineOne c ∷ refineOne c ∷ refineOne c ∷ []) w (refineOne c ∷ refineOne c ∷ [])
-  unfolding subsetAfter countedQueries
+  unfolding byReply
   short-between =
       next (queried-by s (needed s) a c output (accepted v) one) same
       (next (queried-by s (needed s - 1) b c output (refused 2) (refused-by-2 r b c (length output))) refl

@@ -37,7 +37,7 @@ use Rattle.table.specs.Laws.Sound.{represents-sound}
 use Rattle.table.specs.Laws.Refusals.{outside-inside, rows-long-of, fast-accepted}
 use Rattle.table.specs.Laws.Replies.{outcome-accepted, accepted-number, accepted-same}
 use Rattle.query_spec.specs.Queries.{matches, pastRows, queryChecks, refineRefusal, refineOneReply, refineListReply}
-use Rattle.history.specs.Runs.{Query, refines, subsetAfter, countedQueries, Intersected, Queried, one-refined, list-refined, intersected, range-intersected, range-nothing}
+use Rattle.history.specs.Runs.{Query, refines, Outcome, byReply, Intersected, Queried, one-refined, list-refined, intersected, range-intersected, range-nothing}
 use Rattle.history.specs.Claim.{satisfies}
 use Rattle.history.specs.Laws.Narrowing.{alive, alive-of, alive-below, alive-live, Narrows, narrows-not, narrows-filter}
 
@@ -45,15 +45,15 @@ use Rattle.history.specs.Laws.Narrowing.{alive, alive-of, alive-below, a
 
 -- a refused query leaves the ids and counts for nothing, an accepted one narrows them to its value
 replied-narrows : {s : Stores} {q : Query} (a : Subset) (r : Reply Subset) → ((v : Subset) → r ≡ accepted v → Narrows s (members a) (members v) (q ∷ []))
-    → Narrows s (members a) (members (subsetAfter a r)) (countedQueries q r)
-unfolding subsetAfter countedQueries
+    → Narrows s (members a) (members (byReply a q r .ids)) (byReply a q r .accepted)
+unfolding byReply
 replied-narrows {s} a (refused n) f = narrows-not s (members a)
 replied-narrows a (accepted v) f = f v refl
 
 -- the ids that a query leaves are those of its reply, whatever its output holds
 pub by-reply : {s : Stores} (a : Subset) (q : Query) (r : Reply Subset) (output : List ℕ)
-    → ((output′ : List ℕ) (answer : SubsetAnswer) → Answered r output answer output′ → Queried s a q (subsetAfter a (subsetView answer output′)) (countedQueries q (subsetView answer output′)))
-    → Queried s a q (subsetAfter a r) (countedQueries q r)
+    → ((output′ : List ℕ) (answer : SubsetAnswer) → Answered r output answer output′ → Queried s a q (byReply a q (subsetView answer output′)))
+    → Queried s a q (byReply a q r)
 by-reply a q r output f = let t = answer-to r output in rw (t .1 .answers) at (f _ (t .0) (t .1))
 
 -- ---- refining
@@ -128,7 +128,7 @@ refined-fit a output m test v is =
 -- intersecting leaves the ids that both subsets have, whichever comes first
 intersected-narrows : {s : Stores} {q : Query} (a b : Subset) (output : List ℕ) (answer : SubsetAnswer) (output′ : List ℕ) → Intersected a b output answer output′
     → ((v : Subset) → rising (members a) ≡ true → members v ≡ filter (λ id. elem id (members b)) (members a) → Narrows s (members a) (members v) (q ∷ []))
-    → Narrows s (members a) (members (subsetAfter a (subsetView answer output′))) (countedQueries q (subsetView answer output′))
+    → Narrows s (members a) (members (byReply a q (subsetView answer output′) .ids)) (byReply a q (subsetView answer output′) .accepted)
 intersected-narrows a b output answer output′ (inl m) f =
     replied-narrows a (subsetView answer output′)
     (λ v e.
@@ -202,7 +202,7 @@ module _ {p : Plain} {s : Stores} (r : Represents p s) (c : Constraint) (lent : 
 -- ---- the queries
 
 module _ {p : Plain} {s : Stores} (r : Represents p s) where
-  pub queried-narrows : {a b : Subset} {q : Query} {counted : List Query} → Queried s a q b counted → Narrows s (members a) (members b) counted
+  pub queried-narrows : {a : Subset} {q : Query} {o : Outcome} → Queried s a q o → Narrows s (members a) (members (o .ids)) (o .accepted)
   unfolding refineOneReply refineListReply satisfies refines
   queried-narrows {a = a} (one-refined c lent output output′ answer m) =
       let rows = take lent (s .rows) in

@@ -21,11 +21,11 @@ use Rattle.table.specs.declared.RangeAnswer.the-variants.{None as NoRange}
 use Rattle.table.specs.Numbers.{rangeView}
 use Rattle.table.specs.Contracts.{RangeRead}
 use Rattle.query_spec.specs.Queries.{matches, refineOneReply, refineListReply, RefinedOne, RefinedList}
-use Rattle.history.specs.Runs.{Query, refineOne, refineList, intersectWith, intersectRange, refines, subsetAfter, countedQueries}
+use Rattle.history.specs.Runs.{Query, refineOne, refineList, intersectWith, intersectRange, refines, Outcome, outcome, byReply}
 use Rattle.history.specs.Laws.Narrowing.{or-false}
 use Rattle.history.specs.Laws.Queries.{refinable, refined-fit}
 use Rattle.replay_queries.specs.declared.RunAnswer.{RunAnswer}
-use Rattle.replay_queries.specs.Outcomes.{idsAt, subsetLeft, Outcome, outcome, behind, byReply, rangeStep, queried, QueriedAll, end, next}
+use Rattle.replay_queries.specs.Outcomes.{idsAt, subsetLeft, behind, rangeStep, queried, QueriedAll, end, next}
 use Rattle.replay_queries.specs.inner.Executing.{counted, applyAnswer, Executed}
 
 -- ---- the ids left by an answer
@@ -37,12 +37,12 @@ swapped false true = refl
 swapped false false = refl
 
 -- an accepted answer refines if its query does; a refused one does not
-left-refined : (l : RunAnswer) (place : ℕ) (answer : SubsetAnswer) (output : List ℕ) (q : Query)
-    → applyAnswer l place (refines q) answer .refined ≡ (l .refined || any refines (countedQueries q (subsetView answer output) ++ []))
-unfolding applyAnswer countedQueries any
-left-refined l place (Refused n) output q = rw (read-refused output n) (sym (or-false (l .refined)))
-left-refined l place (Range from to) output q = rw (read-range output from to) (swapped (refines q) (l .refined))
-left-refined l place (Ids n) output q = rw (read-list output n) (swapped (refines q) (l .refined))
+left-refined : (l : RunAnswer) (a : Subset) (place : ℕ) (answer : SubsetAnswer) (output : List ℕ) (q : Query)
+    → applyAnswer l place (refines q) answer .refined ≡ (l .refined || any refines (byReply a q (subsetView answer output) .accepted ++ []))
+unfolding applyAnswer byReply any
+left-refined l a place (Refused n) output q = rw (read-refused output n) (sym (or-false (l .refined)))
+left-refined l a place (Range from to) output q = rw (read-range output from to) (swapped (refines q) (l .refined))
+left-refined l a place (Ids n) output q = rw (read-list output n) (swapped (refines q) (l .refined))
 
 left-taken : (l : RunAnswer) (place : ℕ) (refines : Bool) (answer : SubsetAnswer) → applyAnswer l place refines answer .taken ≡ l .taken + 1
 unfolding applyAnswer
@@ -57,13 +57,13 @@ left-fits l place refines (Refused n) room fits held = held
 left-fits l place refines (Range from to) room fits held = omega arith
 left-fits l place refines (Ids n) room fits held = fits n refl
 
-left-there : (l : RunAnswer) (a : Subset) (place : ℕ) (refines : Bool) (answer : SubsetAnswer) (output given first second : List ℕ)
+left-there : (l : RunAnswer) (a : Subset) (q : Query) (place : ℕ) (refines : Bool) (answer : SubsetAnswer) (output given first second : List ℕ)
     → ((n : ℕ) → idsAt place n given first second ≡ take n output) → subsetLeft l given first second ≡ a
-    → subsetLeft (applyAnswer l place refines answer) given first second ≡ subsetAfter a (subsetView answer output)
-unfolding subsetLeft applyAnswer subsetAfter
-left-there l a place refines (Refused n) output given first second there e = rw (read-refused output n) e
-left-there l a place refines (Range from to) output given first second there e = rw (read-range output from to) (dense-is _ _ refl)
-left-there l a place refines (Ids n) output given first second there e = rw (read-list output n) (sparse-is _ _ refl ∙ ap list (there n))
+    → subsetLeft (applyAnswer l place refines answer) given first second ≡ byReply a q (subsetView answer output) .ids
+unfolding subsetLeft applyAnswer byReply
+left-there l a q place refines (Refused n) output given first second there e = rw (read-refused output n) e
+left-there l a q place refines (Range from to) output given first second there e = rw (read-range output from to) (dense-is _ _ refl)
+left-there l a q place refines (Ids n) output given first second there e = rw (read-list output n) (sparse-is _ _ refl ∙ ap list (there n))
 
 -- ---- a query that is answered
 
@@ -126,14 +126,14 @@ module _ {h : Header} {rows sorts : List ℕ} {a : Subset} {queries : List Query
         → Executed h rows sorts a queries l place output l′ output′
     put-replied q r range e m same read known =
         record {
-          ids = subsetAfter a (subsetView answer output′);
-          accepted = countedQueries q (subsetView answer output′) ++ [];
+          ids = byReply a q (subsetView answer output′) .ids;
+          accepted = byReply a q (subsetView answer output′) .accepted ++ [];
           queried = queried-one (length output) a q range (byReply a q (subsetView answer output′)) e read (rw (m .is) known);
-          refined-is = rw same (left-refined l place answer output′ q);
+          refined-is = rw same (left-refined l a place answer output′ q);
           taken = rw (same, e) (left-taken l place (refines q) answer);
           few = rw same (omega (arith, left-taken l place (refines q) answer));
           fits = λ held. rw same (left-fits l place (refines q) answer (length output) (m .fits) held);
-          there = λ given first second here is. rw same (left-there l a place (refines q) answer output′ given first second here is);
+          there = λ given first second here is. rw same (left-there l a q place (refines q) answer output′ given first second here is);
         }
 
     pub put-refined : {c : Constraint} → queries ≡ refineOne c ∷ [] → RefinedOne h rows a c output answer output′ → l′ ≡ applyAnswer l place true answer

@@ -10,10 +10,10 @@ use Rattle.offsets.specs.declared.SubsetAnswer.the-variants.{Refused, Range, Li
 use Rattle.offsets.specs.Subsets.{Subset}
 use Rattle.constraints.specs.declared.Constraint.{Constraint}
 use Rattle.table.specs.declared.Header.{Header}
-use Rattle.history.specs.Runs.{Query, intersectRange, refines}
+use Rattle.history.specs.Runs.{Query, intersectRange, refines, outcome}
 use Rattle.replay_queries.specs.declared.RunAnswer.{RunAnswer}
 use Rattle.replay_queries.specs.Encoding.{listOf}
-use Rattle.replay_queries.specs.Outcomes.{outcome, QueriedAll, idsAt, subsetLeft}
+use Rattle.replay_queries.specs.Outcomes.{QueriedAll, idsAt, subsetLeft}
 
 -- one more query, which has no effect
 abbrev pub counted : RunAnswer → RunAnswer

@@ -24,12 +24,12 @@ use Rattle.table.specs.Refusing.{fastRefusal}
 use Rattle.table.specs.Contracts.{Stores, stores, fastSubset, RangeRead}
 use Rattle.table.specs.Laws.Replies.{reply-refused, reply-accepted}
 use Rattle.history.specs.Histories.{History}
-use Rattle.history.specs.Runs.{Query, refineOne, refineList, intersectWith, intersectRange, Queried, one-refined, list-refined, intersected, range-intersected, range-nothing, Run, end as run-end, next as run-next}
+use Rattle.history.specs.Runs.{Query, refineOne, refineList, intersectWith, intersectRange, Queried, one-refined, list-refined, intersected, range-intersected, range-nothing, Run, end as run-end, next as run-next, Outcome, outcome}
 use Rattle.history.specs.Claim.{wanted}
 use Rattle.history.specs.Laws.Queries.{by-reply}
 use Rattle.history.specs.Laws.Theorem.{term-three}
 use Rattle.replay_queries.specs.declared.RunAnswer.{RunAnswer}
-use Rattle.replay_queries.specs.Outcomes.{subsetLeft, Outcome, outcome, rangeStep, queried, QueriedAll, end, next}
+use Rattle.replay_queries.specs.Outcomes.{subsetLeft, rangeStep, queried, QueriedAll, end, next}
 use Rattle.replay_run.specs.RunQueries.{shorter, RunMade}
 
 -- ---- a run
@@ -46,7 +46,7 @@ module _ (h : Header) (rows keys sorts pending : List ℕ) (room : ℕ) where
   long = length-replicate room 0
 
   range-queried : (a : Subset) (c : Constraint) (range : RangeAnswer) (found : Reply (Option Subset)) → RangeRead h sorts c range → rangeView range ≡ found
-      → Queried table a (intersectRange c) (rangeStep a c room found .ids) (rangeStep a c room found .accepted)
+      → Queried table a (intersectRange c) (rangeStep a c room found)
   unfolding rangeStep
   range-queried a c range (refused n) read e =
       range-nothing c (length sorts) range (rw (take-length sorts) read) (λ b f. absurd (let z : _≡_ {A = ℕ} 0 1 = cc in omega arith))
@@ -57,7 +57,7 @@ module _ (h : Header) (rows keys sorts pending : List ℕ) (room : ℕ) where
 
   -- each query is lent both whole stores
   one-queried : (a : Subset) (q : Query) (range : RangeAnswer) → ((c : Constraint) → q ≡ intersectRange c → RangeRead h sorts c range)
-      → Queried table a q (queried h rows room a q (rangeView range) .ids) (queried h rows room a q (rangeView range) .accepted)
+      → Queried table a q (queried h rows room a q (rangeView range))
   unfolding queried
   one-queried a (refineOne c) range read =
       by-reply a (refineOne c) _ output (λ output′ answer m. one-refined c (length rows) output output′ answer (record { answered = rw (take-length rows, long) m }))

@@ -10,9 +10,9 @@ use Rattle.lists.specs.Lists.{any}
 use Rattle.offsets.specs.Subsets.{Subset}
 use Rattle.sort_entries.specs.Entries.{entriesOf, entriesSound}
 use Rattle.table.specs.declared.Header.{Header}
-use Rattle.history.specs.Runs.{Query, refines}
+use Rattle.history.specs.Runs.{Query, refines, Outcome}
 use Rattle.replay_queries.specs.declared.RunAnswer.{RunAnswer}
-use Rattle.replay_queries.specs.Outcomes.{subsetLeft, Outcome}
+use Rattle.replay_queries.specs.Outcomes.{subsetLeft}
 use Rattle.replay_run.specs.RunQueries.{shorter, RunMade}
 use Rattle.replay_run.specs.Laws.Claimed.{made-leaves}
 

@@ -8,9 +8,9 @@ use Rattle.offsets.specs.declared.SubsetHead.{SubsetHead}
 use Rattle.offsets.specs.Subsets.{Subset}
 use Rattle.offsets.specs.Answers.{subsetOf}
 use Rattle.table.specs.declared.Header.{Header}
-use Rattle.history.specs.Runs.{Query}
+use Rattle.history.specs.Runs.{Query, Outcome}
 use Rattle.replay_queries.specs.declared.RunAnswer.{RunAnswer}
-use Rattle.replay_queries.specs.Outcomes.{idsAt, subsetLeft, Outcome, behind, QueriedAll, end, next}
+use Rattle.replay_queries.specs.Outcomes.{idsAt, subsetLeft, behind, QueriedAll, end, next}
 use Rattle.replay_queries.specs.inner.Executing.{Executed}
 use Rattle.replay_run.specs.inner.Executing.{QueryExecuted}
 

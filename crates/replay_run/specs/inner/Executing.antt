@@ -6,9 +6,9 @@ use mathlib.Core.List.{List}
 use lib.ListN.{length}
 use Rattle.lists.specs.Lists.{any}
 use Rattle.table.specs.declared.Header.{Header}
-use Rattle.history.specs.Runs.{Query, refines}
+use Rattle.history.specs.Runs.{Query, refines, outcome}
 use Rattle.replay_queries.specs.declared.RunAnswer.{RunAnswer}
-use Rattle.replay_queries.specs.Outcomes.{subsetLeft, outcome, QueriedAll}
+use Rattle.replay_queries.specs.Outcomes.{subsetLeft, QueriedAll}
 
 module _ (h : Header) (rows sorts ids : List ℕ) (queries : List Query) (l : RunAnswer) (first second : List ℕ) (l′ : RunAnswer) (first′ second′ : List ℕ) where
   pub record QueriesExecuted : Type 0 where
