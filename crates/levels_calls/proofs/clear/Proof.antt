@@ -4,10 +4,9 @@ use borrow.Author.Needs.{needs}
 use Rattle.levels_calls.proofs.clear.Statement.{statement}
 use Rattle.levels_calls.proofs.clear.Tie as tie
 
-returns : tie.Need-returns
-returns c = clear-served (c .taken .ensures) (c .before .before .before .clear .ensures)
-
 pub clear-spec : {M : Type 1} → statement M
 clear-spec =
     tie.close
-    (tie.spec (λ c κs. search needs) (λ c κs. search needs) (λ c. search needs) returns)
+    (tie.spec
+    (λ c κs. search needs) (λ c κs. search needs) (λ c. search needs)
+    (λ c. clear-served (c .taken .ensures) (c .before .before .before .clear .ensures)))

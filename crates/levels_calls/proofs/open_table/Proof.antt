@@ -4,9 +4,6 @@ use borrow.Author.Needs.{needs}
 use Rattle.levels_calls.proofs.open_table.Statement.{statement}
 use Rattle.levels_calls.proofs.open_table.Tie as tie
 
-returns : tie.Need-returns
-returns c = large-served _ _ (c .if1 .taken)
-
 returns-2 : tie.Need-returns-2
 returns-2 c = open-served (c .taken .ensures) _ (c .before .before .before .before .before .before .before .before .before .before .if1 .left) (c .before .before .before .open-table .ensures)
 
@@ -14,5 +11,5 @@ pub open-table-spec : {M : Type 1} → statement M
 open-table-spec =
     tie.close
     (tie.spec
-    (λ c. search needs) returns (λ c. search needs) (λ c. search needs) (λ c. search needs) (λ c. search needs)
-    (λ c. search needs) (λ c κs. search needs) (λ c κs. search needs) (λ c. search needs) returns-2)
+    (λ c. search needs) (λ c. large-served _ _ (c .if1 .taken)) (λ c. search needs) (λ c. search needs) (λ c. search needs)
+    (λ c. search needs) (λ c. search needs) (λ c κs. search needs) (λ c κs. search needs) (λ c. search needs) returns-2)

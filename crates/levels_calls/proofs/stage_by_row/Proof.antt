@@ -4,12 +4,10 @@ use borrow.Author.Needs.{needs}
 use Rattle.levels_calls.proofs.stage_by_row.Statement.{statement}
 use Rattle.levels_calls.proofs.stage_by_row.Tie as tie
 
-returns : tie.Need-returns
-returns c = by-row-served (c .taken .ensures) _ (c .before .before .before .stage-remove-row .ensures)
-
 pub stage-by-row-spec : {M : Type 1} → statement M
 stage-by-row-spec =
     tie.close
     (tie.spec
     (λ c. search needs) (λ c. search needs) (λ c. search needs) (λ c. search needs) (λ c κs. search needs)
-    (λ c κs. search needs) (λ c. search needs) returns)
+    (λ c κs. search needs) (λ c. search needs)
+    (λ c. by-row-served (c .taken .ensures) _ (c .before .before .before .stage-remove-row .ensures)))

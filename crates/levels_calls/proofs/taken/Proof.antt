@@ -4,11 +4,9 @@ use borrow.Author.Needs.{needs}
 use Rattle.levels_calls.proofs.taken.Statement.{statement}
 use Rattle.levels_calls.proofs.taken.Tie as tie
 
-returns : tie.Need-returns
-returns c = served-refused _ _ _ (c .before .answer .given .1)
-
-returns-2 : tie.Need-returns-2
-returns-2 c = served-table _ _ _ (c .before .answer2 .given .1)
-
 pub taken-spec : {M : Type 1} → statement M
-taken-spec = tie.close (tie.spec (λ c. search needs) (λ c. search needs) returns returns-2)
+taken-spec =
+    tie.close
+    (tie.spec
+    (λ c. search needs) (λ c. search needs) (λ c. served-refused _ _ _ (c .before .answer .given .1))
+    (λ c. served-table _ _ _ (c .before .answer2 .given .1)))
