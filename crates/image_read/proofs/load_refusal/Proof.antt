@@ -7,17 +7,8 @@ use borrow.Author.Needs.{needs}
 use Rattle.image_read.proofs.load_refusal.Statement.{statement}
 use Rattle.image_read.proofs.load_refusal.Tie as tie
 
-returns : tie.Need-returns
-returns c = let a = c .before .before .args in load-outside (a .h) (lengthsOf (a .l)) (sym (c .before .is-outside .ensures) ∙ c .if1 .taken)
-
-is-rows-short-requires : tie.Need-is-rows-short-requires
-is-rows-short-requires c κs = sym (c .before .is-outside .ensures) ∙ c .if1 .left
-
 returns-2 : tie.Need-returns-2
 returns-2 c = let a = c .before .before .before .before .args in load-rows (a .h) (lengthsOf (a .l)) (sym (c .before .before .before .is-outside .ensures) ∙ c .before .before .if1 .left) (sym (c .before .is-rows-short .ensures) ∙ c .if2 .taken)
-
-mul-pairs : tie.Need-mul-pairs
-mul-pairs c = omega (arith, capacity-few _ (sym (c .before .before .before .before .is-outside .ensures) ∙ c .before .before .before .if1 .left))
 
 returns-3 : tie.Need-returns-3
 returns-3 c = let a = c .before .before .before .before .before .before .before .args in load-keys (a .h) (lengthsOf (a .l)) (sym (c .before .before .before .before .before .before .is-outside .ensures) ∙ c .before .before .before .before .before .if1 .left) (sym (c .before .before .before .before .is-rows-short .ensures) ∙ c .before .before .before .if2 .left) (omega (arith, c .if3 .taken))
@@ -41,4 +32,8 @@ pub load-refusal-spec : {M : Type 1} → statement M
 load-refusal-spec =
     tie.close
     (tie.spec
-    (λ c κs. search needs) returns is-rows-short-requires returns-2 mul-pairs (λ c. search needs) returns-3 returns-4 (λ c. search needs) returns-5 returns-6)
+    (λ c κs. search needs)
+    (λ c. let a = c .before .before .args in load-outside (a .h) (lengthsOf (a .l)) (sym (c .before .is-outside .ensures) ∙ c .if1 .taken))
+    (λ c κs. sym (c .before .is-outside .ensures) ∙ c .if1 .left) returns-2
+    (λ c. omega (arith, capacity-few _ (sym (c .before .before .before .before .is-outside .ensures) ∙ c .before .before .before .if1 .left)))
+    (λ c. search needs) returns-3 returns-4 (λ c. search needs) returns-5 returns-6)

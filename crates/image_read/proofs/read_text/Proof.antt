@@ -5,9 +5,6 @@ use borrow.Author.Needs.{needs}
 use Rattle.image_read.proofs.read_text.Statement.{statement}
 use Rattle.image_read.proofs.read_text.Tie as tie
 
-returns : tie.Need-returns
-returns c = text-none _ _ (c .before .before .parse .ensures .no-image (c .enum-told .given .1))
-
 returns-2 : tie.Need-returns-2
 returns-2 c = text-short _ _ _ (c .before .before .before .before .before .parse .ensures .image _ (c .before .before .before .parsed .given .1)) (omega (arith, c .if1 .taken))
 
@@ -24,4 +21,6 @@ pub read-text-spec : {M : Type 1} → statement M
 read-text-spec =
     tie.close
     (tie.spec
-    (λ c κs. search needs) (λ c. search needs) (λ c. search needs) returns (λ c. search needs) returns-2 write-text-requires (λ c. search needs) (λ c. search needs) returns-3)
+    (λ c κs. search needs) (λ c. search needs) (λ c. search needs)
+    (λ c. text-none _ _ (c .before .before .parse .ensures .no-image (c .enum-told .given .1))) (λ c. search needs) returns-2
+    write-text-requires (λ c. search needs) (λ c. search needs) returns-3)

@@ -17,15 +17,6 @@ Inv-loop words count output₀ i₀ output i =
 abbrev μ-loop : tie.MeasureT-loop
 μ-loop words count output₀ i₀ output i = count - i
 
-loop-holds : tie.Need-loop-holds Inv-loop μ-loop
-loop-holds c = (search needs, refl, refl)
-
-byte-at-requires : tie.Need-byte-at-requires Inv-loop μ-loop
-byte-at-requires c κs = let s = c .before .before .before .before in text-before _ (s .args .count) _ (s .pre .0) (c .loop-test .taken)
-
-slice-write-output : tie.Need-slice-write-output Inv-loop μ-loop
-slice-write-output c = omega (arith, c .before .before .loop .inv .1, c .before .before .before .before .before .pre .1)
-
 loop-again : tie.Need-loop-again Inv-loop μ-loop
 loop-again c =
     let l = c .before .before .loop in
@@ -45,4 +36,7 @@ pub write-text-spec : {M : Type 1} → statement M
 write-text-spec =
     tie.close
     (tie.spec
-    Inv-loop μ-loop loop-holds byte-at-requires slice-write-output (λ c. search needs) (λ c. search needs) loop-again (λ c. search needs) returns)
+    Inv-loop μ-loop (λ c. (search needs, refl, refl))
+    (λ c κs. let s = c .before .before .before .before in text-before _ (s .args .count) _ (s .pre .0) (c .loop-test .taken))
+    (λ c. omega (arith, c .before .before .loop .inv .1, c .before .before .before .before .before .pre .1))
+    (λ c. search needs) (λ c. search needs) loop-again (λ c. search needs) returns)
