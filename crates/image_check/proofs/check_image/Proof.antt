@@ -4,14 +4,10 @@ use borrow.Author.Needs.{needs}
 use Rattle.image_check.proofs.check_image.Statement.{statement}
 use Rattle.image_check.proofs.check_image.Tie as tie
 
-returns : tie.Need-returns
-returns c = checked-refused _ _ (c .before .before .before .decode .ensures) _ (c .before .decoding .given .1)
-
-returns-2 : tie.Need-returns-2
-returns-2 c = checked-sound _ _ (c .before .before .before .before .decode .ensures) _ (c .before .before .decoding2 .given .1)
-
 pub check-image-spec : {M : Type 1} → statement M
 check-image-spec =
     tie.close
     (tie.spec
-    (λ c κs. search needs) (λ c. search needs) (λ c. search needs) returns returns-2)
+    (λ c κs. search needs) (λ c. search needs) (λ c. search needs)
+    (λ c. checked-refused _ _ (c .before .before .before .decode .ensures) _ (c .before .decoding .given .1))
+    (λ c. checked-sound _ _ (c .before .before .before .before .decode .ensures) _ (c .before .before .decoding2 .given .1)))

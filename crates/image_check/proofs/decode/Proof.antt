@@ -5,12 +5,6 @@ use borrow.Author.Needs.{needs}
 use Rattle.image_check.proofs.decode.Statement.{statement}
 use Rattle.image_check.proofs.decode.Tie as tie
 
-returns : tie.Need-returns
-returns c = decoding-none _ (c .before .before .parse .ensures .no-image (c .enum-told .given .1))
-
-is-contents-sound-requires : tie.Need-is-contents-sound-requires
-is-contents-sound-requires c κs = c .before .before .before .parse .ensures .image _ (c .before .parsed .given .1)
-
 returns-2 : tie.Need-returns-2
 returns-2 c =
     decoding-unsound _ _ (c .before .before .before .before .before .parse .ensures .image _ (c .before .before .before .parsed .given .1)) (c .before .is-contents-sound .ensures .no (not-true _ (c .if1 .taken)))
@@ -23,4 +17,6 @@ pub decode-spec : {M : Type 1} → statement M
 decode-spec =
     tie.close
     (tie.spec
-    (λ c κs. search needs) (λ c. search needs) (λ c. search needs) returns is-contents-sound-requires returns-2 returns-3)
+    (λ c κs. search needs) (λ c. search needs) (λ c. search needs)
+    (λ c. decoding-none _ (c .before .before .parse .ensures .no-image (c .enum-told .given .1)))
+    (λ c κs. c .before .before .before .parse .ensures .image _ (c .before .parsed .given .1)) returns-2 returns-3)

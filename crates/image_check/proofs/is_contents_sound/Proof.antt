@@ -5,9 +5,6 @@ use borrow.Author.Needs.{needs}
 use Rattle.image_check.proofs.is_contents_sound.Statement.{statement}
 use Rattle.image_check.proofs.is_contents_sound.Tie as tie
 
-rows-sound-requires : tie.Need-rows-sound-requires
-rows-sound-requires c κs = let s = c .before .before .before .before in (contents-cells _ (s .args .l) (s .pre), contents-held _ (s .args .l) (s .pre))
-
 returns : tie.Need-returns
 returns c = let s = c .before .before .before .before .before .before in unsound-rows _ (s .args .l) (s .pre) (c .before .rows-sound .ensures .no (not-true _ (c .if1 .taken)))
 
@@ -29,4 +26,8 @@ pub is-contents-sound-spec : {M : Type 1} → statement M
 is-contents-sound-spec =
     tie.close
     (tie.spec
-    (λ c. search needs) (λ c. search needs) (λ c. search needs) (λ c. search needs) (λ c. search needs) (λ c. search needs) (λ c. search needs) (λ c. search needs) rows-sound-requires returns (λ c. search needs) (λ c. search needs) (λ c. search needs) (λ c. search needs) is-key-unique-requires returns-2 (λ c. search needs) (λ c. search needs) (λ c. search needs) (λ c. search needs) pending-whole-requires returns-3)
+    (λ c. search needs) (λ c. search needs) (λ c. search needs) (λ c. search needs) (λ c. search needs) (λ c. search needs)
+    (λ c. search needs) (λ c. search needs)
+    (λ c κs. let s = c .before .before .before .before in (contents-cells _ (s .args .l) (s .pre), contents-held _ (s .args .l) (s .pre)))
+    returns (λ c. search needs) (λ c. search needs) (λ c. search needs) (λ c. search needs) is-key-unique-requires returns-2
+    (λ c. search needs) (λ c. search needs) (λ c. search needs) (λ c. search needs) pending-whole-requires returns-3)

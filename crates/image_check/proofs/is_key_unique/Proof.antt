@@ -8,9 +8,6 @@ use borrow.Author.Needs.{needs}
 use Rattle.image_check.proofs.is_key_unique.Statement.{statement}
 use Rattle.image_check.proofs.is_key_unique.Tie as tie
 
-returns : tie.Need-returns
-returns c = let s = c .before .before .before in decides-yes (no-row-differs (s .args .h) (s .args .rows .now) (omega (arith, c .if1 .taken)))
-
 rebuild-requires : tie.Need-rebuild-requires
 rebuild-requires c κs =
     let s = c .before .before .before .before in
@@ -25,4 +22,5 @@ pub is-key-unique-spec : {M : Type 1} → statement M
 is-key-unique-spec =
     tie.close
     (tie.spec
-    returns (λ c. search needs) rebuild-requires (λ c. search needs) keys-differ-requires (λ c. search needs))
+    (λ c. let s = c .before .before .before in decides-yes (no-row-differs (s .args .h) (s .args .rows .now) (omega (arith, c .if1 .taken))))
+    (λ c. search needs) rebuild-requires (λ c. search needs) keys-differ-requires (λ c. search needs))
