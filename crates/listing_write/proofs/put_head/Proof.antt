@@ -7,25 +7,16 @@ use borrow.Author.Needs.{needs}
 use Rattle.listing_write.proofs.put_head.Statement.{statement}
 use Rattle.listing_write.proofs.put_head.Tie as tie
 
-put-line-requires : tie.Need-put-line-requires
-unfolding headLine headLetter headNumbers
-put-line-requires c κs = let h = rw (c .before .before .if1 .taken) at (c .before .before .before .before .pre) in omega (arith, h)
-
-returns : tie.Need-returns
-unfolding headLine headLetter headNumbers
-returns c = rw (c .before .before .before .before .before .if1 .taken) (c .before .before .put-line .ensures)
-
-put-line-requires-2 : tie.Need-put-line-requires-2
-unfolding headLine headLetter headNumbers
-put-line-requires-2 c κs = let h = rw (c .before .before .if1 .left) at (c .before .before .before .before .pre) in omega (arith, h)
-
-returns-2 : tie.Need-returns-2
-unfolding headLine headLetter headNumbers
-returns-2 c = rw (c .before .before .before .before .before .if1 .left) (c .before .before .put-line2 .ensures)
-
 pub put-head-spec : {M : Type 1} → statement M
+unfolding headLine headLetter headNumbers
 put-head-spec =
     tie.close
     (tie.spec
-    (λ c. search needs) put-line-requires (λ c. search needs) returns (λ c. search needs) (λ c. search needs)
-    put-line-requires-2 (λ c. search needs) returns-2)
+    (λ c. search needs)
+    (λ c κs. let h = rw (c .before .before .if1 .taken) at (c .before .before .before .before .pre) in omega (arith, h))
+    (λ c. search needs)
+    (λ c. rw (c .before .before .before .before .before .if1 .taken) (c .before .before .put-line .ensures))
+    (λ c. search needs) (λ c. search needs)
+    (λ c κs. let h = rw (c .before .before .if1 .left) at (c .before .before .before .before .pre) in omega (arith, h))
+    (λ c. search needs)
+    (λ c. rw (c .before .before .before .before .before .if1 .left) (c .before .before .put-line2 .ensures)))
