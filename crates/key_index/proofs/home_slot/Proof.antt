@@ -11,13 +11,10 @@ mul-result c =
     let k : c .args .slots ≤ 4294967295 = search needs in
     record { fits = omega (arith, mul-le-mul h k) }
 
-cast-result : tie.Need-cast-result
-unfolding spread
-cast-result c = omega (arith, spread-below (c .args .slots) (c .args .hash) (c .pre) (c .fits .hash .fits))
-
-returns : tie.Need-returns
-unfolding spread
-returns c = (refl, spread-below (c .args .slots) (c .args .hash) (c .pre) (c .fits .hash .fits))
-
 pub home-slot-spec : {M : Type 1} → statement M
-home-slot-spec = tie.close (tie.spec mul-result cast-result returns)
+unfolding spread
+home-slot-spec =
+    tie.close
+    (tie.spec
+    mul-result (λ c. omega (arith, spread-below (c .args .slots) (c .args .hash) (c .pre) (c .fits .hash .fits)))
+    (λ c. (refl, spread-below (c .args .slots) (c .args .hash) (c .pre) (c .fits .hash .fits))))

@@ -4,13 +4,10 @@ use Rattle.key_index.specs.Slots.{sizeClassFor}
 use Rattle.key_index.proofs.size_class_for.Statement.{statement}
 use Rattle.key_index.proofs.size_class_for.Tie as tie
 
-returns : tie.Need-returns
-unfolding sizeClassFor
-returns c = omega (arith, c .before .size-class .ensures)
-
-returns-2 : tie.Need-returns-2
-unfolding sizeClassFor
-returns-2 c = omega (arith, c .before .size-class .ensures)
-
 pub size-class-for-spec : {M : Type 1} → statement M
-size-class-for-spec = tie.close (tie.spec (λ c κs. search needs) returns returns-2)
+unfolding sizeClassFor
+size-class-for-spec =
+    tie.close
+    (tie.spec
+    (λ c κs. search needs) (λ c. omega (arith, c .before .size-class .ensures))
+    (λ c. omega (arith, c .before .size-class .ensures)))

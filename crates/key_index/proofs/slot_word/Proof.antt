@@ -4,11 +4,6 @@ use Rattle.key_index.specs.inner.Ring.{tagged}
 use Rattle.key_index.proofs.slot_word.Statement.{statement}
 use Rattle.key_index.proofs.slot_word.Tie as tie
 
-returns : tie.Need-returns
-unfolding tagged
-returns c = refl
-
 pub slot-word-spec : {M : Type 1} → statement M
-slot-word-spec =
-    tie.close
-    (tie.spec (λ c. search needs) (λ c. search needs) (λ c. search needs) returns)
+unfolding tagged
+slot-word-spec = tie.close (tie.spec (λ c. search needs) (λ c. search needs) (λ c. search needs) (λ c. refl))
