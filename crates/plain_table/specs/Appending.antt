@@ -14,17 +14,17 @@ unfoldable pub mergeAppends : Plain → List (List ℕ)
 mergeAppends p = map (λ row. row .cells) (drop (length (p .rows)) (applied p .table .rows))
 
 -- the first of three values for a merge, the second for a clear, the third for any other call
-unfoldable pub byKind : {A : Type 0} → Call → A → A → A → A
-byKind (staging r) merge clear other = other
-byKind merging merge clear other = merge
-byKind compacting merge clear other = other
-byKind clearing merge clear other = clear
-byKind (refreshing r index) merge clear other = other
-byKind (feeding rs) merge clear other = other
+unfoldable pub mergeOrClear : {A : Type 0} → Call → A → A → A → A
+mergeOrClear (staging r) merge clear other = other
+mergeOrClear merging merge clear other = merge
+mergeOrClear compacting merge clear other = other
+mergeOrClear clearing merge clear other = clear
+mergeOrClear (refreshing r index) merge clear other = other
+mergeOrClear (feeding rs) merge clear other = other
 
 -- the same for a call on a plain table; the third value too if the call is refused
 unfoldable pub byCall : {A : Type 0} → Plain → LentCall → A → A → A → A
-byCall p c merge clear other = cond (eqb (refusal p (c .lengths) (c .call)) 0) (byKind (c .call) merge clear other) other
+byCall p c merge clear other = cond (eqb (refusal p (c .lengths) (c .call)) 0) (mergeOrClear (c .call) merge clear other) other
 
 -- a number of a merge, computed from the plain table before it; 0 for any other call and for a refused merge
 unfoldable pub mergeCount : (Plain → ℕ) → Plain → LentCall → ℕ

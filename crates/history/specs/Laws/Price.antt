@@ -11,7 +11,7 @@ use Rattle.refusals.specs.Laws.Replies.{some-number, ruled-refused}
 use Rattle.plain_table.specs.Plain.{Plain, opened, stage, dead, mergeKeeps, mergeDrops}
 use Rattle.plain_table.specs.Refusing.{storesShort, wordsShort, compactChecks}
 use Rattle.plain_table.specs.Calls.{merging, compacting, clearing, stageAll, refusal, done, after, LentCall, afterAll}
-use Rattle.plain_table.specs.Appending.{byKind, byCall, mergeCount, sumOverMerges, mergeAdds}
+use Rattle.plain_table.specs.Appending.{mergeOrClear, byCall, mergeCount, sumOverMerges, mergeAdds}
 use Rattle.plain_table.specs.Laws.Calls.{refused-nothing, accepted-done}
 use Rattle.plain_table.specs.Laws.Price.{live-dead, compacted-live, merged-rows, merged-price}
 use Rattle.table.specs.declared.Header.{Header}
@@ -47,12 +47,12 @@ refused-balanced p c h =
     record { kept = rw e; dropped = rw e; fewer = omega arith; rows = rw (refused-nothing p (c .lengths) (c .call) h, e) (omega arith) }
 
 module _ (p : Plain) (c : LentCall) (z : refusal p (c .lengths) (c .call) ≡ 0) where
-  accepted-of : (number : Plain → ℕ) → mergeCount number p c ≡ byKind (c .call) (number p) 0 0
+  accepted-of : (number : Plain → ℕ) → mergeCount number p c ≡ mergeOrClear (c .call) (number p) 0 0
   unfolding mergeCount byCall
   accepted-of number = rw (eq-eqb (refusal p (c .lengths) (c .call)) 0 z)
 
-  done-balanced : (w : Wear) → w .kept ≡ byKind (c .call) (mergeKeeps p) 0 0 → w .dropped ≡ byKind (c .call) (mergeDrops p) 0 0 → w .kept ≤ w .dropped
-      → length (p .rows) + byKind (c .call) (mergeAdds p) 0 0 ≡ length (done p (c .call) .rows) + (w .dropped + w .compacted) + w .emptied → Balanced p c w
+  done-balanced : (w : Wear) → w .kept ≡ mergeOrClear (c .call) (mergeKeeps p) 0 0 → w .dropped ≡ mergeOrClear (c .call) (mergeDrops p) 0 0 → w .kept ≤ w .dropped
+      → length (p .rows) + mergeOrClear (c .call) (mergeAdds p) 0 0 ≡ length (done p (c .call) .rows) + (w .dropped + w .compacted) + w .emptied → Balanced p c w
   done-balanced w k d f q =
       record {
         kept = rw (accepted-of mergeKeeps) k;
@@ -62,7 +62,7 @@ module _ (p : Plain) (c : LentCall) (z : refusal p (c .lengths) (c .call) ≡ 0)
       }
 
 -- a call that is no merge and leaves the row count unchanged counts nothing
-staged-balanced : (p : Plain) (c : LentCall) → ((number : Plain → ℕ) → byKind (c .call) (number p) 0 0 ≡ 0) → length (done p (c .call) .rows) ≡ length (p .rows)
+staged-balanced : (p : Plain) (c : LentCall) → ((number : Plain → ℕ) → mergeOrClear (c .call) (number p) 0 0 ≡ 0) → length (done p (c .call) .rows) ≡ length (p .rows)
     → Balanced p c (wear 0 0 0 0)
 staged-balanced p c none e =
     elim (some-number (refusal p (c .lengths) (c .call))) [
@@ -92,7 +92,7 @@ clearing-wears s h = wear 0 0 0 (s .header .rows)
 module _ {p : Plain} (s : Stores) (rest : Body) (more : List ℕ) (r : Represents p (behind s rest more)) where
   merged-balanced : (w : CompactionWords) (answer : MergeAnswer) (b′ : Body) (w′ : CompactionWords) → Merging s w answer b′ w′
       → Balanced p (record { call = merging; lengths = lengthsLent s w }) (counted (mergeView answer) merging-wears)
-  unfolding done byKind
+  unfolding done mergeOrClear
   merged-balanced w answer b′ w′ m =
       let c : LentCall = record { call = merging; lengths = lengthsLent s w } in
       let n : ℕ = mergeRefusal (s .header) (lengthsLent s w) in
@@ -108,7 +108,7 @@ module _ {p : Plain} (s : Stores) (rest : Body) (more : List ℕ) (r : Represent
 
   compacted-balanced : (w : CompactionWords) (answer : TableAnswer) (b′ : Body) (w′ : CompactionWords) → Compacting (s .header) (bodyOf s) w answer b′ w′
       → Balanced p (record { call = compacting; lengths = lengthsLent s w }) (counted (tableView answer) (compacting-wears s))
-  unfolding done byKind
+  unfolding done mergeOrClear
   compacted-balanced w answer b′ w′ m =
       let c : LentCall = record { call = compacting; lengths = lengthsLent s w } in
       -- the pending store is not lent, and the checks do not read it
@@ -125,7 +125,7 @@ module _ {p : Plain} (s : Stores) (rest : Body) (more : List ℕ) (r : Represent
 
   cleared-balanced : {live base : ℕ} (answer : TableAnswer) (keys′ : List ℕ) → Clearing (s .header) (s .keys) answer keys′
       → Balanced p (lentCall clearing s live base) (counted (tableView answer) (clearing-wears s))
-  unfolding done byKind
+  unfolding done mergeOrClear
   cleared-balanced {live} {base} answer keys′ m =
       let c = lentCall clearing s live base in
       let l = c .lengths in
@@ -141,7 +141,7 @@ module _ {p : Plain} (s : Stores) (rest : Body) (more : List ℕ) (r : Represent
       ]
 
   called-balanced : {c : LentCall} {t : Stores} (call : Called s c t) → Balanced p c (wearOfCall call)
-  unfolding wearOfCall done byKind stage stageAll
+  unfolding wearOfCall done mergeOrClear stage stageAll
   called-balanced (stages q answer pending′ m) = staged-balanced p _ (λ number. refl) refl
   called-balanced (merges w answer b′ w′ m) = merged-balanced w answer b′ w′ m
   called-balanced (compacts w answer b′ w′ m) = compacted-balanced w answer b′ w′ m

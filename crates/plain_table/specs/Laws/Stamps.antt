@@ -19,7 +19,7 @@ use Rattle.lists.specs.Laws.All.{all-head, all-tail, all-cons}
 use Rattle.plain_table.specs.Staged.{Opening}
 use Rattle.plain_table.specs.Plain.{Row, Plain, opened, stage, liveWithKey, killIf, removed, below, raised, applied, compacted, unstaged, compactsAfter, merged, cleared}
 use Rattle.plain_table.specs.Calls.{Call, staging, merging, compacting, clearing, refreshing, feeding, recordsOf, stageAll, refusal, done, after, LentCall, afterAll}
-use Rattle.plain_table.specs.Appending.{mergeAppends, byKind, byCall, stampsOf, stampsAfter, stampsSince, greatest}
+use Rattle.plain_table.specs.Appending.{mergeAppends, mergeOrClear, byCall, stampsOf, stampsAfter, stampsSince, greatest}
 use Rattle.plain_table.specs.Laws.Rows.{liveRow, raised-same}
 use Rattle.plain_table.specs.Laws.Counts.{Appended, new, again, appended-alike, removed-keeps, length-removed, removed-alike, applied-keeps}
 use Rattle.plain_table.specs.Laws.Proper.{stop-above}
@@ -194,8 +194,8 @@ unfolding opened greatest
 stamped-opened o generation = record { largest-kept = refl; never-fall = λ i j h k. absurd (omega arith) }
 
 stamped-done : {p : Plain} {stamps : List ℕ} (c : Call) → Stamped p stamps
-    → Stamped (done p c) (byKind c (stamps ++ stampsOf p (mergeAppends p)) (cond (ltb 0 (length (p .rows))) [] stamps) stamps)
-unfolding done byKind stage stageAll compacted unstaged cleared
+    → Stamped (done p c) (mergeOrClear c (stamps ++ stampsOf p (mergeAppends p)) (cond (ltb 0 (length (p .rows))) [] stamps) stamps)
+unfolding done mergeOrClear stage stageAll compacted unstaged cleared
 stamped-done {p} (staging r) s = stamped-same (stage p r) refl s
 stamped-done merging s = stamped-merge s
 stamped-done {p} compacting s = stamped-same (compacted p) refl s
