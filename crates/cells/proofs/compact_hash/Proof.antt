@@ -5,8 +5,5 @@ use Rattle.cells.specs.Cells.{compactHash}
 use Rattle.cells.proofs.compact_hash.Statement.{statement}
 use Rattle.cells.proofs.compact_hash.Tie as tie
 
-returns : tie.Need-returns
-returns c = c .from-full .ensures ∙ ap compactHash (c .before .key-hash .ensures)
-
 pub compact-hash-spec : {M : Type 1} → statement M
-compact-hash-spec = tie.close (tie.spec (λ c κs. search needs) (λ c κs. search needs) returns)
+compact-hash-spec = tie.close (tie.spec (λ c κs. search needs) (λ c κs. search needs) (λ c. c .from-full .ensures ∙ ap compactHash (c .before .key-hash .ensures)))

@@ -5,13 +5,7 @@ use Rattle.cells.proofs.Bits.{compact-law}
 use Rattle.cells.proofs.from_full.Statement.{statement}
 use Rattle.cells.proofs.from_full.Tie as tie
 
-cast-result-2 : tie.Need-cast-result-2
-cast-result-2 c = omega (arith, compact-law (c .args .full) (c .fits .full .fits))
-
-returns : tie.Need-returns
-returns c = compact-law (c .args .full) (c .fits .full .fits)
-
 pub from-full-spec : {M : Type 1} → statement M
 from-full-spec =
     tie.close
-    (tie.spec (λ c. search needs) (λ c. search needs) (λ c. search needs) (λ c. search needs) cast-result-2 returns)
+    (tie.spec (λ c. search needs) (λ c. search needs) (λ c. search needs) (λ c. search needs) (λ c. omega (arith, compact-law (c .args .full) (c .fits .full .fits))) (λ c. compact-law (c .args .full) (c .fits .full .fits)))

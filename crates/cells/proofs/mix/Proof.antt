@@ -12,12 +12,6 @@ use Rattle.cells.proofs.mix.Tie as tie
 fits : (hash cell : ℕ) → let sum = (hash + cell + 2654435761) % 2 ^ 32 in sum * (sum % 2 ^ 16 * 2 ^ 16 + sum / 2 ^ 16) < 2 ^ 64
 fits hash cell = product-fits _ _ (omega arith) (omega arith)
 
-mul-product : tie.Need-mul-product
-mul-product c = record { fits = fits (c .args .hash) (c .args .cell) }
-
-add-result : tie.Need-add-result
-add-result c = omega (arith, fits (c .args .hash) (c .args .cell))
-
 returns : tie.Need-returns
 unfolding mixed
 returns c = refl
@@ -26,5 +20,5 @@ pub mix-spec : {M : Type 1} → statement M
 mix-spec =
     tie.close
     (tie.spec
-    (λ c. search needs) (λ c. search needs) (λ c. search needs) (λ c. search needs) mul-product add-result
+    (λ c. search needs) (λ c. search needs) (λ c. search needs) (λ c. search needs) (λ c. record { fits = fits (c .args .hash) (c .args .cell) }) (λ c. omega (arith, fits (c .args .hash) (c .args .cell)))
     (λ c. search needs) returns)

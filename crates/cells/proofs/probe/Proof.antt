@@ -4,10 +4,7 @@ use Rattle.cells.proofs.Bits.{probe-law}
 use Rattle.cells.proofs.probe.Statement.{statement}
 use Rattle.cells.proofs.probe.Tie as tie
 
-returns : tie.Need-returns
-returns c = probe-law (c .args .hash) (c .fits .hash .fits)
-
 pub probe-spec : {M : Type 1} → statement M
 probe-spec =
     tie.close
-    (tie.spec (λ c. search needs) (λ c. search needs) (λ c. search needs) (λ c. search needs) returns)
+    (tie.spec (λ c. search needs) (λ c. search needs) (λ c. search needs) (λ c. search needs) (λ c. probe-law (c .args .hash) (c .fits .hash .fits)))

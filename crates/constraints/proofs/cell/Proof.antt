@@ -5,10 +5,7 @@ use lib.ListN.{List·getD-eq-default}
 use Rattle.constraints.proofs.cell.Statement.{statement}
 use Rattle.constraints.proofs.cell.Tie as tie
 
-returns-2 : tie.Need-returns-2
-returns-2 c = sym (List·getD-eq-default (c .before .args .row .now) 0 (c .if1 .left))
-
 pub cell-spec : {M : Type 1} → statement M
 cell-spec =
     tie.close
-    (tie.spec (λ c. search needs) (λ c. search needs) (λ c. search needs) returns-2)
+    (tie.spec (λ c. search needs) (λ c. search needs) (λ c. search needs) (λ c. sym (List·getD-eq-default (c .before .args .row .now) 0 (c .if1 .left))))

@@ -64,9 +64,6 @@ module _ (kind cell other : ℕ) where
             simp (ne-eqb kind 0 (omega arith), ne-eqb kind 1 (omega arith), ne-eqb kind 2 n, three, four, le-ltb kind 4 high)
       ]
 
-returns : tie.Need-returns
-returns c = let a = c .before .args in equal (a .kind) (a .cell) (a .other) (c .if1 .taken)
-
 returns-2 : tie.Need-returns-2
 returns-2 c =
     let a = c .before .before .args in
@@ -76,4 +73,4 @@ returns-2 c =
     (c .if2 .came)
 
 pub compares-spec : {M : Type 1} → statement M
-compares-spec = tie.close (tie.spec returns returns-2)
+compares-spec = tie.close (tie.spec (λ c. let a = c .before .args in equal (a .kind) (a .cell) (a .other) (c .if1 .taken)) returns-2)

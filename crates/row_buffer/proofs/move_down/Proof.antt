@@ -8,9 +8,6 @@ use borrow.Author.Needs.{needs}
 use Rattle.row_buffer.proofs.move_down.Statement.{statement}
 use Rattle.row_buffer.proofs.move_down.Tie as tie
 
-returns : tie.Need-returns
-returns c = moved-nowhere _ _ _ _ (c .if1 .taken) (c .before .before .pre .1)
-
 returns-2 : tie.Need-returns-2
 returns-2 c =
     let s = c .before .before .before .before .before .before in
@@ -22,5 +19,5 @@ pub move-down-spec : {M : Type 1} → statement M
 move-down-spec =
     tie.close
     (tie.spec
-    returns (λ c. search needs) (λ c. search needs) (λ c. search needs) (λ c. search needs) (λ c. search needs)
+    (λ c. moved-nowhere _ _ _ _ (c .if1 .taken) (c .before .before .pre .1)) (λ c. search needs) (λ c. search needs) (λ c. search needs) (λ c. search needs) (λ c. search needs)
     (λ c κs. search needs) (λ c. search needs) returns-2)

@@ -4,8 +4,5 @@ use Rattle.row_buffer.proofs.Laws.{marked}
 use Rattle.row_buffer.proofs.set_bit.Statement.{statement}
 use Rattle.row_buffer.proofs.set_bit.Tie as tie
 
-returns : tie.Need-returns
-returns c = marked (c .args .word) (c .args .bit) (c .pre .0) (c .pre .1)
-
 pub set-bit-spec : {M : Type 1} → statement M
-set-bit-spec = tie.close (tie.spec (λ c. search needs) returns)
+set-bit-spec = tie.close (tie.spec (λ c. search needs) (λ c. marked (c .args .word) (c .args .bit) (c .pre .0) (c .pre .1)))

@@ -7,9 +7,6 @@ use Rattle.sort_entries.specs.inner.Append.{append-same, append-new, ris
 use Rattle.sort_entries.proofs.append_entry.Tie as tie
 use Rattle.sort_entries.proofs.append_entry.Statement.{statement}
 
-returns : tie.Need-returns
-returns c = append-same _ _ _ _ (c .before .before .if1 .taken) (c .if2 .taken)
-
 returns-2 : tie.Need-returns-2
 returns-2 c = append-new _ _ _ _ (c .before .pre) (⊎-elim (λ w. rises _ _ _ (w .0 .taken) (w .2 .left)) (λ w. rises-none _ _ _ (w .left)) (c .if1 .came))
 
@@ -17,6 +14,6 @@ pub append-entry-spec : {M : Type 1} → statement M
 append-entry-spec =
     tie.close
     (tie.spec
-    (λ c. search needs) (λ c. search needs) (λ c. search needs) (λ c. search needs) (λ c. search needs) returns
+    (λ c. search needs) (λ c. search needs) (λ c. search needs) (λ c. search needs) (λ c. search needs) (λ c. append-same _ _ _ _ (c .before .before .if1 .taken) (c .if2 .taken))
     (λ c. search needs) (λ c. search needs) (λ c. search needs) (λ c. search needs)
     (λ c. simp length-set (omega arith)) (λ c. search needs) (λ c. search needs) returns-2)

@@ -5,9 +5,6 @@ use Rattle.sort_entries.proofs.LawsSearch.{search-found, search-absent}
 use Rattle.sort_entries.proofs.binary_search_sort_val.Tie as tie
 use Rattle.sort_entries.proofs.binary_search_sort_val.Statement.{statement}
 
-binary-search-cells-requires : tie.Need-binary-search-cells-requires
-binary-search-cells-requires c κs = (record { inside = λ i h. omega (arith, c .before .pre .words) }, omega arith)
-
 returns : tie.Need-returns
 returns c =
     search-found _ _ _ _ _ (c .before .before .before .before .before .binary-search-cells .ensures) _ _ (c .before .before .before .before .row-from .ensures) (c .row-from2 .ensures) (c .before .before .before .if1 .taken) (c .before .if2 .taken)
@@ -22,5 +19,5 @@ pub binary-search-sort-val-spec : {M : Type 1} → statement M
 binary-search-sort-val-spec =
     tie.close
     (tie.spec
-    binary-search-cells-requires (λ c κs. search needs) (λ c. search needs) (λ c. search needs) (λ c. search needs)
+    (λ c κs. (record { inside = λ i h. omega (arith, c .before .pre .words) }, omega arith)) (λ c κs. search needs) (λ c. search needs) (λ c. search needs) (λ c. search needs)
     (λ c. search needs) (λ c. search needs) (λ c κs. search needs) returns returns-2 returns-3)

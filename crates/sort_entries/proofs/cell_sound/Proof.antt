@@ -18,29 +18,8 @@ inside s =
     let q = mul-le-mul (s .pre .0 .few) (s .pre .0 .narrow) in
     (omega (arith, s .pre .0), omega (arith, s .pre .0), s .pre .0 .column)
 
-mul-at : tie.Need-mul-at
-mul-at c = omega (arith, inside (c .before))
-
-cast-at : tie.Need-cast-at
-cast-at c = omega (arith, inside (c .before))
-
-mul-is-stale : tie.Need-mul-is-stale
-mul-is-stale c = omega (arith, inside (c .before))
-
-shared-slice-read-is-stale : tie.Need-shared-slice-read-is-stale
-shared-slice-read-is-stale c = omega (arith, inside (c .before .before))
-
 returns : tie.Need-returns
 returns c = dead-row _ _ _ _ _ (omega (arith, c .before .before .before .before .pre)) (sym (c .before .is-stale .ensures) ∙ c .if1 .taken)
-
-add-cell : tie.Need-add-cell
-add-cell c = omega (arith, inside (c .before .before .before .before))
-
-mul-cell : tie.Need-mul-cell
-mul-cell c = omega (arith, inside (c .before .before .before .before))
-
-shared-slice-read-cell : tie.Need-shared-slice-read-cell
-shared-slice-read-cell c = omega (arith, inside (c .before .before .before .before .before))
 
 returns-2 : tie.Need-returns-2
 returns-2 c = live-row _ _ _ _ _ (c .before .before .before .before .before .pre .0 .column) (sym (c .before .before .is-stale .ensures) ∙ c .before .if1 .left)
@@ -49,5 +28,5 @@ pub cell-sound-spec : {M : Type 1} → statement M
 cell-sound-spec =
     tie.close
     (tie.spec
-    mul-at cast-at mul-is-stale shared-slice-read-is-stale (λ c κs. search needs) returns add-cell mul-cell
-    shared-slice-read-cell returns-2)
+    (λ c. omega (arith, inside (c .before))) (λ c. omega (arith, inside (c .before))) (λ c. omega (arith, inside (c .before))) (λ c. omega (arith, inside (c .before .before))) (λ c κs. search needs) returns (λ c. omega (arith, inside (c .before .before .before .before))) (λ c. omega (arith, inside (c .before .before .before .before)))
+    (λ c. omega (arith, inside (c .before .before .before .before .before))) returns-2)

@@ -4,15 +4,6 @@ use Rattle.sort_entries.proofs.LawsCheck.{past-rows, first-entry, no-ri
 use Rattle.sort_entries.proofs.entry_sound.Tie as tie
 use Rattle.sort_entries.proofs.entry_sound.Statement.{statement}
 
-returns : tie.Need-returns
-returns c = past-rows _ _ _ (c .if1 .taken)
-
-returns-2 : tie.Need-returns-2
-returns-2 c = first-entry _ _ _ (c .before .if1 .left) (c .if2 .taken)
-
-returns-3 : tie.Need-returns-3
-returns-3 c = no-rise _ _ _ (c .before .before .before .if2 .left) (c .if3 .taken)
-
 returns-4 : tie.Need-returns-4
 returns-4 c = next-entry _ _ _ (c .before .before .before .before .if1 .left) (c .before .before .before .if2 .left) (c .if3 .left)
 
@@ -21,5 +12,5 @@ entry-sound-spec =
     tie.close
     (tie.spec
     (λ c. search needs) (λ c. search needs) (λ c. search needs) (λ c. search needs) (λ c. search needs)
-    (λ c. search needs) (λ c. search needs) returns returns-2 (λ c. search needs) (λ c. search needs)
-    (λ c. search needs) (λ c. search needs) (λ c. search needs) (λ c. search needs) returns-3 returns-4)
+    (λ c. search needs) (λ c. search needs) (λ c. past-rows _ _ _ (c .if1 .taken)) (λ c. first-entry _ _ _ (c .before .if1 .left) (c .if2 .taken)) (λ c. search needs) (λ c. search needs)
+    (λ c. search needs) (λ c. search needs) (λ c. search needs) (λ c. search needs) (λ c. no-rise _ _ _ (c .before .before .before .if2 .left) (c .if3 .taken)) returns-4)

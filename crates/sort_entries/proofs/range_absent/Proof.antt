@@ -13,8 +13,5 @@ returns-2 : tie.Need-returns-2
 unfolding rangeAt
 returns-2 c = ⊎-elim (λ e. rw e) (λ e. rw e) (c .match .keys2)
 
-returns-3 : tie.Need-returns-3
-returns-3 c = absent-rest _ _ _ (c .match .rest .0 .1) (c .match .rest .1)
-
 pub range-absent-spec : {M : Type 1} → statement M
-range-absent-spec = tie.close (tie.spec returns returns-2 returns-3)
+range-absent-spec = tie.close (tie.spec returns returns-2 (λ c. absent-rest _ _ _ (c .match .rest .0 .1) (c .match .rest .1)))

@@ -4,15 +4,9 @@ use Rattle.sort_entries.proofs.LawsSearch.{row-at, row-past}
 use Rattle.sort_entries.proofs.row_from.Tie as tie
 use Rattle.sort_entries.proofs.row_from.Statement.{statement}
 
-returns : tie.Need-returns
-returns c = row-past _ _ _ _ (c .if1 .taken)
-
-returns-2 : tie.Need-returns-2
-returns-2 c = row-at _ _ _ _ (c .before .if1 .left)
-
 pub row-from-spec : {M : Type 1} → statement M
 row-from-spec =
     tie.close
     (tie.spec
-    returns (λ c. search needs) (λ c. search needs) (λ c. search needs) (λ c. search needs) (λ c. search needs)
-    returns-2)
+    (λ c. row-past _ _ _ _ (c .if1 .taken)) (λ c. search needs) (λ c. search needs) (λ c. search needs) (λ c. search needs) (λ c. search needs)
+    (λ c. row-at _ _ _ _ (c .before .if1 .left)))

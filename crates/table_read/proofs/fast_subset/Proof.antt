@@ -4,12 +4,6 @@ use borrow.Author.Needs.{needs}
 use Rattle.table_read.proofs.fast_subset.Statement.{statement}
 use Rattle.table_read.proofs.fast_subset.Tie as tie
 
-fast-refusal-requires : tie.Need-fast-refusal-requires
-fast-refusal-requires c κs = search needs
-
-returns : tie.Need-returns
-returns c = range-refused _ _ _ _ (c .before .fast-refusal .ensures) (c .if1 .taken)
-
 returns-2 : tie.Need-returns-2
 returns-2 c = range-columns _ _ _ _ (c .before .before .before .fast-refusal .ensures) (c .before .before .if1 .left) (c .if2 .taken)
 
@@ -25,4 +19,4 @@ returns-4 c = range-some _ _ _ _ (c .before .before .before .before .before .bef
 pub fast-subset-spec : {M : Type 1} → statement M
 fast-subset-spec =
     tie.close
-    (tie.spec fast-refusal-requires returns returns-2 returns-3 fast-range-requires returns-4)
+    (tie.spec (λ c κs. search needs) (λ c. range-refused _ _ _ _ (c .before .fast-refusal .ensures) (c .if1 .taken)) returns-2 returns-3 fast-range-requires returns-4)

@@ -5,26 +5,8 @@ use borrow.Author.Needs.{needs}
 use Rattle.table_read.proofs.get_row_column.Statement.{statement}
 use Rattle.table_read.proofs.get_row_column.Tie as tie
 
-cell-refusal-requires : tie.Need-cell-refusal-requires
-cell-refusal-requires c κs = search needs
-
-returns : tie.Need-returns
-returns c = cell-refused _ _ _ _ _ _ (c .before .cell-refusal .ensures) (c .if1 .taken)
-
-index-shape-requires : tie.Need-index-shape-requires
-index-shape-requires c κs = search needs
-
-compact-hash-requires : tie.Need-compact-hash-requires
-compact-hash-requires c κs = search needs
-
 look-up-requires : tie.Need-look-up-requires
 look-up-requires c κs = cell-pre _ _ _ (c .before .before .before .before .before .before .before .args .key .now) _ _ (c .before .before .before .before .before .before .before .args .column) (c .before .index-shape .ensures) (c .before .before .before .cell-refusal .ensures) (c .before .before .if1 .left)
-
-enum-told : tie.Need-enum-told
-enum-told c = search needs
-
-enum-known-found : tie.Need-enum-known-found
-enum-known-found c = search needs
 
 -- the cell of the row that was found
 there : (c : tie.After-struct-known) → let a = c .before .before .before .before .before .before .before .before .before .before .before .before .args in CellIn (a .h) (a .rows .now) (c .before .before .found .given .0 .0) (a .column)
@@ -33,21 +15,6 @@ there c =
     let l = f .before .before in
     cell-in _ _ _ _ _ _ _ (l .index-shape .ensures) (f .before .compact-hash .ensures) (f .look-up .ensures) _ _ (l .before .before .cell-refusal .ensures) (l .before .if1 .left) _ _
     (c .before .before .found .given .1)
-
-mul-at : tie.Need-mul-at
-mul-at c = omega (arith, there c)
-
-add-at : tie.Need-add-at
-add-at c = omega (arith, there c)
-
-cast-at : tie.Need-cast-at
-cast-at c = omega (arith, there c)
-
-mul-t20 : tie.Need-mul-t20
-mul-t20 c = omega (arith, there c)
-
-shared-slice-read-t18 : tie.Need-shared-slice-read-t18
-shared-slice-read-t18 c = omega (arith, there (c .before))
 
 returns-2 : tie.Need-returns-2
 returns-2 c = cell-none _ _ _ _ _ _ _ (c .before .before .before .before .index-shape .ensures) (c .before .before .before .compact-hash .ensures) (c .before .before .look-up .ensures) _ _ (c .before .before .before .before .before .before .cell-refusal .ensures) (c .before .before .before .before .before .if1 .left) (c .enum-told .given .1)
@@ -59,17 +26,17 @@ pub get-row-column-spec : {M : Type 1} → statement M
 get-row-column-spec =
     tie.close
     (tie.spec
-    cell-refusal-requires
-    returns
-    index-shape-requires
-    compact-hash-requires
+    (λ c κs. search needs)
+    (λ c. cell-refused _ _ _ _ _ _ (c .before .cell-refusal .ensures) (c .if1 .taken))
+    (λ c κs. search needs)
+    (λ c κs. search needs)
     look-up-requires
-    enum-told
-    enum-known-found
-    mul-at
-    add-at
-    cast-at
-    mul-t20
-    shared-slice-read-t18
+    (λ c. search needs)
+    (λ c. search needs)
+    (λ c. omega (arith, there c))
+    (λ c. omega (arith, there c))
+    (λ c. omega (arith, there c))
+    (λ c. omega (arith, there c))
+    (λ c. omega (arith, there (c .before)))
     returns-2
     returns-3)

@@ -7,12 +7,6 @@ use borrow.Author.Needs.{needs}
 use Rattle.table_stage.proofs.is_overfull.Statement.{statement}
 use Rattle.table_stage.proofs.is_overfull.Tie as tie
 
-add-after : tie.Need-add-after
-add-after c = search needs
-
-add-after-2 : tie.Need-add-after-2
-add-after-2 c = search needs
-
 returns : tie.Need-returns
 unfolding overfull
 returns c = let a = c .before .args in rw (lt-ltb (a .pending) (a .used + (a .width + a .more)) (c .if1 .taken))
@@ -22,4 +16,4 @@ unfolding overfull
 returns-2 c = let a = c .before .args in rw (le-ltb (a .pending) (a .used + (a .width + a .more)) (omega arith))
 
 pub is-overfull-spec : {M : Type 1} → statement M
-is-overfull-spec = tie.close (tie.spec add-after add-after-2 returns returns-2)
+is-overfull-spec = tie.close (tie.spec (λ c. search needs) (λ c. search needs) returns returns-2)

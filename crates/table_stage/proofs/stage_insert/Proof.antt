@@ -17,37 +17,10 @@ use Rattle.table_stage.proofs.stage_insert.Tie as tie
 free : (c : tie.Else1) → let a = c .before .before .before .before .args in Free (a .h) (length (a .pending .now)) (length (a .cells .now)) (a .h .columns) 2
 free c = refusal-free _ _ _ _ _ _ (sym (c .before .stage-refusal .ensures) ∙ c .if1 .left)
 
-stage-refusal-requires : tie.Need-stage-refusal-requires
-stage-refusal-requires c κs = search needs
-
 returns : tie.Need-returns
 returns c =
     let a = c .before .before .before .before .args in
     staging-refused (a .h) (a .pending .now) (insert (a .cells .now)) _ (c .before .stage-refusal .ensures ∙ insert-refusal _ _ _) (c .if1 .taken)
-
-cast-compact-hash : tie.Need-cast-compact-hash
-cast-compact-hash c = search needs
-
-slice-aggregate-compact-hash : tie.Need-slice-aggregate-compact-hash
-slice-aggregate-compact-hash c = sym (length-take-le _ _ (omega (arith, free (c .before .before))))
-
-compact-hash-requires : tie.Need-compact-hash-requires
-compact-hash-requires c κs = search needs
-
-cast-write-record : tie.Need-cast-write-record
-cast-write-record c = search needs
-
-write-record-requires : tie.Need-write-record-requires
-write-record-requires c κs = omega (arith, free (c .before .before .before .before .before))
-
-add-n : tie.Need-add-n
-add-n c = omega (arith, free (c .before .before .before .before .before .before .before .before .before))
-
-add-n-2 : tie.Need-add-n-2
-add-n-2 c = omega (arith, free (c .before .before .before .before .before .before .before .before .before .before))
-
-same-length : tie.Need-same-length
-same-length c = search needs
 
 returns-2 : tie.Need-returns-2
 unfolding recordWords wordsOf
@@ -61,14 +34,14 @@ pub stage-insert-spec : {M : Type 1} → statement M
 stage-insert-spec =
     tie.close
     (tie.spec
-    stage-refusal-requires
+    (λ c κs. search needs)
     returns
-    cast-compact-hash
-    slice-aggregate-compact-hash
-    compact-hash-requires
-    cast-write-record
-    write-record-requires
-    add-n
-    add-n-2
-    same-length
+    (λ c. search needs)
+    (λ c. sym (length-take-le _ _ (omega (arith, free (c .before .before)))))
+    (λ c κs. search needs)
+    (λ c. search needs)
+    (λ c κs. omega (arith, free (c .before .before .before .before .before)))
+    (λ c. omega (arith, free (c .before .before .before .before .before .before .before .before .before)))
+    (λ c. omega (arith, free (c .before .before .before .before .before .before .before .before .before .before)))
+    (λ c. search needs)
     returns-2)

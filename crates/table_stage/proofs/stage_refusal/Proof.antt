@@ -7,9 +7,6 @@ use borrow.Author.Needs.{needs}
 use Rattle.table_stage.proofs.stage_refusal.Statement.{statement}
 use Rattle.table_stage.proofs.stage_refusal.Tie as tie
 
-is-pending-outside-requires : tie.Need-is-pending-outside-requires
-is-pending-outside-requires c κs = search needs
-
 returns : tie.Need-returns
 unfolding recordRefusal firstRefusal
 returns c = rw (sym (c .before .is-pending-outside .ensures) ∙ c .if1 .taken)
@@ -21,9 +18,6 @@ returns-2 c = rw (sym (c .before .before .is-pending-outside .ensures) ∙ c .be
 returns-3 : tie.Need-returns-3
 unfolding recordRefusal firstRefusal
 returns-3 c = rw (sym (c .before .before .before .is-pending-outside .ensures) ∙ c .before .before .if1 .left, eq-eqb _ _ (c .before .if2 .left), c .if3 .taken)
-
-is-overfull-requires : tie.Need-is-overfull-requires
-is-overfull-requires c κs = search needs
 
 returns-4 : tie.Need-returns-4
 unfolding recordRefusal firstRefusal
@@ -37,10 +31,10 @@ pub stage-refusal-spec : {M : Type 1} → statement M
 stage-refusal-spec =
     tie.close
     (tie.spec
-    is-pending-outside-requires
+    (λ c κs. search needs)
     returns
     returns-2
     returns-3
-    is-overfull-requires
+    (λ c κs. search needs)
     returns-4
     returns-5)

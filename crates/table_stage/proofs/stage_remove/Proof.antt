@@ -16,31 +16,10 @@ use Rattle.table_stage.proofs.stage_remove.Tie as tie
 free : (c : tie.Else1) → let a = c .before .before .before .before .args in Free (a .h) (length (a .pending .now)) (length (a .key .now)) (a .h .keys) 2
 free c = refusal-free _ _ _ _ _ _ (sym (c .before .stage-refusal .ensures) ∙ c .if1 .left)
 
-stage-refusal-requires : tie.Need-stage-refusal-requires
-stage-refusal-requires c κs = search needs
-
 returns : tie.Need-returns
 returns c =
     let a = c .before .before .before .before .args in
     staging-refused (a .h) (a .pending .now) (removeKey (a .key .now)) _ (c .before .stage-refusal .ensures ∙ key-refusal _ _ _) (c .if1 .taken)
-
-compact-hash-requires : tie.Need-compact-hash-requires
-compact-hash-requires c κs = search needs
-
-cast-write-record : tie.Need-cast-write-record
-cast-write-record c = search needs
-
-write-record-requires : tie.Need-write-record-requires
-write-record-requires c κs = omega (arith, free (c .before .before .before))
-
-add-n : tie.Need-add-n
-add-n c = omega (arith, free (c .before .before .before .before .before .before .before))
-
-add-n-2 : tie.Need-add-n-2
-add-n-2 c = omega (arith, free (c .before .before .before .before .before .before .before .before))
-
-same-length : tie.Need-same-length
-same-length c = search needs
 
 returns-2 : tie.Need-returns-2
 unfolding recordWords wordsOf
@@ -54,12 +33,12 @@ pub stage-remove-spec : {M : Type 1} → statement M
 stage-remove-spec =
     tie.close
     (tie.spec
-    stage-refusal-requires
+    (λ c κs. search needs)
     returns
-    compact-hash-requires
-    cast-write-record
-    write-record-requires
-    add-n
-    add-n-2
-    same-length
+    (λ c κs. search needs)
+    (λ c. search needs)
+    (λ c κs. omega (arith, free (c .before .before .before)))
+    (λ c. omega (arith, free (c .before .before .before .before .before .before .before)))
+    (λ c. omega (arith, free (c .before .before .before .before .before .before .before .before)))
+    (λ c. search needs)
     returns-2)

@@ -6,47 +6,17 @@ use borrow.Author.Needs.{needs}
 use Rattle.table_stage.proofs.write_row_head.Statement.{statement}
 use Rattle.table_stage.proofs.write_row_head.Tie as tie
 
-mul-pending : tie.Need-mul-pending
-mul-pending c = search needs
-
-slice-write-pending : tie.Need-slice-write-pending
-slice-write-pending c = search needs
-
-add-pending : tie.Need-add-pending
-add-pending c = search needs
-
-mul-pending-2 : tie.Need-mul-pending-2
-mul-pending-2 c = search needs
-
-slice-write-pending-2 : tie.Need-slice-write-pending-2
-slice-write-pending-2 c = simp length-set (omega arith)
-
-add-pending-2 : tie.Need-add-pending-2
-add-pending-2 c = search needs
-
-mul-pending-3 : tie.Need-mul-pending-3
-mul-pending-3 c = search needs
-
-slice-write-pending-3 : tie.Need-slice-write-pending-3
-slice-write-pending-3 c = simp length-set (omega arith)
-
-same-length : tie.Need-same-length
-same-length c = search needs
-
-returns : tie.Need-returns
-returns c = row-head (c .args .pending .now) (c .args .at) 2 (c .args .hash) (c .args .row) (omega arith)
-
 pub write-row-head-spec : {M : Type 1} → statement M
 write-row-head-spec =
     tie.close
     (tie.spec
-    mul-pending
-    slice-write-pending
-    add-pending
-    mul-pending-2
-    slice-write-pending-2
-    add-pending-2
-    mul-pending-3
-    slice-write-pending-3
-    same-length
-    returns)
+    (λ c. search needs)
+    (λ c. search needs)
+    (λ c. search needs)
+    (λ c. search needs)
+    (λ c. simp length-set (omega arith))
+    (λ c. search needs)
+    (λ c. search needs)
+    (λ c. simp length-set (omega arith))
+    (λ c. search needs)
+    (λ c. row-head (c .args .pending .now) (c .args .at) 2 (c .args .hash) (c .args .row) (omega arith)))

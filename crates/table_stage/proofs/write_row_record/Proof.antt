@@ -9,18 +9,6 @@ use borrow.Author.Needs.{needs}
 use Rattle.table_stage.proofs.write_row_record.Statement.{statement}
 use Rattle.table_stage.proofs.write_row_record.Tie as tie
 
-write-row-head-requires : tie.Need-write-row-head-requires
-write-row-head-requires c κs = search needs
-
-add-write-row : tie.Need-add-write-row
-add-write-row c = search needs
-
-write-row-requires : tie.Need-write-row-requires
-write-row-requires c κs = search needs
-
-same-length : tie.Need-same-length
-same-length c = search needs
-
 returns : tie.Need-returns
 returns c =
     let d = c .before .before .before .before .before .before in
@@ -31,4 +19,4 @@ returns c =
 
 pub write-row-record-spec : {M : Type 1} → statement M
 write-row-record-spec =
-    tie.close (tie.spec write-row-head-requires add-write-row write-row-requires same-length returns)
+    tie.close (tie.spec (λ c κs. search needs) (λ c. search needs) (λ c κs. search needs) (λ c. search needs) returns)

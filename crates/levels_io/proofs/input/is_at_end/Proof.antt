@@ -3,11 +3,5 @@ use Rattle.levels_io.specs.inner.Taking.{end-none, end-some}
 use Rattle.levels_io.proofs.input.is_at_end.Statement.{statement}
 use Rattle.levels_io.proofs.input.is_at_end.Tie as tie
 
-returns : tie.Need-returns
-returns c = end-none _ (c .before .before .pre) (c .if1 .taken)
-
-returns-2 : tie.Need-returns-2
-returns-2 c = end-some _ (c .before .before .before .pre) (c .before .if1 .left)
-
 pub is-at-end-spec : {M : Type 1} → statement M
-is-at-end-spec = tie.close (tie.spec returns returns-2)
+is-at-end-spec = tie.close (tie.spec (λ c. end-none _ (c .before .before .pre) (c .if1 .taken)) (λ c. end-some _ (c .before .before .before .pre) (c .before .if1 .left)))

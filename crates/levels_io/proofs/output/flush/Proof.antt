@@ -5,11 +5,8 @@ use borrow.Author.Needs.{needs}
 use Rattle.levels_io.proofs.output.flush.Statement.{statement}
 use Rattle.levels_io.proofs.output.flush.Tie as tie
 
-slice-aggregate-write-bytes : tie.Need-slice-aggregate-write-bytes
-slice-aggregate-write-bytes c = simp length-take (omega (arith, c .before .before .pre))
-
 returns : tie.Need-returns
 returns c = let counted = simp length-take at (c .write-bytes .ensures) in omega (arith, counted, c .before .before .before .pre)
 
 pub flush-spec : {M : Type 1} → statement M
-flush-spec = tie.close (tie.spec slice-aggregate-write-bytes (λ c κs. search needs) returns)
+flush-spec = tie.close (tie.spec (λ c. simp length-take (omega (arith, c .before .before .pre))) (λ c κs. search needs) returns)

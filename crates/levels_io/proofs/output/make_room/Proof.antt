@@ -5,12 +5,9 @@ use borrow.Author.Needs.{needs}
 use Rattle.levels_io.proofs.output.make_room.Statement.{statement}
 use Rattle.levels_io.proofs.output.make_room.Tie as tie
 
-returns : tie.Need-returns
-returns c = inl (c .flush .ensures)
-
 returns-2 : tie.Need-returns-2
 returns-2 c = inr (c .nothing .ensures .0, c .nothing .ensures .1, omega (arith, c .before .if1 .left, c .before .before .before .pre))
 
 pub make-room-spec : {M : Type 1} → statement M
 make-room-spec =
-    tie.close (tie.spec (λ c. search needs) (λ c κs. search needs) returns (λ c κs. search needs) returns-2)
+    tie.close (tie.spec (λ c. search needs) (λ c κs. search needs) (λ c. inl (c .flush .ensures)) (λ c κs. search needs) returns-2)

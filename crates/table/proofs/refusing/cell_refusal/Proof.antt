@@ -5,9 +5,6 @@ use borrow.Author.Needs.{needs}
 use Rattle.table.proofs.refusing.cell_refusal.Statement.{statement}
 use Rattle.table.proofs.refusing.cell_refusal.Tie as tie
 
-lookup-refusal-requires : tie.Need-lookup-refusal-requires
-lookup-refusal-requires c κs = search needs
-
 returns : tie.Need-returns
 returns c = c .before .lookup-refusal .ensures ∙ cell-lookup _ _ _ _ _ (λ e. c .if1 .taken (c .before .lookup-refusal .ensures ∙ e))
 
@@ -18,4 +15,4 @@ returns-3 : tie.Need-returns-3
 returns-3 c = cell-none _ _ _ _ _ (sym (c .before .before .before .lookup-refusal .ensures) ∙ c .before .before .if1 .left) (c .if2 .left)
 
 pub cell-refusal-spec : {M : Type 1} → statement M
-cell-refusal-spec = tie.close (tie.spec lookup-refusal-requires returns returns-2 returns-3)
+cell-refusal-spec = tie.close (tie.spec (λ c κs. search needs) returns returns-2 returns-3)

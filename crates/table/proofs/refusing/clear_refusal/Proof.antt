@@ -5,15 +5,6 @@ use borrow.Author.Needs.{needs}
 use Rattle.table.proofs.refusing.clear_refusal.Statement.{statement}
 use Rattle.table.proofs.refusing.clear_refusal.Tie as tie
 
-is-outside-requires : tie.Need-is-outside-requires
-is-outside-requires c κs = search needs
-
-returns : tie.Need-returns
-returns c = clear-outside _ _ (sym (c .before .is-outside .ensures) ∙ c .if1 .taken)
-
-is-pairs-short-requires : tie.Need-is-pairs-short-requires
-is-pairs-short-requires c κs = (sym (c .before .is-outside .ensures) ∙ c .if1 .left)
-
 returns-2 : tie.Need-returns-2
 returns-2 c = clear-short _ _ (sym (c .before .before .before .is-outside .ensures) ∙ c .before .before .if1 .left) (sym (c .before .is-pairs-short .ensures) ∙ c .if2 .taken)
 
@@ -30,9 +21,9 @@ pub clear-refusal-spec : {M : Type 1} → statement M
 clear-refusal-spec =
     tie.close
     (tie.spec
-    is-outside-requires
-    returns
-    is-pairs-short-requires
+    (λ c κs. search needs)
+    (λ c. clear-outside _ _ (sym (c .before .is-outside .ensures) ∙ c .if1 .taken))
+    (λ c κs. (sym (c .before .is-outside .ensures) ∙ c .if1 .left))
     returns-2
     returns-3
     returns-4

@@ -5,20 +5,8 @@ use borrow.Author.Needs.{needs}
 use Rattle.table.proofs.refusing.compact_refusal.Statement.{statement}
 use Rattle.table.proofs.refusing.compact_refusal.Tie as tie
 
-is-outside-requires : tie.Need-is-outside-requires
-is-outside-requires c κs = search needs
-
-returns : tie.Need-returns
-returns c = compact-outside _ _ (sym (c .before .is-outside .ensures) ∙ c .if1 .taken)
-
-is-stores-short-requires : tie.Need-is-stores-short-requires
-is-stores-short-requires c κs = (sym (c .before .is-outside .ensures) ∙ c .if1 .left)
-
 returns-2 : tie.Need-returns-2
 returns-2 c = compact-stores _ _ (sym (c .before .before .before .is-outside .ensures) ∙ c .before .before .if1 .left) (sym (c .before .is-stores-short .ensures) ∙ c .if2 .taken)
-
-is-words-short-requires : tie.Need-is-words-short-requires
-is-words-short-requires c κs = (sym (c .before .before .before .is-outside .ensures) ∙ c .before .before .if1 .left)
 
 returns-3 : tie.Need-returns-3
 returns-3 c = compact-words _ _ (sym (c .before .before .before .before .before .is-outside .ensures) ∙ c .before .before .before .before .if1 .left) (sym (c .before .before .before .is-stores-short .ensures) ∙ c .before .before .if2 .left) (sym (c .before .is-words-short .ensures) ∙ c .if3 .taken)
@@ -33,11 +21,11 @@ pub compact-refusal-spec : {M : Type 1} → statement M
 compact-refusal-spec =
     tie.close
     (tie.spec
-    is-outside-requires
-    returns
-    is-stores-short-requires
+    (λ c κs. search needs)
+    (λ c. compact-outside _ _ (sym (c .before .is-outside .ensures) ∙ c .if1 .taken))
+    (λ c κs. (sym (c .before .is-outside .ensures) ∙ c .if1 .left))
     returns-2
-    is-words-short-requires
+    (λ c κs. (sym (c .before .before .before .is-outside .ensures) ∙ c .before .before .if1 .left))
     returns-3
     returns-4
     returns-5)

@@ -6,20 +6,8 @@ use borrow.Author.Needs.{needs}
 use Rattle.table.proofs.refusing.fast_refusal.Statement.{statement}
 use Rattle.table.proofs.refusing.fast_refusal.Tie as tie
 
-is-outside-requires : tie.Need-is-outside-requires
-is-outside-requires c κs = search needs
-
-returns : tie.Need-returns
-returns c = fast-outside _ _ _ (sym (c .before .is-outside .ensures) ∙ c .if1 .taken)
-
-is-pairs-short-requires : tie.Need-is-pairs-short-requires
-is-pairs-short-requires c κs = (sym (c .before .is-outside .ensures) ∙ c .if1 .left)
-
 returns-2 : tie.Need-returns-2
 returns-2 c = fast-short _ _ _ (sym (c .before .before .before .is-outside .ensures) ∙ c .before .before .if1 .left) (sym (c .before .is-pairs-short .ensures) ∙ c .if2 .taken)
-
-known-requires : tie.Need-known-requires
-known-requires c κs = search needs
 
 returns-3 : tie.Need-returns-3
 returns-3 c = fast-unknown _ _ _ (sym (c .before .before .before .before .before .is-outside .ensures) ∙ c .before .before .before .before .if1 .left) (sym (c .before .before .before .is-pairs-short .ensures) ∙ c .before .before .if2 .left) (sym (c .before .known .ensures) ∙ not-true _ (c .if3 .taken))
@@ -31,10 +19,10 @@ pub fast-refusal-spec : {M : Type 1} → statement M
 fast-refusal-spec =
     tie.close
     (tie.spec
-    is-outside-requires
-    returns
-    is-pairs-short-requires
+    (λ c κs. search needs)
+    (λ c. fast-outside _ _ _ (sym (c .before .is-outside .ensures) ∙ c .if1 .taken))
+    (λ c κs. (sym (c .before .is-outside .ensures) ∙ c .if1 .left))
     returns-2
-    known-requires
+    (λ c κs. search needs)
     returns-3
     returns-4)

@@ -5,26 +5,11 @@ use borrow.Author.Needs.{needs}
 use Rattle.table.proofs.refusing.lookup_refusal.Statement.{statement}
 use Rattle.table.proofs.refusing.lookup_refusal.Tie as tie
 
-is-outside-requires : tie.Need-is-outside-requires
-is-outside-requires c κs = search needs
-
-returns : tie.Need-returns
-returns c = lookup-outside _ _ _ _ (sym (c .before .is-outside .ensures) ∙ c .if1 .taken)
-
-is-rows-short-requires : tie.Need-is-rows-short-requires
-is-rows-short-requires c κs = (sym (c .before .is-outside .ensures) ∙ c .if1 .left)
-
 returns-2 : tie.Need-returns-2
 returns-2 c = lookup-rows _ _ _ _ (sym (c .before .before .before .is-outside .ensures) ∙ c .before .before .if1 .left) (sym (c .before .is-rows-short .ensures) ∙ c .if2 .taken)
 
-is-pairs-short-requires : tie.Need-is-pairs-short-requires
-is-pairs-short-requires c κs = (sym (c .before .before .before .is-outside .ensures) ∙ c .before .before .if1 .left)
-
 returns-3 : tie.Need-returns-3
 returns-3 c = lookup-keys _ _ _ _ (sym (c .before .before .before .before .before .is-outside .ensures) ∙ c .before .before .before .before .if1 .left) (sym (c .before .before .before .is-rows-short .ensures) ∙ c .before .before .if2 .left) (sym (c .before .is-pairs-short .ensures) ∙ c .if3 .taken)
-
-cast-if4 : tie.Need-cast-if4
-cast-if4 c = search needs
 
 returns-4 : tie.Need-returns-4
 returns-4 c = lookup-width _ _ _ _ (sym (c .before .before .before .before .before .before .before .is-outside .ensures) ∙ c .before .before .before .before .before .before .if1 .left) (sym (c .before .before .before .before .before .is-rows-short .ensures) ∙ c .before .before .before .before .if2 .left) (sym (c .before .before .before .is-pairs-short .ensures) ∙ c .before .before .if3 .left) (c .if4 .taken)
@@ -36,12 +21,12 @@ pub lookup-refusal-spec : {M : Type 1} → statement M
 lookup-refusal-spec =
     tie.close
     (tie.spec
-    is-outside-requires
-    returns
-    is-rows-short-requires
+    (λ c κs. search needs)
+    (λ c. lookup-outside _ _ _ _ (sym (c .before .is-outside .ensures) ∙ c .if1 .taken))
+    (λ c κs. (sym (c .before .is-outside .ensures) ∙ c .if1 .left))
     returns-2
-    is-pairs-short-requires
+    (λ c κs. (sym (c .before .before .before .is-outside .ensures) ∙ c .before .before .if1 .left))
     returns-3
-    cast-if4
+    (λ c. search needs)
     returns-4
     returns-5)

@@ -6,9 +6,6 @@ use borrow.Author.Needs.{needs}
 use Rattle.table.proofs.refusing.merge_refusal.Statement.{statement}
 use Rattle.table.proofs.refusing.merge_refusal.Tie as tie
 
-sound-refusal-requires : tie.Need-sound-refusal-requires
-sound-refusal-requires c κs = search needs
-
 returns : tie.Need-returns
 returns c = c .before .sound-refusal .ensures ∙ merge-sound _ _ (λ e. c .if1 .taken (c .before .sound-refusal .ensures ∙ e))
 
@@ -23,4 +20,4 @@ returns-3 c = merge-none _ _ (sym (c .before .before .before .sound-refusal .ens
 
 pub merge-refusal-spec : {M : Type 1} → statement M
 merge-refusal-spec =
-    tie.close (tie.spec sound-refusal-requires returns is-words-short-requires returns-2 returns-3)
+    tie.close (tie.spec (λ c κs. search needs) returns is-words-short-requires returns-2 returns-3)

@@ -5,12 +5,6 @@ use borrow.Author.Needs.{needs}
 use Rattle.table.proofs.refusing.noted_refusal.Statement.{statement}
 use Rattle.table.proofs.refusing.noted_refusal.Tie as tie
 
-is-outside-requires : tie.Need-is-outside-requires
-is-outside-requires c κs = search needs
-
-returns : tie.Need-returns
-returns c = noted-outside _ _ _ (sym (c .before .is-outside .ensures) ∙ c .if1 .taken)
-
 returns-2 : tie.Need-returns-2
 returns-2 c = noted-other _ _ _ (sym (c .before .before .before .is-outside .ensures) ∙ c .before .before .if1 .left) (c .if2 .taken)
 
@@ -25,4 +19,4 @@ returns-4 c =
     (c .before .before .if2 .left) (c .if3 .left)
 
 pub noted-refusal-spec : {M : Type 1} → statement M
-noted-refusal-spec = tie.close (tie.spec is-outside-requires returns returns-2 returns-3 returns-4)
+noted-refusal-spec = tie.close (tie.spec (λ c κs. search needs) (λ c. noted-outside _ _ _ (sym (c .before .is-outside .ensures) ∙ c .if1 .taken)) returns-2 returns-3 returns-4)

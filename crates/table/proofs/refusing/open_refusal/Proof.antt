@@ -6,15 +6,6 @@ use borrow.Author.Needs.{needs}
 use Rattle.table.proofs.refusing.open_refusal.Statement.{statement}
 use Rattle.table.proofs.refusing.open_refusal.Tie as tie
 
-is-outside-requires : tie.Need-is-outside-requires
-is-outside-requires c κs = search needs
-
-returns : tie.Need-returns
-returns c = open-outside _ _ (c .before .before .pre) (sym (c .before .is-outside .ensures) ∙ c .if1 .taken)
-
-is-stores-short-requires : tie.Need-is-stores-short-requires
-is-stores-short-requires c κs = (sym (c .before .is-outside .ensures) ∙ c .if1 .left)
-
 returns-2 : tie.Need-returns-2
 returns-2 c = open-none _ _ (c .before .before .before .before .pre) (sym (c .before .before .before .is-outside .ensures) ∙ c .before .before .if1 .left) (sym (c .before .is-stores-short .ensures) ∙ not-true _ (c .if2 .taken))
 
@@ -23,4 +14,4 @@ returns-3 c = open-short _ _ (c .before .before .before .before .pre) (sym (c .b
 
 pub open-refusal-spec : {M : Type 1} → statement M
 open-refusal-spec =
-    tie.close (tie.spec is-outside-requires returns is-stores-short-requires returns-2 returns-3)
+    tie.close (tie.spec (λ c κs. search needs) (λ c. open-outside _ _ (c .before .before .pre) (sym (c .before .is-outside .ensures) ∙ c .if1 .taken)) (λ c κs. (sym (c .before .is-outside .ensures) ∙ c .if1 .left)) returns-2 returns-3)

@@ -5,15 +5,6 @@ use borrow.Author.Needs.{needs}
 use Rattle.table.proofs.refusing.sound_refusal.Statement.{statement}
 use Rattle.table.proofs.refusing.sound_refusal.Tie as tie
 
-is-pending-outside-requires : tie.Need-is-pending-outside-requires
-is-pending-outside-requires c κs = search needs
-
-returns : tie.Need-returns
-returns c = sound-outside _ _ _ _ _ (sym (c .before .is-pending-outside .ensures) ∙ c .if1 .taken)
-
-is-stores-short-requires : tie.Need-is-stores-short-requires
-is-stores-short-requires c κs = inside-alone _ _ (sym (c .before .is-pending-outside .ensures) ∙ c .if1 .left)
-
 returns-2 : tie.Need-returns-2
 returns-2 c = sound-short _ _ (sym (c .before .before .before .is-pending-outside .ensures) ∙ c .before .before .if1 .left) (sym (c .before .is-stores-short .ensures) ∙ c .if2 .taken)
 
@@ -23,4 +14,4 @@ returns-3 c = sound-none _ _ (sym (c .before .before .before .is-pending-outside
 pub sound-refusal-spec : {M : Type 1} → statement M
 sound-refusal-spec =
     tie.close
-    (tie.spec is-pending-outside-requires returns is-stores-short-requires returns-2 returns-3)
+    (tie.spec (λ c κs. search needs) (λ c. sound-outside _ _ _ _ _ (sym (c .before .is-pending-outside .ensures) ∙ c .if1 .taken)) (λ c κs. inside-alone _ _ (sym (c .before .is-pending-outside .ensures) ∙ c .if1 .left)) returns-2 returns-3)

@@ -6,14 +6,5 @@ use borrow.Author.Needs.{needs}
 use Rattle.table.proofs.refusing.version_refusal.Statement.{statement}
 use Rattle.table.proofs.refusing.version_refusal.Tie as tie
 
-is-outside-requires : tie.Need-is-outside-requires
-is-outside-requires c κs = search needs
-
-returns : tie.Need-returns
-returns c = version-none _ (sym (c .before .is-outside .ensures) ∙ not-true _ (c .if1 .taken))
-
-returns-2 : tie.Need-returns-2
-returns-2 c = version-outside _ (sym (c .before .is-outside .ensures) ∙ not-false _ (c .if1 .left))
-
 pub version-refusal-spec : {M : Type 1} → statement M
-version-refusal-spec = tie.close (tie.spec is-outside-requires returns returns-2)
+version-refusal-spec = tie.close (tie.spec (λ c κs. search needs) (λ c. version-none _ (sym (c .before .is-outside .ensures) ∙ not-true _ (c .if1 .taken))) (λ c. version-outside _ (sym (c .before .is-outside .ensures) ∙ not-false _ (c .if1 .left))))
