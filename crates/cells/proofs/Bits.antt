@@ -1,10 +1,5 @@
 -- The masks and shifts of `from_full` and `probe` as the definitions' quotients and remainders. Assumes nothing.
-use Prim.Native.Nat.{ℕ, _-_, _*_, _/_, _%_, _^_, _<_}
-use mathlib.Core.Path.{_≡_, ap, ap₂, _∙_}
-use native.Mathlib.Nat.{add-comm}
-use native.Mathlib.Omega.{arith}
-use lib.Pow.{shl-exact, shr-mod}
-use lib.Bits.{bitAnd, bitOr, and-mask, or-shifted-r}
+use Rattle.cells.proofs.Prelude.{ℕ, _-_, _*_, _/_, _%_, _^_, _<_, _≡_, ap, ap₂, _∙_, add-comm, arith, shl-exact, shr-mod, bitAnd, bitOr, and-mask, or-shifted-r}
 use Rattle.cells.specs.Cells.{compactHash, probed}
 
 pub compact-law : (x : ℕ) → x < 2 ^ 64

@@ -1,12 +1,5 @@
 -- The loop iterations of `key_hash`. Assumes nothing.
-use Prim.Native.Nat.{ℕ, _+_, _*_, _^_, _≤_, _<_}
-use mathlib.Core.Path.{_≡_}
-use mathlib.Core.List.{List, foldl}
-use native.Mathlib.Numerals.{add-one}
-use native.Mathlib.Nat.{mul-le-mul}
-use native.Mathlib.Omega.{arith}
-use lib.ListN.{length, drop, getD, drop-of-length-le}
-use lib.Seq.{drop-cons}
+use Rattle.cells.proofs.Prelude.{ℕ, _+_, _*_, _^_, _≤_, _<_, _≡_, List, foldl, add-one, mul-le-mul, arith, length, drop, getD, drop-of-length-le, drop-cons}
 use Rattle.cells.specs.Cells.{mixed}
 
 pub hash-step : (key : List ℕ) (i hash : ℕ) → i < length key

@@ -1,2 +1,3 @@
+mod Prelude
 pub mod Bits
 pub mod Hash

@@ -1,14 +1,6 @@
 -- The ways through `met` and `meets`. Assumes nothing.
-use Prim.Native.Nat.{ℕ}
-use mathlib.Core.Path.{_≡_, refl}
-use mathlib.Core.Logic.{inl, inr}
-use mathlib.Core.Bool.{Bool, true, false, cond, _&&_}
-use mathlib.Core.List.{List, [], _∷_}
-use lib.Dec.{eqb}
-use lib.ListN.{getD}
+use Rattle.constraints.proofs.Prelude.{ℕ, _≡_, refl, inl, inr, Bool, true, false, cond, _&&_, List, [], _∷_, eqb, getD, split, Constraint}
 use Rattle.lists.specs.Lists.{all}
-use Rattle.lists.specs.Laws.Filter.{split}
-use Rattle.constraints.specs.declared.Constraint.{Constraint}
 use Rattle.constraints.specs.Constraints.{compares, met, isLive, meets}
 
 and-true : (b : Bool) → (b && true) ≡ b

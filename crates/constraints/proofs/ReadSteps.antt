@@ -1,13 +1,5 @@
 -- The loop iterations of `read_conditions`. Assumes nothing.
-use Prim.Native.Nat.{ℕ, suc, _+_, _≤_, _<_}
-use mathlib.Core.Path.{_≡_, sym, _∙_, ap}
-use mathlib.Core.List.{List, [], _∷_, _++_}
-use native.Mathlib.Omega.{arith}
-use lib.ListN.{length, take, set, length-set}
-use lib.Seq.{take-suc-set}
-use Rattle.constraints.specs.declared.Constraint.{Constraint}
-use Rattle.constraints.specs.Encoding.{conditionIn, conditionsIn}
-use Rattle.constraints.specs.Laws.Encoding.{none-in, more-in}
+use Rattle.constraints.proofs.Prelude.{ℕ, suc, _+_, _≤_, _<_, _≡_, sym, _∙_, ap, List, [], _∷_, _++_, arith, length, take, set, length-set, take-suc-set, Constraint, conditionIn, conditionsIn, none-in, more-in}
 
 pub record Reading (words : List ℕ) (count : ℕ) (all : List Constraint) (i : ℕ) : Type 0 where
   pub long : length all ≡ 16

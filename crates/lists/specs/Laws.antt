@@ -1,4 +1,5 @@
 -- Laws of the definitions of Lists.antt.
+mod Prelude
 pub mod Parts
 pub mod Filter
 pub mod All

@@ -1,22 +1,8 @@
 -- Flipping the top bit, the paths through the functions of a cell, the loop iterations of `changes` and `make`, and the row that is
 -- returned. Assumes nothing.
-use Prim.Native.Nat.{ℕ, suc, _+_, _-_, _*_, _%_, _^_, _≤_, _<_}
-use mathlib.Core.Path.{_≡_, refl, sym, ap, ap₂, _∙_}
-use mathlib.Core.Bool.{Bool, true, false, not, _&&_, _||_}
-use mathlib.Core.List.{List, [], _∷_, _++_}
-use native.Mathlib.Nat.{zero-add}
-use native.Mathlib.Decide.{decLt}
-use native.Mathlib.Numerals.{add-one}
-use native.Mathlib.Omega.{arith}
-use lib.Bits.{bitXor, xor-block, xor-comm, xor-shifted, xor-zero-r}
-use lib.Dec.{eqb}
-use lib.ListN.{length, take, drop, getD, set, drop-of-length-le}
-use lib.Seq.{drop-cons, take-length}
-use borrow.Author.Tests.{eq-eqb, ne-eqb}
+use Rattle.merge_rules.proofs.Prelude.{ℕ, suc, _+_, _-_, _*_, _%_, _^_, _≤_, _<_, _≡_, refl, sym, ap, ap₂, _∙_, Bool, true, false, not, _&&_, _||_, List, [], _∷_, _++_, zero-add, decLt, add-one, arith, bitXor, xor-block, xor-comm, xor-shifted, xor-zero-r, eqb, length, take, drop, getD, set, drop-of-length-le, drop-cons, take-length, eq-eqb, ne-eqb, copy-step, part-width, made-length, made-at}
 use Rattle.lists.specs.Lists.{splice}
-use Rattle.lists.specs.Laws.Parts.{copy-step, part-width}
 use Rattle.merge_rules.specs.Rules.{ruledColumn, taken, madeCell, madeFrom, changesFrom, survivor}
-use Rattle.merge_rules.specs.Laws.Rules.{made-length, made-at}
 
 -- the top bit turned over
 pub top-turned : (cell : ℕ) → cell < 2 ^ 32 → bitXor cell (2 ^ 31) ≡ (cell + 2 ^ 31) % 2 ^ 32

@@ -1,23 +1,6 @@
 -- The loop iterations of `move_row` and of `same_cells`, and the masks of bitmap words. Assumes nothing.
-use Prim.Native.Nat.{ℕ, suc, _+_, _-_, _*_, _%_, _^_, _≤_, _<_}
-use mathlib.Core.Path.{_≡_, sym, ap, ap₂, _∙_}
-use mathlib.Core.Bool.{true, false, _&&_}
-use mathlib.Core.List.{List, _++_}
-use native.Mathlib.Nat.{one-mul, add-comm}
-use native.Mathlib.Numerals.{add-one}
-use native.Mathlib.Omega.{arith}
-use lib.Pow.{pow-pos, shl-exact}
-use lib.Bits.{bitAnd, bitOr, and-mask, or-shifted-r}
-use lib.Count.{ones}
-use lib.Dec.{eqb}
-use lib.ListN.{length, take, drop, getD, set, length-take, length-drop, take-append-drop, drop-of-length-le}
-use lib.Seq.{drop-cons, drop-drop, length-take-le, getD-append-add, getD-drop}
-use borrow.Author.Tests.{eq-eqb, ne-eqb}
-use borrow.Rule.Slice.PartMut.{putMid}
+use Rattle.row_buffer.proofs.Prelude.{ℕ, suc, _+_, _-_, _*_, _%_, _^_, _≤_, _<_, _≡_, sym, ap, ap₂, _∙_, true, false, _&&_, List, _++_, one-mul, add-comm, add-one, arith, pow-pos, shl-exact, bitAnd, bitOr, and-mask, or-shifted-r, ones, eqb, length, take, drop, getD, set, length-take, length-drop, take-append-drop, drop-of-length-le, drop-cons, drop-drop, length-take-le, getD-append-add, getD-drop, eq-eqb, ne-eqb, putMid, put-part, part-to-end, copy-step, setBelow, ones-below}
 use Rattle.lists.specs.Lists.{splice, same}
-use Rattle.lists.specs.Laws.Parts.{put-part, part-to-end, copy-step}
-use Rattle.row_buffer.specs.Ranks.{setBelow}
-use Rattle.row_buffer.specs.Laws.Rows.{ones-below}
 
 -- ---- the copier inside a part
 

@@ -1,25 +1,9 @@
 -- The steps of the checks: an entry after another, and the rows with the entries. Assumes nothing.
-use Prim.Native.Nat.{ℕ, suc, _+_, _-_, _*_, _≤_, _<_}
-use mathlib.Core.Path.{_≡_, refl, sym, ap, _∙_}
-use mathlib.Core.Logic.{inl, inr}
-use mathlib.Core.Bool.{Bool, true, false, _&&_}
-use mathlib.Core.List.{List, [], _∷_}
-use native.Mathlib.Nat.{sub-zero}
-use native.Mathlib.Numerals.{add-one}
-use native.Mathlib.Omega.{arith}
-use lib.ListN.{length, drop, getD, length-drop, drop-of-length-le}
-use lib.Seq.{drop-cons}
-use lib.Dec.{eqb, ltb}
-use borrow.Author.Tests.{ltb-true, ltb-false, le-leb, lt-leb}
+use Rattle.sort_entries.proofs.Prelude.{ℕ, suc, _+_, _-_, _*_, _≤_, _<_, _≡_, refl, sym, ap, _∙_, inl, inr, Bool, true, false, _&&_, List, [], _∷_, sub-zero, add-one, arith, length, drop, getD, length-drop, drop-of-length-le, drop-cons, eqb, ltb, ltb-true, ltb-false, le-leb, lt-leb, split, getD-rowAt, first-cell, length-entriesOf, valueOf, entryRow, value-word, row-word, sound-first, sound-facts, sound-of}
 use Rattle.lists.specs.Lists.{all, iota}
-use Rattle.lists.specs.Laws.Filter.{split}
-use Rattle.lists.specs.Laws.Rows.{getD-rowAt}
 use Rattle.cells.specs.Cells.{isDead}
 use Rattle.constraints.specs.Constraints.{isLive}
-use Rattle.constraints.specs.Laws.Rows.{first-cell}
 use Rattle.sort_entries.specs.Entries.{Entry, entry, entriesOf, firstRow, valueAt, entriesSound}
-use Rattle.sort_entries.specs.Laws.Stores.{length-entriesOf}
-use Rattle.sort_entries.specs.Laws.Sound.{valueOf, entryRow, value-word, row-word, sound-first, sound-facts, sound-of}
 use Rattle.sort_entries.specs.inner.Checks.{Decides, decides-yes, decides-no, Follows, Advanced, headValue, cellSound, cellsSound}
 
 -- ---- one entry

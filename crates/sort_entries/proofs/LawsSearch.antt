@@ -1,25 +1,8 @@
 -- The position of a value, from the result of the binary search. Assumes nothing.
-use Prim.Native.Nat.{ℕ, _+_, _-_, _*_, _≤_, _<_}
-use mathlib.Core.Path.{_≡_, refl, sym, ap, ap₂, _∙_}
-use mathlib.Core.Logic.{_⊎_, inl, inr}
-use mathlib.Core.Bool.{Bool, true, false, cond}
-use mathlib.Core.List.{List}
-use native.Mathlib.Decide.{ℕ-discrete}
-use native.Mathlib.Omega.{arith}
-use lib.ListN.{length, drop, getD}
-use lib.Dec.{eqb}
-use borrow.Author.Tests.{ne-eqb}
+use Rattle.sort_entries.proofs.Prelude.{ℕ, _+_, _-_, _*_, _≤_, _<_, _≡_, refl, sym, ap, ap₂, _∙_, _⊎_, inl, inr, Bool, true, false, cond, List, ℕ-discrete, arith, length, drop, getD, eqb, ne-eqb, entriesOf, firstRow, entriesSound, length-entriesOf, valueOf, value-word, row-word, sound-climb, sound-facts, firstRow-drop, firstRow-past, place-found, place-absent, Found, Absent, SearchResult, Range, SearchResultIs, Ranged, positionFound, rangeOf}
 use Rattle.offsets.specs.Subsets.{Subset, range}
 use Rattle.offsets_search.specs.inner.Search.{Bracketed}
-use Rattle.sort_entries.specs.Entries.{entriesOf, firstRow, entriesSound}
-use Rattle.sort_entries.specs.Laws.Stores.{length-entriesOf}
-use Rattle.sort_entries.specs.Laws.Sound.{valueOf, value-word, row-word, sound-climb, sound-facts, firstRow-drop, firstRow-past}
 use Rattle.sort_entries.specs.Laws.Positions.{Position, found, absent, rangeAt, fast-range-at}
-use Rattle.sort_entries.specs.Laws.Ranges.{place-found, place-absent}
-use Rattle.sort_entries.specs.declared.SearchResult.the-variants.{Found, Absent}
-use Rattle.sort_entries.specs.declared.SearchResult.{SearchResult}
-use Rattle.sort_entries.specs.declared.Range.{Range}
-use Rattle.sort_entries.specs.inner.Search.{SearchResultIs, Ranged, positionFound, rangeOf}
 
 -- ---- the row of the entry at a position
 

@@ -1,2 +1,3 @@
+mod Prelude
 pub mod LawsSearch
 pub mod LawsCheck

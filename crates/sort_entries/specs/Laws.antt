@@ -1,4 +1,5 @@
 -- What follows from the definitions.
+mod Prelude
 pub mod Push
 pub mod Stores
 pub mod Sound

@@ -1,26 +1,9 @@
 -- The tests of refusing.rt one by one: what each exit of a function proves of its refusal. Assumes nothing.
-use Prim.Native.Nat.{ℕ, _+_, _*_, _/_, _≤_, _<_}
-use mathlib.Core.Path.{_≡_, refl, sym, _∙_}
-use mathlib.Core.Logic.{inl, inr}
-use mathlib.Core.Bool.{Bool, true, false, not, _||_}
-use mathlib.Core.List.{List, [], _∷_}
-use native.Mathlib.Nat.{mul-le-mul}
-use native.Mathlib.Omega.{arith}
-use lib.Dec.{leb, ltb}
-use borrow.Author.Tests.{leb-true, leb-false, lt-ltb, le-ltb, le-leb, lt-leb, eq-eqb, ne-eqb}
-use Rattle.lists.specs.Laws.Filter.{split}
-use Rattle.lists.specs.Laws.All.{or-no-left}
+use Rattle.table.proofs.Prelude.{ℕ, _+_, _*_, _/_, _≤_, _<_, _≡_, refl, sym, _∙_, inl, inr, Bool, true, false, not, _||_, List, [], _∷_, mul-le-mul, arith, leb, ltb, leb-true, leb-false, lt-ltb, le-ltb, le-leb, lt-leb, eq-eqb, ne-eqb, split, or-no-left, Constraint, known, firstRefusal-no, firstRefusal-rest, Bounds, openable-bounds, Header, openingOf, Inside, outside-inside}
 use Rattle.refusals.specs.Refusals.{Check, check, firstRefusal}
-use Rattle.constraints.specs.declared.Constraint.{Constraint}
-use Rattle.constraints.specs.Constraints.{known}
 use Rattle.plain_table.specs.Staged.{Opening, openable}
 use Rattle.plain_table.specs.Refusing.{Lengths, storesShort, wordsShort, openRefusal, compactChecks, mergeChecks, clearChecks}
-use Rattle.plain_table.specs.Laws.Calls.{firstRefusal-no, firstRefusal-rest}
-use Rattle.plain_table.specs.Laws.Proper.{Bounds, openable-bounds}
-use Rattle.table.specs.declared.Header.{Header}
-use Rattle.table.specs.Numbers.{openingOf}
 use Rattle.table.specs.Refusing.{outside, pendingOutside, rowsShort, pairsShort, mergeRefusal, compactRefusal, clearRefusal, lookupRefusal, cellRefusal, fastRefusal, versionRefusal, sinceRefusal, notedRefusal, soundRefusal, lookupChecks}
-use Rattle.table.specs.Laws.Refusals.{Inside, outside-inside}
 
 not-leb : (a b : ℕ) → ltb b a ≡ not (leb a b)
 not-leb a b = elim (split (leb a b)) [ inl e ↦ rw (e, le-ltb b a (leb-true a b e)) | inr e ↦ rw (e, lt-ltb b a (leb-false a b e)) ]

@@ -1,4 +1,5 @@
 -- What follows from the definitions.
+mod Prelude
 pub mod Stored
 pub mod Shown
 pub mod Pending

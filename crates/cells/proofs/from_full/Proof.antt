@@ -1,6 +1,5 @@
 -- `cells::from_full` meets its contract. Assumes nothing.
-use borrow.Author.Needs.{needs}
-use native.Mathlib.Omega.{arith}
+use Rattle.cells.proofs.Prelude.{needs, arith}
 use Rattle.cells.proofs.Bits.{compact-law}
 use Rattle.cells.proofs.from_full.Statement.{statement}
 use Rattle.cells.proofs.from_full.Tie as tie

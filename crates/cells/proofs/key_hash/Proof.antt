@@ -1,11 +1,6 @@
 -- `cells::key_hash` meets its contract. The loop's invariant: the hash of the cells to come, from the hash so far, is the
 -- key's. Assumes nothing.
-use Prim.Native.Nat.{ℕ, _+_, _-_, _*_, _^_, _≤_, _<_}
-use mathlib.Core.Path.{_≡_, refl, sym, ap, _∙_}
-use mathlib.Core.List.{foldl}
-use borrow.Author.Needs.{needs}
-use native.Mathlib.Omega.{arith}
-use lib.ListN.{length, drop}
+use Rattle.cells.proofs.Prelude.{ℕ, _+_, _-_, _*_, _^_, _≤_, _<_, _≡_, refl, sym, ap, _∙_, foldl, needs, arith, length, drop}
 use Rattle.cells.specs.Cells.{mixed}
 use Rattle.cells.specs.Cells.Hash.{key-hash-is}
 use Rattle.cells.proofs.Hash.{hash-step, hash-end}

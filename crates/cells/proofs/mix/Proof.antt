@@ -1,8 +1,5 @@
 -- `cells::mix` meets its contract. Assumes nothing.
-use Prim.Native.Nat.{ℕ, _+_, _*_, _/_, _%_, _^_, _<_}
-use mathlib.Core.Path.{refl}
-use borrow.Author.Needs.{needs}
-use native.Mathlib.Omega.{arith}
+use Rattle.cells.proofs.Prelude.{ℕ, _+_, _*_, _/_, _%_, _^_, _<_, refl, needs, arith}
 use Rattle.cells.specs.Cells.{mixed}
 use Rattle.cells.proofs.Hash.{product-fits}
 use Rattle.cells.proofs.mix.Statement.{statement}

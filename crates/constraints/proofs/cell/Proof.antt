@@ -1,7 +1,5 @@
 -- `constraints::cell` meets its contract. Assumes nothing.
-use mathlib.Core.Path.{sym}
-use borrow.Author.Needs.{needs}
-use lib.ListN.{List·getD-eq-default}
+use Rattle.constraints.proofs.Prelude.{sym, needs, List·getD-eq-default}
 use Rattle.constraints.proofs.cell.Statement.{statement}
 use Rattle.constraints.proofs.cell.Tie as tie
 

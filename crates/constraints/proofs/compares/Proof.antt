@@ -1,14 +1,5 @@
 -- `constraints::compares` meets its contract. Assumes nothing.
-use Prim.Native.Nat.{ℕ, _≤_, _<_}
-use mathlib.Core.Path.{_≡_, refl, _∙_}
-use mathlib.Core.Logic.{inl, inr, ⊎-elim}
-use mathlib.Core.Bool.{Bool, true, false, cond, _||_, Bool·beq}
-use native.Mathlib.Decide.{ℕ-discrete}
-use native.Mathlib.Omega.{arith}
-use lib.Dec.{leb, ltb, eqb}
-use borrow.Author.Tests.{ltb-true, ltb-false, eqb-true, eqb-false, le-leb, lt-leb, le-ltb, ne-eqb}
-use Rattle.lists.specs.Laws.Filter.{split}
-use Rattle.lists.specs.Laws.All.{or-no-left, or-no-right}
+use Rattle.constraints.proofs.Prelude.{ℕ, _≤_, _<_, _≡_, refl, _∙_, inl, inr, ⊎-elim, Bool, true, false, cond, _||_, Bool·beq, ℕ-discrete, arith, leb, ltb, eqb, ltb-true, ltb-false, eqb-true, eqb-false, le-leb, lt-leb, le-ltb, ne-eqb, split, or-no-left, or-no-right}
 use Rattle.constraints.specs.Constraints.{compares}
 use Rattle.constraints.proofs.compares.Statement.{statement}
 use Rattle.constraints.proofs.compares.Tie as tie

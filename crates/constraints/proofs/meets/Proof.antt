@@ -1,6 +1,5 @@
 -- `constraints::meets` meets its contract. Assumes nothing.
-use borrow.Author.Needs.{needs}
-use mathlib.Core.Path.{sym, _∙_}
+use Rattle.constraints.proofs.Prelude.{needs, sym, _∙_}
 use Rattle.constraints.proofs.Laws.{meets-live, meets-dead}
 use Rattle.constraints.proofs.meets.Statement.{statement}
 use Rattle.constraints.proofs.meets.Tie as tie

@@ -1,8 +1,5 @@
 -- `constraints::met` meets its contract. Assumes nothing.
-use mathlib.Core.Path.{_∙_}
-use mathlib.Core.Logic.{⊎-elim}
-use borrow.Author.Needs.{needs}
-use borrow.Author.Tests.{eq-eqb, ne-eqb}
+use Rattle.constraints.proofs.Prelude.{_∙_, ⊎-elim, needs, eq-eqb, ne-eqb}
 use Rattle.constraints.proofs.Laws.{met-by}
 use Rattle.constraints.proofs.met.Statement.{statement}
 use Rattle.constraints.proofs.met.Tie as tie

@@ -1,14 +1,5 @@
 -- Laws of the elements that pass a test: which they are, how many, and whether all do. Assumes nothing.
-use Prim.Native.Nat.{ℕ, zero, suc, _+_, _≤_, _<_, suc-le-suc}
-use mathlib.Core.Path.{_≡_, refl, sym, _∙_}
-use mathlib.Core.Logic.{_⊎_, inl, inr}
-use mathlib.Core.Bool.{Bool, true, false, not, _&&_}
-use mathlib.Core.List.{List, [], _∷_, _++_, append-nil}
-use native.Mathlib.Nat.{zero-add, suc-add}
-use native.Mathlib.Numerals.{add-one}
-use native.Mathlib.Omega.{arith}
-use lib.ListN.{length, take, getD}
-use lib.Seq.{take-suc}
+use Rattle.lists.specs.Laws.Prelude.{ℕ, zero, suc, _+_, _≤_, _<_, suc-le-suc, _≡_, refl, sym, _∙_, _⊎_, inl, inr, Bool, true, false, not, _&&_, List, [], _∷_, _++_, append-nil, zero-add, suc-add, add-one, arith, length, take, getD, take-suc}
 use Rattle.lists.specs.Lists.{filter, count, all}
 
 -- case distinction on a test, with its value

@@ -1,10 +1,5 @@
 -- Laws of a list whose first elements are mapped. Assumes nothing.
-use Prim.Native.Nat.{ℕ, zero, suc, _+_, _≤_, _<_}
-use mathlib.Core.Path.{_≡_, refl, ap}
-use mathlib.Core.List.{List, [], _∷_}
-use native.Mathlib.Numerals.{add-one}
-use native.Mathlib.Omega.{arith}
-use lib.ListN.{length, drop, getD, set}
+use Rattle.lists.specs.Laws.Prelude.{ℕ, zero, suc, _+_, _≤_, _<_, _≡_, refl, ap, List, [], _∷_, add-one, arith, length, drop, getD, set}
 use Rattle.lists.specs.inner.Searching.{mapFront}
 
 module _ {A : Type 0} where

@@ -1,13 +1,5 @@
 -- Laws of overwriting a part of a list. Assumes nothing.
-use Prim.Native.Nat.{ℕ, zero, suc, _+_, _-_, _≤_, _<_}
-use mathlib.Core.Path.{_≡_, refl, sym, ap, ap₂, _∙_}
-use mathlib.Core.List.{List, [], _∷_, _++_, append-assoc, append-nil}
-use native.Mathlib.Nat.{add-zero, zero-add, suc-add}
-use native.Mathlib.Numerals.{add-one}
-use native.Mathlib.Omega.{arith}
-use lib.ListN.{length, take, drop, getD, set, length-append, length-take, length-drop, length-set, take-append-drop, drop-of-length-le}
-use lib.Seq.{take-all, take-append-le, take-at, drop-append-add, drop-at, drop-drop, take-take, take-nil, getD-take, getD-drop, set-split}
-use borrow.Rule.Slice.PartMut.{putMid}
+use Rattle.lists.specs.Laws.Prelude.{ℕ, zero, suc, _+_, _-_, _≤_, _<_, _≡_, refl, sym, ap, ap₂, _∙_, List, [], _∷_, _++_, append-assoc, append-nil, add-zero, zero-add, suc-add, add-one, arith, length, take, drop, getD, set, length-append, length-take, length-drop, length-set, take-append-drop, drop-of-length-le, take-all, take-append-le, take-at, drop-append-add, drop-at, drop-drop, take-take, take-nil, getD-take, getD-drop, set-split, putMid}
 use Rattle.lists.specs.Lists.{splice}
 
 module _ {A : Type 0} where

@@ -1,16 +1,6 @@
 -- Laws of searches in a rising list: the first position whose number is not below t is the count of the numbers below t. Also of
 -- writing results one after another. Assumes nothing.
-use Prim.Native.Nat.{ℕ, zero, suc, _+_, _-_, _≤_, _<_, suc-le-suc}
-use mathlib.Core.Path.{_≡_, refl, sym, ap, _∙_}
-use mathlib.Core.Logic.{inl, inr}
-use mathlib.Core.Bool.{Bool, true, false}
-use mathlib.Core.List.{List, [], _∷_, _++_, append-nil}
-use native.Mathlib.Decide.{decLt}
-use native.Mathlib.Omega.{arith}
-use lib.Dec.{ltb}
-use lib.ListN.{length, take, drop, getD, set, length-drop, take-append-drop}
-use lib.Seq.{getD-drop, take-append-seam}
-use borrow.Author.Tests.{lt-ltb, le-ltb}
+use Rattle.lists.specs.Laws.Prelude.{ℕ, zero, suc, _+_, _-_, _≤_, _<_, suc-le-suc, _≡_, refl, sym, ap, _∙_, inl, inr, Bool, true, false, List, [], _∷_, _++_, append-nil, decLt, arith, ltb, length, take, drop, getD, set, length-drop, take-append-drop, getD-drop, take-append-seam, lt-ltb, le-ltb}
 use Rattle.lists.specs.Lists.{splice, filter, count, rising, elem, within}
 use Rattle.lists.specs.inner.Searching.{firstNotBelow}
 use Rattle.lists.specs.Laws.Parts.{length-splice, splice-then, set-splice}

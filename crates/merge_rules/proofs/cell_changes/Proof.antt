@@ -1,6 +1,5 @@
 -- `merge_rules::cell_changes` meets its contract. Assumes nothing.
-use borrow.Author.Needs.{needs}
-use mathlib.Core.Path.{sym, _∙_}
+use Rattle.merge_rules.proofs.Prelude.{needs, sym, _∙_}
 use Rattle.merge_rules.proofs.cell_changes.Statement.{statement}
 use Rattle.merge_rules.proofs.cell_changes.Tie as tie
 

@@ -1,11 +1,6 @@
 -- `merge_rules::changes` meets its contract. The loop's invariant: whether a cell changes from the start on is whether one
 -- does from column i on. It begins behind the keys. Assumes nothing.
-use Prim.Native.Nat.{_-_}
-use mathlib.Core.Path.{_≡_, sym, _∙_}
-use borrow.Author.Needs.{needs}
-use lib.ListN.{length, drop}
-use Rattle.merge_rules.specs.Rules.{changesFrom}
-use Rattle.merge_rules.specs.Laws.Rules.{changes-behind}
+use Rattle.merge_rules.proofs.Prelude.{_-_, _≡_, sym, _∙_, needs, length, drop, changesFrom, changes-behind}
 use Rattle.merge_rules.proofs.Laws.{old-ended, new-ended, changed, unchanged}
 use Rattle.merge_rules.proofs.changes.Statement.{statement}
 use Rattle.merge_rules.proofs.changes.Tie as tie

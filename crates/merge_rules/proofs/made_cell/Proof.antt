@@ -1,6 +1,5 @@
 -- `merge_rules::made_cell` meets its contract. Assumes nothing.
-use borrow.Author.Needs.{needs}
-use mathlib.Core.Path.{sym, _∙_}
+use Rattle.merge_rules.proofs.Prelude.{needs, sym, _∙_}
 use Rattle.merge_rules.proofs.Laws.{cell-ruled, cell-new, cell-old}
 use Rattle.merge_rules.proofs.made_cell.Statement.{statement}
 use Rattle.merge_rules.proofs.made_cell.Tie as tie

@@ -1,12 +1,6 @@
 -- `merge_rules::make` meets its contract. The loop's invariant: the first i cells are those of the row made, the others as
 -- they were. Assumes nothing.
-use Prim.Native.Nat.{_-_, _≤_}
-use mathlib.Core.Path.{_≡_, refl, _∙_}
-use mathlib.Core.List.{_++_}
-use borrow.Author.Needs.{needs}
-use native.Mathlib.Omega.{arith}
-use lib.ListN.{length, take, drop, length-set}
-use Rattle.merge_rules.specs.Rules.{madeFrom}
+use Rattle.merge_rules.proofs.Prelude.{_-_, _≤_, _≡_, refl, _∙_, _++_, needs, arith, length, take, drop, length-set, madeFrom}
 use Rattle.merge_rules.proofs.Laws.{make-step, make-end}
 use Rattle.merge_rules.proofs.make.Statement.{statement}
 use Rattle.merge_rules.proofs.make.Tie as tie

@@ -1,6 +1,5 @@
 -- `merge_rules::ruled_column` meets its contract. Assumes nothing.
-use mathlib.Core.Path.{sym}
-use Rattle.merge_rules.specs.Laws.Rules.{ruled-key, ruled-past}
+use Rattle.merge_rules.proofs.Prelude.{sym, ruled-key, ruled-past}
 use Rattle.merge_rules.proofs.ruled_column.Statement.{statement}
 use Rattle.merge_rules.proofs.ruled_column.Tie as tie
 

@@ -1,7 +1,5 @@
 -- `merge_rules::signed_less` meets its contract. Assumes nothing.
-use borrow.Author.Needs.{needs}
-use mathlib.Core.Path.{sym}
-use Rattle.merge_rules.specs.Laws.Signed.{less-lifted}
+use Rattle.merge_rules.proofs.Prelude.{needs, sym, less-lifted}
 use Rattle.merge_rules.proofs.signed_less.Statement.{statement}
 use Rattle.merge_rules.proofs.signed_less.Tie as tie
 

@@ -1,21 +1,5 @@
 -- Laws of the rules: the cells of the resulting row, and what rules 0 and 1 are equal to. Assumes nothing.
-use Prim.Native.Nat.{ℕ, zero, suc, min, _+_, _≤_, _<_}
-use mathlib.Core.Path.{_≡_, refl, sym, ap, _∙_}
-use mathlib.Core.Logic.{inl, inr}
-use mathlib.Core.Bool.{Bool, true, false, cond, not, _&&_, true≢false}
-use mathlib.Core.List.{List, [], _∷_}
-use mathlib.Core.Option.{none, some}
-use native.Mathlib.Nat.{add-zero}
-use native.Mathlib.Decide.{decLt, ℕ-discrete}
-use native.Mathlib.Omega.{arith}
-use lib.Dec.{leb, eqb}
-use lib.Signed.{ltZ}
-use lib.ListN.{length, take, drop, getD, length-take, length-drop}
-use lib.Seq.{getD-take, ext-getD}
-use borrow.Author.Tests.{eq-eqb, ne-eqb, le-leb, lt-leb}
-use Rattle.lists.specs.Lists.{same}
-use Rattle.lists.specs.Laws.Filter.{split}
-use Rattle.lists.specs.Laws.Rising.{same-refl, same-ne}
+use Rattle.merge_rules.specs.Laws.Prelude.{ℕ, zero, suc, min, _+_, _≤_, _<_, _≡_, refl, sym, ap, _∙_, inl, inr, Bool, true, false, cond, not, _&&_, true≢false, List, [], _∷_, none, some, add-zero, decLt, ℕ-discrete, arith, leb, eqb, ltZ, length, take, drop, getD, length-take, length-drop, getD-take, ext-getD, eq-eqb, ne-eqb, le-leb, lt-leb, same, split, same-refl, same-ne}
 use Rattle.merge_rules.specs.Rules.{ruledColumn, signed, smaller, larger, taken, madeCell, madeFrom, changesFrom, ruled, survivor}
 
 and-false : (b : Bool) → (b && false) ≡ false

@@ -1,13 +1,6 @@
 -- `row_buffer::copy_row` meets its contract. The loop's invariant: the first i cells are the row's, the others as they
 -- were. Assumes nothing.
-use Prim.Native.Nat.{ℕ, _-_, _≤_}
-use mathlib.Core.Path.{_≡_, refl, ap, _∙_}
-use mathlib.Core.List.{List, _++_}
-use borrow.Author.Needs.{needs}
-use native.Mathlib.Omega.{arith}
-use lib.ListN.{length, take, drop, set, getD, length-set}
-use lib.Seq.{take-length}
-use Rattle.lists.specs.Laws.Parts.{copy-step}
+use Rattle.row_buffer.proofs.Prelude.{ℕ, _-_, _≤_, _≡_, refl, ap, _∙_, List, _++_, needs, arith, length, take, drop, set, getD, length-set, take-length, copy-step}
 use Rattle.row_buffer.proofs.copy_row.Statement.{statement}
 use Rattle.row_buffer.proofs.copy_row.Tie as tie
 

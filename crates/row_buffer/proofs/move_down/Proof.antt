@@ -1,10 +1,6 @@
 -- `row_buffer::move_down` meets its contract: the effect of the copier on its part, stated for the whole store. Assumes nothing.
-use Prim.Native.Nat.{_-_}
-use mathlib.Core.Path.{ap, _∙_}
-use lib.ListN.{length}
-use borrow.Rule.Slice.PartMut.{putMid}
+use Rattle.row_buffer.proofs.Prelude.{_-_, ap, _∙_, length, putMid, needs}
 use Rattle.row_buffer.proofs.Laws.{moved-part, moved-nowhere}
-use borrow.Author.Needs.{needs}
 use Rattle.row_buffer.proofs.move_down.Statement.{statement}
 use Rattle.row_buffer.proofs.move_down.Tie as tie
 

@@ -1,11 +1,6 @@
 -- `row_buffer::move_row` meets its contract. The loop's invariant: the first i cells are those from position `gap` on, the others
 -- are unchanged. Assumes nothing.
-use Prim.Native.Nat.{ℕ, _+_, _-_, _≤_}
-use mathlib.Core.Path.{_≡_, refl, ap, _∙_}
-use mathlib.Core.List.{List}
-use borrow.Author.Needs.{needs}
-use native.Mathlib.Omega.{arith}
-use lib.ListN.{length, set, getD, length-set}
+use Rattle.row_buffer.proofs.Prelude.{ℕ, _+_, _-_, _≤_, _≡_, refl, ap, _∙_, List, needs, arith, length, set, getD, length-set}
 use Rattle.row_buffer.proofs.Laws.{down, down-step}
 use Rattle.row_buffer.proofs.move_row.Statement.{statement}
 use Rattle.row_buffer.proofs.move_row.Tie as tie

@@ -1,9 +1,5 @@
 -- `row_buffer::rank` meets its contract. Assumes nothing.
-use Prim.Native.Nat.{ℕ, _+_}
-use mathlib.Core.Path.{ap}
-use borrow.Author.Needs.{needs}
-use native.Mathlib.Omega.{arith}
-use Rattle.row_buffer.specs.Laws.Rows.{setBelow-le}
+use Rattle.row_buffer.proofs.Prelude.{ℕ, _+_, ap, needs, arith, setBelow-le}
 use Rattle.row_buffer.proofs.Laws.{shl-pos, counted}
 use Rattle.row_buffer.proofs.rank.Statement.{statement}
 use Rattle.row_buffer.proofs.rank.Tie as tie

@@ -1,11 +1,5 @@
 -- `row_buffer::same_cells` meets its contract. The loop's invariant: what is to come from i on decides. Assumes nothing.
-use Prim.Native.Nat.{_-_, _≤_}
-use mathlib.Core.Path.{_≡_, refl, sym, ap, _∙_}
-use borrow.Author.Needs.{needs}
-use native.Mathlib.Omega.{arith}
-use lib.ListN.{length, drop}
-use Rattle.lists.specs.Lists.{same}
-use Rattle.lists.specs.Laws.Rising.{same-ne}
+use Rattle.row_buffer.proofs.Prelude.{_-_, _≤_, _≡_, refl, sym, ap, _∙_, needs, arith, length, drop, same, same-ne}
 use Rattle.row_buffer.proofs.Laws.{differ, agree, ended}
 use Rattle.row_buffer.proofs.same_cells.Statement.{statement}
 use Rattle.row_buffer.proofs.same_cells.Tie as tie

@@ -1,11 +1,5 @@
 -- `row_buffer::same_key` meets its contract. Assumes nothing.
-use Prim.Native.Nat.{ℕ}
-use mathlib.Core.Path.{ap, _∙_}
-use lib.ListN.{length}
-use mathlib.Core.List.{List}
-use Rattle.lists.specs.Lists.{same}
-use Rattle.lists.specs.Laws.Parts.{part-width}
-use borrow.Author.Needs.{needs}
+use Rattle.row_buffer.proofs.Prelude.{ℕ, ap, _∙_, length, List, same, part-width, needs}
 use Rattle.row_buffer.proofs.same_key.Statement.{statement}
 use Rattle.row_buffer.proofs.same_key.Tie as tie
 

@@ -1,10 +1,5 @@
 -- `row_buffer::write_row` meets its contract: the effect of the copier on its part, stated for the whole store. Assumes nothing.
-use Prim.Native.Nat.{_-_}
-use mathlib.Core.Path.{ap, _∙_}
-use lib.ListN.{length}
-use borrow.Rule.Slice.PartMut.{putMid}
-use Rattle.lists.specs.Laws.Parts.{put-part}
-use borrow.Author.Needs.{needs}
+use Rattle.row_buffer.proofs.Prelude.{_-_, ap, _∙_, length, putMid, put-part, needs}
 use Rattle.row_buffer.proofs.write_row.Statement.{statement}
 use Rattle.row_buffer.proofs.write_row.Tie as tie
 

@@ -1,7 +1,6 @@
 -- `sort_entries::advance` meets its contract. Loop invariant: the entries that later rows need. Measure: the number of remaining
 -- entries. Assumes nothing.
-use Prim.Native.Nat.{_-_}
-use borrow.Author.Needs.{needs}
+use Rattle.sort_entries.proofs.Prelude.{_-_, needs}
 use Rattle.sort_entries.proofs.LawsCheck.{Advancing, begins, stops, steps, ends}
 use Rattle.sort_entries.proofs.advance.Tie as tie
 use Rattle.sort_entries.proofs.advance.Statement.{statement}

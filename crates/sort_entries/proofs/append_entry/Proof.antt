@@ -1,9 +1,5 @@
 -- `sort_entries::append_entry` meets its contract. Assumes nothing.
-use mathlib.Core.Logic.{⊎-elim}
-use native.Mathlib.Omega.{arith}
-use lib.ListN.{length-set}
-use borrow.Author.Needs.{needs}
-use Rattle.sort_entries.specs.inner.Append.{append-same, append-new, rises, rises-none}
+use Rattle.sort_entries.proofs.Prelude.{⊎-elim, arith, length-set, needs, append-same, append-new, rises, rises-none}
 use Rattle.sort_entries.proofs.append_entry.Tie as tie
 use Rattle.sort_entries.proofs.append_entry.Statement.{statement}
 

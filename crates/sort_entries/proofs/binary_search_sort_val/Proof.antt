@@ -1,6 +1,5 @@
 -- `sort_entries::binary_search_sort_val` meets its contract. Assumes nothing.
-use native.Mathlib.Omega.{arith}
-use borrow.Author.Needs.{needs}
+use Rattle.sort_entries.proofs.Prelude.{arith, needs}
 use Rattle.sort_entries.proofs.LawsSearch.{search-found, search-absent}
 use Rattle.sort_entries.proofs.binary_search_sort_val.Tie as tie
 use Rattle.sort_entries.proofs.binary_search_sort_val.Statement.{statement}

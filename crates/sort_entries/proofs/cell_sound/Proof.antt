@@ -1,11 +1,5 @@
 -- `sort_entries::cell_sound` meets its contract. Assumes nothing.
-use Prim.Native.Nat.{_+_, _*_, _≤_, _<_}
-use mathlib.Core.Path.{sym, _∙_}
-use native.Mathlib.Nat.{mul-le-mul}
-use native.Mathlib.Omega.{arith}
-use lib.ListN.{length}
-use borrow.Author.Needs.{needs}
-use Rattle.lists.specs.Laws.Rows.{row-in}
+use Rattle.sort_entries.proofs.Prelude.{_+_, _*_, _≤_, _<_, sym, _∙_, mul-le-mul, arith, length, needs, row-in}
 use Rattle.sort_entries.proofs.LawsCheck.{dead-row, live-row}
 use Rattle.sort_entries.proofs.cell_sound.Tie as tie
 use Rattle.sort_entries.proofs.cell_sound.Statement.{statement}

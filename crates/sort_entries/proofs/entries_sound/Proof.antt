@@ -1,11 +1,6 @@
 -- `sort_entries::entries_sound` meets its contract. Loop invariant: each entry so far follows the one before. Measure: the number
 -- of remaining entries. Assumes nothing.
-use Prim.Native.Nat.{ℕ, _-_, _≤_, _<_}
-use native.Mathlib.Omega.{arith}
-use borrow.Author.Needs.{needs}
-use borrow.Author.Count.{below-more}
-use borrow.Author.Tests.{not-true, not-false}
-use Rattle.sort_entries.specs.inner.Checks.{Follows}
+use Rattle.sort_entries.proofs.Prelude.{ℕ, _-_, _≤_, _<_, arith, needs, below-more, not-true, not-false, Follows}
 use Rattle.sort_entries.proofs.LawsCheck.{starts-late, breaks, holds}
 use Rattle.sort_entries.proofs.entries_sound.Tie as tie
 use Rattle.sort_entries.proofs.entries_sound.Statement.{statement}

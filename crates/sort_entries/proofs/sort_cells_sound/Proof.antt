@@ -1,9 +1,6 @@
 -- `sort_entries::sort_cells_sound` meets its contract. Loop invariant: the check that the remaining rows must pass. Measure: their
 -- number. Assumes nothing.
-use Prim.Native.Nat.{_-_}
-use mathlib.Core.Path.{sym, _∙_}
-use borrow.Author.Needs.{needs}
-use borrow.Author.Tests.{not-true, not-false}
+use Rattle.sort_entries.proofs.Prelude.{_-_, sym, _∙_, needs, not-true, not-false}
 use Rattle.sort_entries.proofs.LawsCheck.{Rest, rest-begins, rest-breaks, rest-steps, rest-ends}
 use Rattle.sort_entries.proofs.sort_cells_sound.Tie as tie
 use Rattle.sort_entries.proofs.sort_cells_sound.Statement.{statement}

@@ -1,17 +1,5 @@
 -- The check of sort cells, stated for each live row. Assumes nothing.
-use Prim.Native.Nat.{ℕ, _<_}
-use mathlib.Core.Path.{_≡_, _∙_}
-use mathlib.Core.Logic.{inl, inr}
-use mathlib.Core.Bool.{true}
-use mathlib.Core.List.{List}
-use native.Mathlib.Nat.{zero-add}
-use lib.ListN.{length, getD}
-use borrow.Author.Tests.{eqb-true, eq-eqb}
-use Rattle.lists.specs.Lists.{iota, rowAt}
-use Rattle.lists.specs.Laws.Filter.{split, all-getD, all-of}
-use Rattle.lists.specs.Laws.Rising.{length-iota, getD-iota}
-use Rattle.constraints.specs.Constraints.{isLive}
-use Rattle.sort_entries.specs.Entries.{Entry, valueAt}
+use Rattle.sort_entries.specs.Laws.Prelude.{ℕ, _<_, _≡_, _∙_, inl, inr, true, List, zero-add, length, getD, eqb-true, eq-eqb, iota, rowAt, split, all-getD, all-of, length-iota, getD-iota, isLive, Entry, valueAt}
 use Rattle.sort_entries.specs.inner.Checks.{cellSound, cellsSound}
 
 module _ (store : List ℕ) (columns sort row value : ℕ) where

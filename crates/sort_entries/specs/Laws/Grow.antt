@@ -1,17 +1,6 @@
 -- Laws of appending one entry: the value at each row, soundness, and the effect of `push`. Assumes nothing.
-use Prim.Native.Nat.{ℕ, _+_, _-_, _≤_, _<_}
-use mathlib.Core.Path.{_≡_, refl, sym, _∙_}
-use mathlib.Core.Logic.{inl, inr}
-use mathlib.Core.Bool.{Bool, true, false, true≢false}
-use mathlib.Core.List.{List, [], _∷_, _++_}
-use native.Mathlib.Omega.{arith}
-use lib.ListN.{length}
-use lib.Dec.{leb, ltb}
-use borrow.Author.Tests.{ltb-true, ltb-false, leb-true, lt-ltb, le-leb, lt-leb}
+use Rattle.sort_entries.specs.Laws.Prelude.{ℕ, _+_, _-_, _≤_, _<_, _≡_, refl, sym, _∙_, inl, inr, Bool, true, false, true≢false, List, [], _∷_, _++_, arith, length, leb, ltb, ltb-true, ltb-false, leb-true, lt-ltb, le-leb, lt-leb, split, and-left, and-right, above-head, above-tail, above-cons, all-snoc, all-weaker}
 use Rattle.lists.specs.Lists.{all, rising, above}
-use Rattle.lists.specs.Laws.Filter.{split, and-left, and-right}
-use Rattle.lists.specs.Laws.Rising.{above-head, above-tail, above-cons}
-use Rattle.lists.specs.Laws.All.{all-snoc, all-weaker}
 use Rattle.sort_entries.specs.Entries.{Entry, entry, firstRow, valueAt, entriesSound}
 use Rattle.sort_entries.specs.Laws.Push.{lastPasses, push, push-new, push-same}
 use Rattle.sort_entries.specs.Laws.Sound.{values, entryRows, Climb, sound-climb, sound-first, sound-join}

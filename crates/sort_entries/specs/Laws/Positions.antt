@@ -1,15 +1,7 @@
 -- The position of a value among sound entries, with an entry of that value or without one, and the fast range as a function of that
 -- position. Assumes nothing.
-use Prim.Native.Nat.{ℕ, _≤_, _<_}
-use mathlib.Core.Path.{_≡_, refl, sym, ap, _∙_}
-use mathlib.Core.Bool.{true, false, cond}
-use mathlib.Core.List.{List, [], _∷_}
-use native.Mathlib.Decide.{decLt, ℕ-discrete}
-use native.Mathlib.Omega.{arith}
-use lib.Dec.{leb, ltb, eqb}
-use borrow.Author.Tests.{lt-ltb, le-ltb, le-leb, lt-leb, eq-eqb, ne-eqb}
+use Rattle.sort_entries.specs.Laws.Prelude.{ℕ, _≤_, _<_, _≡_, refl, sym, ap, _∙_, true, false, cond, List, [], _∷_, decLt, ℕ-discrete, arith, leb, ltb, eqb, lt-ltb, le-ltb, le-leb, lt-leb, eq-eqb, ne-eqb, above-head, above-tail}
 use Rattle.lists.specs.Lists.{filter, any, above}
-use Rattle.lists.specs.Laws.Rising.{above-head, above-tail}
 use Rattle.offsets.specs.Subsets.{Subset, range}
 use Rattle.sort_entries.specs.Entries.{Entry, entriesFrom, firstRow, byKind, fastRange, entriesSound}
 use Rattle.sort_entries.specs.Laws.Sound.{values, Climb, sound-climb, climb-tail, climb-above}

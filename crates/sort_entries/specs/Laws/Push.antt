@@ -1,15 +1,5 @@
 -- The entries after rows are appended one by one, which are the rebuilt ones. Assumes nothing.
-use Prim.Native.Nat.{ℕ, suc, _+_, _≤_}
-use mathlib.Core.Path.{_≡_, refl, sym, ap, _∙_}
-use mathlib.Core.Logic.{inl, inr}
-use mathlib.Core.Bool.{Bool, true, false, cond, true≢false}
-use mathlib.Core.List.{List, [], _∷_, _++_, append-nil, append-assoc}
-use mathlib.Core.Option.{Option, none, some}
-use native.Mathlib.Nat.{zero-add, add-zero}
-use native.Mathlib.Omega.{arith}
-use lib.ListN.{length, length-append}
-use lib.Dec.{ltb}
-use Rattle.lists.specs.Laws.Filter.{split}
+use Rattle.sort_entries.specs.Laws.Prelude.{ℕ, suc, _+_, _≤_, _≡_, refl, sym, ap, _∙_, inl, inr, Bool, true, false, cond, true≢false, List, [], _∷_, _++_, append-nil, append-assoc, Option, none, some, zero-add, add-zero, arith, length, length-append, ltb, split}
 use Rattle.sort_entries.specs.Entries.{Entry, entry, rebuiltFrom, rebuilt}
 
 -- there is no entry, or the last entry's value passes the test

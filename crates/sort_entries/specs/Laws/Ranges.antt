@@ -1,17 +1,5 @@
 -- The fast range has exactly the rows whose recorded value passes the condition. Assumes nothing.
-use Prim.Native.Nat.{ℕ, zero, suc, _+_, _-_, _≤_, _<_, suc-le-suc}
-use mathlib.Core.Path.{_≡_, refl, sym, ap, _∙_}
-use mathlib.Core.Bool.{true}
-use mathlib.Core.List.{List, [], _∷_}
-use native.Mathlib.Decide.{decLt, ℕ-discrete}
-use native.Mathlib.Numerals.{add-one}
-use native.Mathlib.Omega.{arith}
-use lib.ListN.{length, drop, drop-of-length-le}
-use lib.Seq.{drop-cons}
-use lib.Dec.{leb, ltb, eqb}
-use borrow.Author.Tests.{lt-ltb, le-ltb, le-leb, lt-leb, eq-eqb, ne-eqb}
-use Rattle.lists.specs.Lists.{above, elem, within}
-use Rattle.lists.specs.Laws.Rising.{above-head, above-tail, above-cons, above-weaker, within-of, within-below, within-past}
+use Rattle.sort_entries.specs.Laws.Prelude.{ℕ, zero, suc, _+_, _-_, _≤_, _<_, suc-le-suc, _≡_, refl, sym, ap, _∙_, true, List, [], _∷_, decLt, ℕ-discrete, add-one, arith, length, drop, drop-of-length-le, drop-cons, leb, ltb, eqb, lt-ltb, le-ltb, le-leb, lt-leb, eq-eqb, ne-eqb, above, elem, within, above-head, above-tail, above-cons, above-weaker, within-of, within-below, within-past}
 use Rattle.offsets.specs.Subsets.{range, members}
 use Rattle.offsets.specs.Laws.Forms.{elem-range as elem-any-range}
 use Rattle.constraints.specs.Constraints.{compares}

@@ -1,14 +1,5 @@
 -- Laws of the entries of rows whose sort values never fall: they are sound, and record each row's value. Assumes nothing.
-use Prim.Native.Nat.{ℕ, zero, suc, _+_, _-_, _≤_, _<_}
-use mathlib.Core.Path.{_≡_, refl, ap, _∙_}
-use mathlib.Core.Bool.{true}
-use mathlib.Core.List.{List, [], _∷_}
-use native.Mathlib.Decide.{decLt}
-use native.Mathlib.Numerals.{add-one}
-use native.Mathlib.Omega.{arith}
-use lib.ListN.{length, take, getD}
-use lib.Seq.{take-suc, take-length, length-take-le}
-use borrow.Author.Tests.{le-leb}
+use Rattle.sort_entries.specs.Laws.Prelude.{ℕ, zero, suc, _+_, _-_, _≤_, _<_, _≡_, refl, ap, _∙_, true, List, [], _∷_, decLt, add-one, arith, length, take, getD, take-suc, take-length, length-take-le, le-leb}
 use Rattle.lists.specs.Lists.{all, rising}
 use Rattle.sort_entries.specs.Entries.{Entry, rebuiltFrom, rebuilt, valueAt, entriesSound, firstRow}
 use Rattle.sort_entries.specs.Laws.Push.{push, pushAll, push-few, push-grows, rebuilt-pushAll, rebuilt-snoc}

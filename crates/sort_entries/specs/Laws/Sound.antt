@@ -1,16 +1,6 @@
 -- Sound entries decomposed into facts, and the converse. Assumes nothing.
-use Prim.Native.Nat.{ℕ, _+_, _*_, _≤_, _<_}
-use mathlib.Core.Path.{_≡_, ap}
-use mathlib.Core.Bool.{true, _&&_}
-use mathlib.Core.List.{List, [], _∷_, map}
-use native.Mathlib.Omega.{arith}
-use lib.ListN.{length, getD, drop, length-map, List·getD-map, drop-of-length-le}
-use lib.Seq.{drop-cons}
-use lib.Dec.{ltb}
-use borrow.Author.Tests.{ltb-true, eqb-true, lt-ltb, eq-eqb}
+use Rattle.sort_entries.specs.Laws.Prelude.{ℕ, _+_, _*_, _≤_, _<_, _≡_, ap, true, _&&_, List, [], _∷_, map, arith, length, getD, drop, length-map, List·getD-map, drop-of-length-le, drop-cons, ltb, ltb-true, eqb-true, lt-ltb, eq-eqb, and-left, and-right, all-getD, all-of, rising-tail, rising-at, rising-of}
 use Rattle.lists.specs.Lists.{all, rising, above}
-use Rattle.lists.specs.Laws.Filter.{and-left, and-right, all-getD, all-of}
-use Rattle.lists.specs.Laws.Rising.{rising-tail, rising-at, rising-of}
 use Rattle.sort_entries.specs.Entries.{Entry, entry, entriesOf, firstRow, entriesSound}
 use Rattle.sort_entries.specs.Laws.Stores.{pairAt, getD-entriesOf}
 

@@ -1,14 +1,6 @@
 -- Laws of the pairs in a store: their words, one more pair, and writing a pair. Assumes nothing.
-use Prim.Native.Nat.{ℕ, zero, suc, _+_, _-_, _*_, _≤_, _<_}
-use mathlib.Core.Path.{_≡_, refl, sym, ap, ap₂, _∙_}
-use mathlib.Core.Bool.{Bool, true}
-use mathlib.Core.List.{List, [], _∷_, _++_}
-use native.Mathlib.Numerals.{add-one}
-use native.Mathlib.Omega.{arith}
-use lib.ListN.{length, take, drop, getD, length-drop}
-use lib.Seq.{getD-drop, getD-take, take-add, ext-getD}
+use Rattle.sort_entries.specs.Laws.Prelude.{ℕ, zero, suc, _+_, _-_, _*_, _≤_, _<_, _≡_, refl, sym, ap, ap₂, _∙_, Bool, true, List, [], _∷_, _++_, add-one, arith, length, take, drop, getD, length-drop, getD-drop, getD-take, take-add, ext-getD, take-splice, getD-splice-in}
 use Rattle.lists.specs.Lists.{splice}
-use Rattle.lists.specs.Laws.Parts.{take-splice, getD-splice-in}
 use Rattle.sort_entries.specs.Entries.{Entry, entry, entriesOf, entryWords}
 use Rattle.sort_entries.specs.Laws.Push.{lastPasses, last-snoc}
 

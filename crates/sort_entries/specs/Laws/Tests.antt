@@ -1,16 +1,6 @@
 -- Laws of a test of values: the values of all rows pass exactly if those of all entries do. Assumes nothing.
-use Prim.Native.Nat.{ℕ, suc, _≤_, _<_}
-use mathlib.Core.Path.{_≡_, refl}
-use mathlib.Core.Logic.{inl, inr}
-use mathlib.Core.Bool.{Bool, true}
-use mathlib.Core.List.{List, [], _∷_, map}
-use native.Mathlib.Omega.{arith}
-use lib.Dec.{leb, ltb}
-use lib.ListN.{length}
+use Rattle.sort_entries.specs.Laws.Prelude.{ℕ, suc, _≤_, _<_, _≡_, refl, inl, inr, Bool, true, List, [], _∷_, map, arith, leb, ltb, length, split, all-head, all-tail, all-cons, all-snoc, bool-ext}
 use Rattle.lists.specs.Lists.{all}
-use Rattle.lists.specs.Laws.Filter.{split}
-use Rattle.lists.specs.Laws.All.{all-head, all-tail, all-cons, all-snoc}
-use Rattle.lists.specs.Laws.Rising.{bool-ext}
 use Rattle.sort_entries.specs.Entries.{Entry, entry, rebuilt, valueAt}
 use Rattle.sort_entries.specs.Laws.Push.{lastPasses, push, pushAll, push-new, push-same, rebuilt-pushAll}
 use Rattle.sort_entries.specs.Laws.Sound.{Climb, climb-tail}

@@ -1,14 +1,6 @@
 -- Laws of the values that sound entries record: they never fall, and the entries are those rebuilt from them. Assumes
 -- nothing.
-use Prim.Native.Nat.{ℕ, _≤_, _<_}
-use mathlib.Core.Path.{_≡_, refl, sym, ap, ap₂, _∙_}
-use mathlib.Core.Bool.{true}
-use mathlib.Core.List.{List, [], _∷_}
-use native.Mathlib.Decide.{decLt}
-use native.Mathlib.Omega.{arith}
-use lib.ListN.{length, getD}
-use borrow.Author.Tests.{le-leb, lt-leb}
-use Rattle.lists.specs.Laws.Rising.{above-head}
+use Rattle.sort_entries.specs.Laws.Prelude.{ℕ, _≤_, _<_, _≡_, refl, sym, ap, ap₂, _∙_, true, List, [], _∷_, decLt, arith, length, getD, le-leb, lt-leb, above-head}
 use Rattle.sort_entries.specs.Entries.{Entry, entry, firstRow, rebuilt, valueAt, entriesSound}
 use Rattle.sort_entries.specs.Laws.Sound.{values, Climb, sound-climb, sound-first, climb-tail, climb-in, climb-next, climb-above}
 use Rattle.sort_entries.specs.Laws.Rebuilt.{NeverFalls, rebuilt-sound, rebuilt-valueAt}

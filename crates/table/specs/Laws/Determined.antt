@@ -3,39 +3,11 @@
 -- key store's slots below 2 × capacity; after an opening or a clear, those of them that are not in use; after a compaction, the
 -- compaction words needed; and, if the stores represent no table, everything but the refusal and what is never written. Assumes
 -- nothing.
-use Prim.Native.Nat.{ℕ, _*_, _<_}
-use mathlib.Core.Path.{_≡_, refl, sym, ap, ap₂, _∙_}
-use mathlib.Core.Logic.{⊎-elim}
-use mathlib.Core.Bool.{true, false}
-use mathlib.Core.List.{List, []}
-use native.Mathlib.Omega.{arith}
-use lib.ListN.{length, take, length-take, length-replicate, getD-replicate}
-use lib.Seq.{ext-getD, getD-take}
+use Rattle.table.specs.Laws.Prelude.{ℕ, _*_, _<_, _≡_, refl, sym, ap, ap₂, _∙_, ⊎-elim, true, false, List, [], arith, length, take, length-take, length-replicate, getD-replicate, ext-getD, getD-take, some-number, Same, SameAnswer, refused-same, answer-same, Constraint, entriesOf, entriesSound, sizeClassFor, KeysSound, zeros, empty-free, sizeClass-most, Opening, Staged, openRefusal, Header, TableAnswer, MergeAnswer, RowAnswer, CellAnswer, RangeAnswer, VersionAnswer, SoundAnswer, stageRefusal, mergeRefusal, compactRefusal, clearRefusal, lookupRefusal, cellRefusal, fastRefusal, indexShapeOf, KeysDiffer, stores, lengths, Represents, SlotsPast, PastNeeded, Opened, Staging, Merging, Compacting, Clearing, LookedUp, CellRead, RangeRead, VersionRead, RowsSince, RowsSinceVersion, Checked, Body, bodyOf, joined, CompactionWords, lengthsLent, Stores}
 use Rattle.refusals.specs.Refusals.{outcome}
-use Rattle.refusals.specs.Laws.Replies.{some-number}
-use Rattle.refusals.specs.Laws.Determined.{Same, SameAnswer, refused-same, answer-same}
-use Rattle.constraints.specs.declared.Constraint.{Constraint}
-use Rattle.sort_entries.specs.Entries.{entriesOf, entriesSound}
-use Rattle.key_index.specs.Slots.{sizeClassFor, KeysSound}
-use Rattle.key_index.specs.inner.Index.{zeros}
-use Rattle.key_index.specs.Laws.Index.{empty-free}
-use Rattle.key_index.specs.Laws.SizeClasses.{sizeClass-most}
-use Rattle.plain_table.specs.Staged.{Opening, Staged}
 use Rattle.plain_table.specs.Plain.{Plain, opened, merged, cleared}
-use Rattle.plain_table.specs.Refusing.{openRefusal}
-use Rattle.table.specs.declared.Header.{Header}
-use Rattle.table.specs.declared.TableAnswer.{TableAnswer}
-use Rattle.table.specs.declared.MergeAnswer.{MergeAnswer}
-use Rattle.table.specs.declared.RowAnswer.{RowAnswer}
-use Rattle.table.specs.declared.CellAnswer.{CellAnswer}
-use Rattle.table.specs.declared.RangeAnswer.{RangeAnswer}
-use Rattle.table.specs.declared.VersionAnswer.{VersionAnswer}
-use Rattle.table.specs.declared.SoundAnswer.{SoundAnswer}
 use Rattle.table.specs.declared.SoundAnswer.the-variants.{Refused, Sound}
 use Rattle.table.specs.Numbers.{tableView, mergeView, rowView, cellView, rangeView, soundView}
-use Rattle.table.specs.Refusing.{stageRefusal, mergeRefusal, compactRefusal, clearRefusal, lookupRefusal, cellRefusal, fastRefusal}
-use Rattle.table.specs.Sound.{indexShapeOf, KeysDiffer}
-use Rattle.table.specs.Contracts.{stores, lengths, Represents, SlotsPast, PastNeeded, Opened, Staging, Merging, Compacting, Clearing, LookedUp, CellRead, RangeRead, VersionRead, RowsSince, RowsSinceVersion, Checked, Body, bodyOf, joined, CompactionWords, lengthsLent, Stores}
 use Rattle.table.specs.Laws.Shown.{represents-long, rows-counted}
 use Rattle.table.specs.Laws.Opening.{cleared-rows, cleared-opening}
 use Rattle.table.specs.Laws.Answers.{table-view-injective, merge-view-injective, row-view-injective, cell-view-injective, range-view-injective, version-view-injective}

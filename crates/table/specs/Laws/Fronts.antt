@@ -1,27 +1,6 @@
 -- Only the used prefix of each store matters: a table shows the same plain table on a first part of each store that is long enough,
 -- and with more cells behind. Assumes nothing.
-use Prim.Native.Nat.{ℕ, _*_, _≤_, _<_}
-use mathlib.Core.Path.{_≡_, refl, sym, ap, _∙_}
-use mathlib.Core.List.{List, [], _++_}
-use native.Mathlib.Nat.{mul-le-mul-right}
-use native.Mathlib.Omega.{arith}
-use lib.ListN.{length, take, getD, length-append}
-use lib.Seq.{getD-take, take-take, take-append-le}
-use Rattle.lists.specs.Lists.{rowAt}
-use Rattle.lists.specs.Laws.Rows.{getD-rowsOf, rowsOf-same}
-use Rattle.constraints.specs.Constraints.{isLive}
-use Rattle.key_index.specs.declared.IndexShape.{IndexShape}
-use Rattle.key_index.specs.Slots.{keyAt, slots, home, slotFrom, ReachableAt, KeysSound}
-use Rattle.key_index.specs.Laws.Ring.{slot-below}
-use Rattle.key_index.specs.Laws.SizeClasses.{sizeClass-most}
-use Rattle.key_index.specs.Laws.Index.{SameLive, keys-same}
-use Rattle.sort_entries.specs.Laws.Stores.{entriesOf-same}
-use Rattle.plain_table.specs.Staged.{wordsAll}
-use Rattle.plain_table.specs.Plain.{Plain}
-use Rattle.table.specs.declared.Header.{Header}
-use Rattle.table.specs.Numbers.{openingOf}
-use Rattle.table.specs.Sound.{indexShapeOf}
-use Rattle.table.specs.Contracts.{Body, body, joined, stores, lengths, Represents}
+use Rattle.table.specs.Laws.Prelude.{ℕ, _*_, _≤_, _<_, _≡_, refl, sym, ap, _∙_, List, [], _++_, mul-le-mul-right, arith, length, take, getD, length-append, getD-take, take-take, take-append-le, rowAt, getD-rowsOf, rowsOf-same, isLive, IndexShape, keyAt, slots, home, slotFrom, ReachableAt, KeysSound, slot-below, sizeClass-most, SameLive, keys-same, entriesOf-same, wordsAll, Plain, Header, openingOf, indexShapeOf, Body, body, joined, stores, lengths, Represents}
 use Rattle.table.specs.Laws.Shown.{LongEnough, long-stores, represents-long, represents-inside}
 use Rattle.table.specs.Laws.Pending.{holds-fits}
 use Rattle.table.specs.Laws.Refusals.{Inside, outside-inside}

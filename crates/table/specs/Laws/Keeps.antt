@@ -1,29 +1,7 @@
 -- Every call keeps a sound table sound: "Opening makes a sound table and every operation keeps one sound". There is a law for each
 -- call, from its contract alone, for accepted, refused and stopped calls. Before them come laws about the plain table after each
 -- call. Assumes nothing.
-use Prim.Native.Nat.{ℕ, _≤_, _<_}
-use mathlib.Core.Path.{_≡_, sym, ap, _∙_}
-use mathlib.Core.Logic.{⊎-elim}
-use mathlib.Core.Option.{Option·map}
-use mathlib.Core.List.{List, []}
-use lib.ListN.{length, getD}
-use Rattle.refusals.specs.Refusals.{Reply, refused, accepted}
-use Rattle.refusals.specs.Laws.Replies.{some-number, ruled-refused}
-use Rattle.constraints.specs.declared.Constraint.{Constraint}
-use Rattle.plain_table.specs.Staged.{Opening, Staged}
-use Rattle.plain_table.specs.Plain.{Plain, lookup, opened, stage, merged, compacted, cleared}
-use Rattle.plain_table.specs.Refusing.{openRefusal}
-use Rattle.table.specs.declared.Header.{Header}
-use Rattle.table.specs.declared.Merge.{Merge}
-use Rattle.table.specs.declared.TableAnswer.{TableAnswer}
-use Rattle.table.specs.declared.MergeAnswer.{MergeAnswer}
-use Rattle.table.specs.declared.RowAnswer.{RowAnswer}
-use Rattle.table.specs.declared.CellAnswer.{CellAnswer}
-use Rattle.table.specs.declared.RangeAnswer.{RangeAnswer}
-use Rattle.table.specs.Numbers.{tableView, mergeView, rowView, cellView, rangeView}
-use Rattle.table.specs.Refusing.{stageRefusal, mergeRefusal, compactRefusal, clearRefusal, lookupRefusal, cellRefusal, fastRefusal}
-use Rattle.table.specs.Stores.{headerOf}
-use Rattle.table.specs.Sound.{Sound}
+use Rattle.table.specs.Laws.Prelude.{ℕ, _≤_, _<_, _≡_, sym, ap, _∙_, ⊎-elim, Option·map, List, [], length, getD, Reply, refused, accepted, some-number, ruled-refused, Constraint, Opening, Staged, Plain, lookup, opened, stage, merged, compacted, cleared, openRefusal, Header, Merge, TableAnswer, MergeAnswer, RowAnswer, CellAnswer, RangeAnswer, tableView, mergeView, rowView, cellView, rangeView, stageRefusal, mergeRefusal, compactRefusal, clearRefusal, lookupRefusal, cellRefusal, fastRefusal, headerOf, Sound}
 use Rattle.table.specs.Contracts.{Stores, stores, lengths, Represents, headerAfter, headerMerged, Opened, Staging, Merging, Compacting, Clearing, ofRows, LookedUp, CellRead, fastSubset, RangeRead, Body, body, bodyOf, joined, CompactionWords, lengthsLent}
 use Rattle.table.specs.Laws.Replies.{reply-refused, reply-accepted, accepted-number, accepted-same}
 use Rattle.table.specs.Laws.Staging.{staging-represents}

@@ -1,19 +1,7 @@
 -- The live rows read from the header and the row store are the plain table's. Assumes nothing.
-use Prim.Native.Nat.{ℕ, suc, _<_, suc-le-suc}
-use mathlib.Core.Path.{_≡_, refl, _∙_}
-use mathlib.Core.Bool.{Bool, true, false, cond}
-use mathlib.Core.List.{List, [], _∷_, map}
-use native.Mathlib.Omega.{arith}
-use lib.ListN.{length, getD, length-map}
-use Rattle.lists.specs.Lists.{rowAt, rowsOf}
-use Rattle.lists.specs.Laws.All.{getD-map-below}
-use Rattle.lists.specs.Laws.Rows.{length-rowsOf, getD-rowsOf}
-use Rattle.constraints.specs.Constraints.{isLive}
+use Rattle.table.specs.Laws.Prelude.{ℕ, suc, _<_, suc-le-suc, _≡_, refl, _∙_, Bool, true, false, cond, List, [], _∷_, map, arith, length, getD, length-map, rowAt, rowsOf, getD-map-below, length-rowsOf, getD-rowsOf, isLive, noRow, Header, Stores, Represents}
 use Rattle.plain_table.specs.Plain.{Row, Plain, liveFrom, liveRows}
-use Rattle.plain_table.specs.Laws.Rows.{noRow}
-use Rattle.table.specs.declared.Header.{Header}
 use Rattle.table.specs.Stores.{rowsIn, RowShown}
-use Rattle.table.specs.Contracts.{Stores, Represents}
 use Rattle.table.specs.Laws.Shown.{row-shown, rows-counted}
 
 -- the plain row with these stored cells: live unless they begin with the dead mark

@@ -1,28 +1,7 @@
 -- Key lookup: a key leads to row i exactly if row i is live in the stores and has that key. This holds for the header and the row
 -- store alone, and for the plain table that the stores show. Assumes nothing.
-use Prim.Native.Nat.{ℕ, _<_}
-use mathlib.Core.Path.{_≡_, sym, ap, ap₂, _∙_}
-use mathlib.Core.Bool.{true}
-use mathlib.Core.Option.{none, some, Option·map}
-use mathlib.Core.List.{List}
-use native.Mathlib.Omega.{arith}
-use lib.ListN.{length, getD}
-use Rattle.lists.specs.Lists.{find, rowAt}
-use Rattle.refusals.specs.Refusals.{accepted}
-use Rattle.key_index.specs.Slots.{LiveAt, keyAt}
-use Rattle.plain_table.specs.Staged.{hasKey}
+use Rattle.table.specs.Laws.Prelude.{ℕ, _<_, _≡_, sym, ap, ap₂, _∙_, true, none, some, Option·map, List, arith, length, getD, find, rowAt, accepted, LiveAt, keyAt, hasKey, none-lookup, one-lookup, rowOf, liveWithKey-of, liveWithKey-live, liveWithKey-key, live-below, Header, RowAnswer, CellAnswer, rowView, cellView, lookupRefusal, cellRefusal, rowsIn, indexShapeOf, KeysDiffer, Stores, stores, Represents, ofRows, LookedUp, CellRead}
 use Rattle.plain_table.specs.Plain.{Row, Plain, Numbered, liveFrom, liveRows, lookup, liveWithKey}
-use Rattle.plain_table.specs.Laws.Lookup.{none-lookup, one-lookup}
-use Rattle.plain_table.specs.Proper.{rowOf}
-use Rattle.plain_table.specs.Laws.Rows.{liveWithKey-of, liveWithKey-live, liveWithKey-key, live-below}
-use Rattle.table.specs.declared.Header.{Header}
-use Rattle.table.specs.declared.RowAnswer.{RowAnswer}
-use Rattle.table.specs.declared.CellAnswer.{CellAnswer}
-use Rattle.table.specs.Numbers.{rowView, cellView}
-use Rattle.table.specs.Refusing.{lookupRefusal, cellRefusal}
-use Rattle.table.specs.Stores.{rowsIn}
-use Rattle.table.specs.Sound.{indexShapeOf, KeysDiffer}
-use Rattle.table.specs.Contracts.{Stores, stores, Represents, ofRows, LookedUp, CellRead}
 use Rattle.table.specs.Laws.Shown.{live-in, in-live, live-cells}
 use Rattle.table.specs.Laws.Sound.{represents-sound}
 use Rattle.table.specs.Laws.Live.{rowOfCells, length-rowsIn, getD-rowsIn, live-shown}

@@ -1,35 +1,16 @@
 -- An opening and a clear: afterwards the stores show the empty plain table, or the same table without staged records. Assumes
 -- nothing.
-use Prim.Native.Nat.{ℕ, zero, suc, _+_, _*_, _≤_, _<_}
-use mathlib.Core.Path.{_≡_, refl, sym, ap, _∙_}
-use mathlib.Core.Logic.{⊎-elim}
-use mathlib.Core.Bool.{true, false}
-use mathlib.Core.List.{List, []}
-use native.Mathlib.Decide.{ℕ-discrete}
-use native.Mathlib.Omega.{arith}
-use lib.ListN.{length, length-replicate}
-use borrow.Author.Tests.{lt-ltb, le-ltb, not-false}
+use Rattle.table.specs.Laws.Prelude.{ℕ, zero, suc, _+_, _*_, _≤_, _<_, _≡_, refl, sym, ap, _∙_, ⊎-elim, true, false, List, [], ℕ-discrete, arith, length, length-replicate, lt-ltb, le-ltb, not-false, length-splice, some-number, zeros, EmptyIs, sizeClassFor, emptied, empty-sound, sizeClass-most, past-sizeClass, firstRefusal-no, firstRefusal-rest, opened-proper, unstaged-proper, Header, clearRefusal, Stores, stores, lengths, Represents, Opened, withPending, Clearing, body}
 use Rattle.lists.specs.Lists.{all, count, rowsOf, flatten}
-use Rattle.lists.specs.Laws.Parts.{length-splice}
 use Rattle.refusals.specs.Refusals.{accepted, reply, outcome}
-use Rattle.refusals.specs.Laws.Replies.{some-number}
 use Rattle.sort_entries.specs.Entries.{entriesOf, rebuiltFrom, rebuilt}
-use Rattle.key_index.specs.inner.Index.{zeros, EmptyIs}
-use Rattle.key_index.specs.Slots.{sizeClassFor}
-use Rattle.key_index.specs.Laws.Index.{emptied, empty-sound}
-use Rattle.key_index.specs.Laws.SizeClasses.{sizeClass-most, past-sizeClass}
 use Rattle.plain_table.specs.Staged.{Opening, openable, wordsAll}
 use Rattle.plain_table.specs.Plain.{Plain, dead, opened, unstaged, cleared}
 use Rattle.plain_table.specs.Refusing.{storesShort, openRefusal}
-use Rattle.plain_table.specs.Laws.Calls.{firstRefusal-no, firstRefusal-rest}
-use Rattle.plain_table.specs.Laws.Proper.{opened-proper, unstaged-proper}
 use Rattle.table.specs.declared.Largest.the-variants.{None as NoLargest}
-use Rattle.table.specs.declared.Header.{Header}
 use Rattle.table.specs.declared.TableAnswer.the-variants.{Refused, Table}
 use Rattle.table.specs.Numbers.{openingOf, largestOf, tableView}
-use Rattle.table.specs.Refusing.{clearRefusal}
 use Rattle.table.specs.Stores.{entries, headerOf, stored}
-use Rattle.table.specs.Contracts.{Stores, stores, lengths, Represents, Opened, withPending, Clearing, body}
 use Rattle.table.specs.Laws.Shown.{stores-long, long-stores, rows-counted}
 use Rattle.table.specs.Laws.Refusals.{clear-accepted}
 

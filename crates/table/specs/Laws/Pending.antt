@@ -1,18 +1,8 @@
 -- Laws of the pending store: the number of words that staged records take, and the effect of more records. Assumes nothing.
-use Prim.Native.Nat.{ℕ, _+_, _≤_}
-use mathlib.Core.Path.{_≡_, refl, sym, ap, ap₂, _∙_}
-use mathlib.Core.Bool.{false, not}
-use mathlib.Core.List.{List, [], _∷_, _++_, map, map-append}
-use native.Mathlib.Omega.{arith}
-use lib.ListN.{length, length-append, length-take}
-use borrow.Author.Tests.{eqb-true, not-true, not-false}
+use Rattle.table.specs.Laws.Prelude.{ℕ, _+_, _≤_, _≡_, refl, sym, ap, ap₂, _∙_, false, not, List, [], _∷_, _++_, map, map-append, arith, length, length-append, length-take, eqb-true, not-true, not-false, front-splice, all-head, all-tail, all-append, flatten-append, Whole}
 use Rattle.lists.specs.Lists.{splice, flatten}
-use Rattle.lists.specs.Laws.Parts.{front-splice}
-use Rattle.lists.specs.Laws.All.{all-head, all-tail, all-append}
-use Rattle.lists.specs.Laws.Rows.{flatten-append}
 use Rattle.plain_table.specs.Staged.{Opening, Staged, insert, removeKey, removeRow, wordsOf, wordsAll}
 use Rattle.plain_table.specs.Refusing.{wrongWidth}
-use Rattle.plain_table.specs.Laws.Proper.{Whole}
 use Rattle.table.specs.Stores.{recordWords, Holds}
 
 -- "columns plus 2, keys plus 2, keys plus 3"

@@ -1,28 +1,8 @@
 -- What holds of a header and of the lengths of the lent stores if an operation is not refused: one record for each list of checks
 -- of Refusing, and what the key index requires. Assumes nothing.
-use Prim.Native.Nat.{ℕ, _+_, _*_, _/_, _≤_, _<_}
-use mathlib.Core.Path.{_≡_, refl}
-use mathlib.Core.Bool.{true, false, not, _&&_, _||_}
-use mathlib.Core.List.{List}
-use native.Mathlib.Omega.{arith}
-use lib.Dec.{leb, ltb, eqb}
-use lib.ListN.{length}
-use borrow.Author.Tests.{leb-true, leb-false, ltb-false, eqb-true, eqb-false, eq-eqb, not-false}
-use Rattle.lists.specs.Laws.Filter.{and-left, and-right}
-use Rattle.lists.specs.Laws.All.{or-no-left, or-no-right}
-use Rattle.constraints.specs.declared.Constraint.{Constraint}
-use Rattle.constraints.specs.Constraints.{known}
-use Rattle.key_index.specs.inner.Index.{Fits}
-use Rattle.key_index.specs.Laws.SizeClasses.{sizeClass-most, sizeClass-some, sizeClass-enough, fits-fewer}
-use Rattle.plain_table.specs.Staged.{Opening, openable}
+use Rattle.table.specs.Laws.Prelude.{ℕ, _+_, _*_, _/_, _≤_, _<_, _≡_, refl, true, false, not, _&&_, _||_, List, arith, leb, ltb, eqb, length, leb-true, leb-false, ltb-false, eqb-true, eqb-false, eq-eqb, not-false, and-left, and-right, or-no-left, or-no-right, Constraint, known, Fits, sizeClass-most, sizeClass-some, sizeClass-enough, fits-fewer, Opening, openable, firstRefusal-no, firstRefusal-rest, Bounds, openable-bounds, Header, openingOf, indexShapeOf, fullIndexShapeOf}
 use Rattle.plain_table.specs.Refusing.{Lengths, storesShort, wordsShort, openRefusal, compactChecks, mergeChecks, clearChecks}
-use Rattle.plain_table.specs.Laws.Calls.{firstRefusal-no, firstRefusal-rest}
-use Rattle.plain_table.specs.Laws.Proper.{Bounds, openable-bounds}
-use Rattle.table.specs.declared.Header.{Header}
-use Rattle.table.specs.Numbers.{openingOf}
 use Rattle.table.specs.Refusing.{outside, pendingOutside, rowsShort, pairsShort, mergeRefusal, compactRefusal, clearRefusal, lookupRefusal, cellRefusal, fastRefusal, notedRefusal, soundRefusal, lookupChecks}
-use Rattle.table.specs.Sound.{indexShapeOf}
-use Rattle.table.specs.inner.FullIndexShape.{fullIndexShapeOf}
 use Rattle.table.specs.Laws.Shown.{LongEnough, stores-long}
 
 -- ---- test 1

@@ -1,7 +1,5 @@
 -- Laws of replies: their refusal numbers and values. Assumes nothing.
-use Prim.Native.Nat.{ℕ, zero, suc, _<_}
-use mathlib.Core.Path.{_≡_, refl}
-use native.Mathlib.Omega.{arith}
+use Rattle.table.specs.Laws.Prelude.{ℕ, zero, suc, _<_, _≡_, refl, arith}
 use Rattle.refusals.specs.Refusals.{Reply, refused, accepted, reply, outcome}
 
 -- if a reply is accepted, its refusal number is 0

@@ -1,30 +1,8 @@
 -- Stores that show a plain table: each of their rows, and the tests that the header and the lengths pass. Assumes nothing.
-use Prim.Native.Nat.{ℕ, _*_, _≤_, _<_}
-use mathlib.Core.Path.{_≡_, sym, ap, _∙_}
-use mathlib.Core.Bool.{true, false, _||_}
-use mathlib.Core.List.{List, [], map}
-use native.Mathlib.Nat.{mul-le-mul-right}
-use native.Mathlib.Omega.{arith}
-use lib.Dec.{leb, ltb, eqb}
-use lib.ListN.{length, getD, length-map}
-use borrow.Author.Tests.{ltb-false, le-ltb, le-leb, eqb-true}
-use Rattle.lists.specs.Lists.{rowAt, rowsOf}
-use Rattle.lists.specs.Laws.Rows.{widths, length-rowsOf, getD-rowsOf, rowsOf-widths}
-use Rattle.lists.specs.Laws.All.{all-weaker, or-no-left, or-no-right}
-use Rattle.key_index.specs.Slots.{LiveAt}
-use Rattle.sort_entries.specs.Laws.Rebuilt.{rebuilt-few}
-use Rattle.plain_table.specs.Staged.{Opening}
-use Rattle.plain_table.specs.Plain.{Plain}
+use Rattle.table.specs.Laws.Prelude.{ℕ, _*_, _≤_, _<_, _≡_, sym, ap, _∙_, true, false, _||_, List, [], map, mul-le-mul-right, arith, leb, ltb, eqb, length, getD, length-map, ltb-false, le-ltb, le-leb, eqb-true, rowAt, rowsOf, widths, length-rowsOf, getD-rowsOf, rowsOf-widths, all-weaker, or-no-left, or-no-right, LiveAt, rebuilt-few, Opening, Plain, Proper, rowOf, live-below, openable-bounds, dead-le, Header, indexShapeOf, Stores, lengths, Represents}
 use Rattle.plain_table.specs.Refusing.{Lengths, storesShort}
-use Rattle.plain_table.specs.Proper.{Proper, rowOf}
-use Rattle.plain_table.specs.Laws.Rows.{live-below}
-use Rattle.plain_table.specs.Laws.Proper.{openable-bounds}
-use Rattle.plain_table.specs.Laws.Live.{dead-le}
-use Rattle.table.specs.declared.Header.{Header}
 use Rattle.table.specs.Refusing.{outside}
 use Rattle.table.specs.Stores.{entries, headerOf, stored, RowShown}
-use Rattle.table.specs.Sound.{indexShapeOf}
-use Rattle.table.specs.Contracts.{Stores, lengths, Represents}
 use Rattle.table.specs.Laws.Stored.{stored-shown, shown-stored}
 
 -- ---- the lengths of the stores

@@ -1,42 +1,12 @@
 -- A table that shows a plain table is sound, and a sound table shows one. Assumes nothing.
-use Prim.Native.Nat.{ℕ, zero, suc, _+_, _≤_, _<_}
-use mathlib.Core.Path.{_≡_, refl, sym, ap, _∙_}
-use mathlib.Core.Logic.{inl, inr}
-use mathlib.Core.Bool.{Bool, true, false, cond, not}
-use mathlib.Core.List.{List, [], _∷_, map}
-use mathlib.Core.Option.{Option, none, some}
-use native.Mathlib.Nat.{add-zero, zero-add, mul-le-mul-right}
-use native.Mathlib.Omega.{arith}
-use lib.ListN.{length, take, getD, set, length-map, length-set}
-use lib.Seq.{getD-set-same}
-use borrow.Author.Tests.{le-ltb, eq-eqb}
+use Rattle.table.specs.Laws.Prelude.{ℕ, zero, suc, _+_, _≤_, _<_, _≡_, refl, sym, ap, _∙_, inl, inr, Bool, true, false, cond, not, List, [], _∷_, map, Option, none, some, add-zero, zero-add, mul-le-mul-right, arith, length, take, getD, set, length-map, length-set, getD-set-same, le-ltb, eq-eqb, all, count, rowAt, rowsOf, split, all-of, length-rowsOf, getD-rowsOf, length-rowAt, getD-map-below, count-alike, LiveAt, keyAt, Entry, entriesOf, valueAt, entriesSound, NeverFalls, rebuilt-sound, rebuilt-valueAt, length-entriesOf, sound-climb, sound-some, rebuilt-all, valueAt-all, valueAt-climbs, rebuilt-same, Staged, Proper, rowOf, sortCell, atMost, noRow, wideRow, firstFits, keptRow, live-below, bounds-openable, Largest, Header, indexShapeOf, Sound, Stores, stores, lengths, Represents}
 use Rattle.refusals.specs.Refusals.{firstRefusal}
-use Rattle.lists.specs.Lists.{all, count, rowAt, rowsOf}
-use Rattle.lists.specs.Laws.Filter.{split, all-of}
-use Rattle.lists.specs.Laws.Rows.{length-rowsOf, getD-rowsOf, length-rowAt}
-use Rattle.lists.specs.Laws.All.{getD-map-below, count-alike}
 use Rattle.constraints.specs.Constraints.{isLive}
-use Rattle.key_index.specs.Slots.{LiveAt, keyAt}
-use Rattle.sort_entries.specs.Entries.{Entry, entriesOf, valueAt, entriesSound}
-use Rattle.sort_entries.specs.Laws.Rebuilt.{NeverFalls, rebuilt-sound, rebuilt-valueAt}
-use Rattle.sort_entries.specs.Laws.Stores.{length-entriesOf}
-use Rattle.sort_entries.specs.Laws.Sound.{sound-climb}
-use Rattle.sort_entries.specs.Laws.Grow.{sound-some}
-use Rattle.sort_entries.specs.Laws.Tests.{rebuilt-all, valueAt-all}
-use Rattle.sort_entries.specs.Laws.Values.{valueAt-climbs, rebuilt-same}
-use Rattle.plain_table.specs.Staged.{Staged}
 use Rattle.plain_table.specs.Plain.{Row, Plain, dead}
-use Rattle.plain_table.specs.Proper.{Proper, rowOf, sortCell, atMost}
-use Rattle.plain_table.specs.Laws.Rows.{noRow, wideRow, firstFits, keptRow, live-below}
-use Rattle.plain_table.specs.Laws.Proper.{bounds-openable}
-use Rattle.table.specs.declared.Largest.{Largest}
 use Rattle.table.specs.declared.Largest.the-variants.{None as NoLargest, Value}
-use Rattle.table.specs.declared.Header.{Header}
 use Rattle.table.specs.Numbers.{openingOf, largestView, largestOf}
 use Rattle.table.specs.Refusing.{pendingOutside, rowsShort, pairsShort, soundRefusal}
 use Rattle.table.specs.Stores.{entries, headerOf, RowShown}
-use Rattle.table.specs.Sound.{indexShapeOf, Sound}
-use Rattle.table.specs.Contracts.{Stores, stores, lengths, Represents}
 use Rattle.table.specs.Laws.Shown.{long-stores, header-inside, represents-long, row-shown, rows-counted, in-live, live-cells}
 use Rattle.table.specs.Laws.Refusals.{Tested, sound-tested}
 use Rattle.table.specs.Laws.Pending.{holds-fits}

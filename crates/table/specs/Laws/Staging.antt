@@ -1,26 +1,12 @@
 -- Staged records: stores that show a plain table show it with new records staged, too. Assumes nothing.
-use Prim.Native.Nat.{ℕ, _+_, _≤_}
-use mathlib.Core.Path.{_≡_, sym, ap, _∙_}
-use mathlib.Core.Bool.{false}
-use mathlib.Core.List.{List, [], _∷_, map, append-nil}
-use native.Mathlib.Nat.{add-zero}
-use native.Mathlib.Omega.{arith}
-use lib.Dec.{ltb}
-use lib.ListN.{length}
-use borrow.Author.Tests.{ltb-false}
+use Rattle.table.specs.Laws.Prelude.{ℕ, _+_, _≤_, _≡_, sym, ap, _∙_, false, List, [], _∷_, map, append-nil, add-zero, arith, ltb, length, ltb-false, or-no-left, firstRefusal-no, firstRefusal-rest, Whole, stageAll-proper, Header, openingOf, Stores, stores, Represents, withPending}
 use Rattle.lists.specs.Lists.{splice, all, flatten}
-use Rattle.lists.specs.Laws.All.{or-no-left}
 use Rattle.plain_table.specs.Staged.{Staged, wordsOf, wordsAll}
 use Rattle.plain_table.specs.Calls.{stageAll}
 use Rattle.plain_table.specs.Plain.{Plain, dead, stage}
 use Rattle.plain_table.specs.Refusing.{wrongWidth, noSuchRow, storesShort, stageChecks, overfull}
-use Rattle.plain_table.specs.Laws.Calls.{firstRefusal-no, firstRefusal-rest}
-use Rattle.plain_table.specs.Laws.Proper.{Whole, stageAll-proper}
-use Rattle.table.specs.declared.Header.{Header}
-use Rattle.table.specs.Numbers.{openingOf}
 use Rattle.table.specs.Refusing.{pendingOutside, stageRefusal}
 use Rattle.table.specs.Stores.{entries, headerOf, recordWords}
-use Rattle.table.specs.Contracts.{Stores, stores, Represents, withPending}
 use Rattle.table.specs.Laws.Pending.{wordsAll-append, holds-more}
 
 -- the tests of *Stage* pass

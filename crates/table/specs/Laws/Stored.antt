@@ -1,20 +1,8 @@
 -- Laws of the rows as stored: row by row, how many, how wide. Assumes nothing.
-use Prim.Native.Nat.{ℕ, zero, suc, _≤_, _<_, suc-le-suc}
-use mathlib.Core.Path.{_≡_, refl, sym, ap, ap₂, _∙_}
-use mathlib.Core.Bool.{Bool, true, false, not, cond, false≢true}
-use mathlib.Core.List.{List, [], _∷_, map, head-eq-of-cons-eq, tail-eq-of-cons-eq}
-use native.Mathlib.Omega.{arith}
-use lib.Dec.{leb, eqb}
-use lib.ListN.{length, getD, set, length-set}
-use lib.Seq.{getD-set-same, set-getD, set-set}
-use borrow.Author.Tests.{leb-true, eqb-true, eq-eqb, not-false}
+use Rattle.table.specs.Laws.Prelude.{ℕ, zero, suc, _≤_, _<_, suc-le-suc, _≡_, refl, sym, ap, ap₂, _∙_, Bool, true, false, not, cond, false≢true, List, [], _∷_, map, head-eq-of-cons-eq, tail-eq-of-cons-eq, arith, leb, eqb, length, getD, set, length-set, getD-set-same, set-getD, set-set, leb-true, eqb-true, eq-eqb, not-false, or-second, all-head, all-tail, all-cons, widths, Row, noRow, wideRow, firstFits}
 use Rattle.lists.specs.Lists.{all}
-use Rattle.lists.specs.Laws.All.{or-second, all-head, all-tail, all-cons}
-use Rattle.lists.specs.Laws.Rows.{widths}
 use Rattle.cells.specs.Cells.{isDead}
 use Rattle.constraints.specs.Constraints.{isLive}
-use Rattle.plain_table.specs.Plain.{Row}
-use Rattle.plain_table.specs.Laws.Rows.{noRow, wideRow, firstFits}
 use Rattle.table.specs.Stores.{marked, stored, RowShown}
 
 -- ---- the dead mark

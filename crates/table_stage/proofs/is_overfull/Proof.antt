@@ -1,9 +1,6 @@
 -- `table_stage::is_overfull` meets its contract. Assumes nothing.
-use Prim.Native.Nat.{_+_}
-use native.Mathlib.Omega.{arith}
-use borrow.Author.Tests.{lt-ltb, le-ltb}
+use Rattle.table_stage.proofs.Prelude.{_+_, arith, lt-ltb, le-ltb, needs}
 use Rattle.plain_table.specs.Refusing.{overfull}
-use borrow.Author.Needs.{needs}
 use Rattle.table_stage.proofs.is_overfull.Statement.{statement}
 use Rattle.table_stage.proofs.is_overfull.Tie as tie
 

@@ -1,15 +1,7 @@
 -- `table_stage::stage_insert` meets its contract. Assumes nothing.
-use Prim.Native.Nat.{ℕ}
-use mathlib.Core.Path.{sym, ap, _∙_}
-use mathlib.Core.List.{_∷_}
-use native.Mathlib.Omega.{arith}
-use lib.ListN.{length}
-use lib.Seq.{length-take-le}
-use Rattle.lists.specs.Lists.{splice}
+use Rattle.table_stage.proofs.Prelude.{ℕ, sym, ap, _∙_, _∷_, arith, length, length-take-le, splice, insert-refusal, Free, refusal-free, staging-refused, staging-written, needs}
 use Rattle.plain_table.specs.Staged.{insert, wordsOf}
 use Rattle.table.specs.Stores.{recordWords}
-use Rattle.table_stage.specs.Laws.Staging.{insert-refusal, Free, refusal-free, staging-refused, staging-written}
-use borrow.Author.Needs.{needs}
 use Rattle.table_stage.proofs.stage_insert.Statement.{statement}
 use Rattle.table_stage.proofs.stage_insert.Tie as tie
 

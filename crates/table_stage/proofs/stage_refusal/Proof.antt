@@ -1,9 +1,7 @@
 -- `table_stage::stage_refusal` meets its contract. Assumes nothing.
-use mathlib.Core.Path.{sym, _∙_}
-use borrow.Author.Tests.{eq-eqb, ne-eqb}
+use Rattle.table_stage.proofs.Prelude.{sym, _∙_, eq-eqb, ne-eqb, needs}
 use Rattle.refusals.specs.Refusals.{firstRefusal}
 use Rattle.table_stage.specs.inner.Staging.{recordRefusal}
-use borrow.Author.Needs.{needs}
 use Rattle.table_stage.proofs.stage_refusal.Statement.{statement}
 use Rattle.table_stage.proofs.stage_refusal.Tie as tie
 

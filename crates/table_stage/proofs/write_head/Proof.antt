@@ -1,8 +1,5 @@
 -- `table_stage::write_head` meets its contract. Assumes nothing.
-use native.Mathlib.Omega.{arith}
-use lib.ListN.{length-set}
-use Rattle.lists.specs.Laws.Parts.{set-set-splice}
-use borrow.Author.Needs.{needs}
+use Rattle.table_stage.proofs.Prelude.{arith, length-set, set-set-splice, needs}
 use Rattle.table_stage.proofs.write_head.Statement.{statement}
 use Rattle.table_stage.proofs.write_head.Tie as tie
 

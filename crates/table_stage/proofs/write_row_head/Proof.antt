@@ -1,8 +1,5 @@
 -- `table_stage::write_row_head` meets its contract. Assumes nothing.
-use native.Mathlib.Omega.{arith}
-use lib.ListN.{length-set}
-use Rattle.table_stage.specs.Laws.Staging.{row-head}
-use borrow.Author.Needs.{needs}
+use Rattle.table_stage.proofs.Prelude.{arith, length-set, row-head, needs}
 use Rattle.table_stage.proofs.write_row_head.Statement.{statement}
 use Rattle.table_stage.proofs.write_row_head.Tie as tie
 

@@ -1,11 +1,5 @@
 -- `table_stage::write_row_record` meets its contract: the key behind the head. Assumes nothing.
-use Prim.Native.Nat.{ℕ, _+_}
-use mathlib.Core.Path.{ap, _∙_}
-use mathlib.Core.List.{List, [], _∷_}
-use native.Mathlib.Omega.{arith}
-use Rattle.lists.specs.Lists.{splice}
-use Rattle.lists.specs.Laws.Parts.{splice-then}
-use borrow.Author.Needs.{needs}
+use Rattle.table_stage.proofs.Prelude.{ℕ, _+_, ap, _∙_, List, [], _∷_, arith, splice, splice-then, needs}
 use Rattle.table_stage.proofs.write_row_record.Statement.{statement}
 use Rattle.table_stage.proofs.write_row_record.Tie as tie
 

@@ -1,7 +1,5 @@
 -- `constraints::decode::read_conditions` meets its contract. The loop's invariant: the first i are read. Assumes nothing.
-use Prim.Native.Nat.{_-_}
-use mathlib.Core.Path.{refl}
-use native.Mathlib.Omega.{arith}
+use Rattle.constraints.proofs.Prelude.{_-_, refl, arith}
 use Rattle.constraints.proofs.ReadSteps.{Reading, reading-begin, reading-again, reading-end}
 use Rattle.constraints.proofs.decode.read_conditions.Statement.{statement}
 use Rattle.constraints.proofs.decode.read_conditions.Tie as tie

@@ -1,8 +1,5 @@
 -- `levels_io::input::first_read` meets its contract. Assumes nothing.
-use mathlib.Core.Path.{refl}
-use lib.IntN.{pos}
-use Rattle.levels_io.specs.inner.Taking.{refilled-first}
-use borrow.Author.Needs.{needs}
+use Rattle.levels_io.proofs.Prelude.{refl, pos, refilled-first, needs}
 use Rattle.levels_io.proofs.input.first_read.Statement.{statement}
 use Rattle.levels_io.proofs.input.first_read.Tie as tie
 

@@ -1,6 +1,5 @@
 -- `levels_io::input::push` meets its contract. Assumes nothing.
-use Rattle.levels_io.specs.inner.Scanning.{pushed-one, pushed-full}
-use borrow.Author.Needs.{needs}
+use Rattle.levels_io.proofs.Prelude.{pushed-one, pushed-full, needs}
 use Rattle.levels_io.proofs.input.push.Statement.{statement}
 use Rattle.levels_io.proofs.input.push.Tie as tie
 

@@ -1,8 +1,6 @@
 -- `levels_io::input::refill` meets its contract. Assumes nothing.
 use mir.Facts.{toZ-ofZ}
-use native.Mathlib.Omega.{arith}
-use Rattle.levels_io.specs.inner.Taking.{refilled}
-use borrow.Author.Needs.{needs}
+use Rattle.levels_io.proofs.Prelude.{arith, refilled, needs}
 use Rattle.levels_io.proofs.input.refill.Statement.{statement}
 use Rattle.levels_io.proofs.input.refill.Tie as tie
 

@@ -1,8 +1,5 @@
 -- `levels_io::input::scan_chunk` meets its contract. The loop's invariant: the line from here on ends where it does from the start. Assumes nothing.
-use Prim.Native.Nat.{_-_}
-use native.Mathlib.Omega.{arith}
-use Rattle.levels_io.specs.inner.Scanning.{left, Scanning, scanning-begin, scanning-again, scanning-newline, scanning-end}
-use borrow.Author.Needs.{needs}
+use Rattle.levels_io.proofs.Prelude.{_-_, arith, left, Scanning, scanning-begin, scanning-again, scanning-newline, scanning-end, needs}
 use Rattle.levels_io.proofs.input.scan_chunk.Statement.{statement}
 use Rattle.levels_io.proofs.input.scan_chunk.Tie as tie
 

@@ -1,6 +1,5 @@
 -- `levels_io::input::take_line` meets its contract. Assumes nothing.
-use Rattle.levels_io.specs.inner.Taking.{line-taken}
-use borrow.Author.Needs.{needs}
+use Rattle.levels_io.proofs.Prelude.{line-taken, needs}
 use Rattle.levels_io.proofs.input.take_line.Statement.{statement}
 use Rattle.levels_io.proofs.input.take_line.Tie as tie
 

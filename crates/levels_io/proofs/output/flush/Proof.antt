@@ -1,7 +1,5 @@
 -- `levels_io::output::flush` meets its contract. Assumes nothing.
-use native.Mathlib.Omega.{arith}
-use lib.ListN.{length-take}
-use borrow.Author.Needs.{needs}
+use Rattle.levels_io.proofs.Prelude.{arith, length-take, needs}
 use Rattle.levels_io.proofs.output.flush.Statement.{statement}
 use Rattle.levels_io.proofs.output.flush.Tie as tie
 

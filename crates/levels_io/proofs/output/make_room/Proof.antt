@@ -1,7 +1,5 @@
 -- `levels_io::output::make_room` meets its contract. Assumes nothing.
-use mathlib.Core.Logic.{inl, inr}
-use native.Mathlib.Omega.{arith}
-use borrow.Author.Needs.{needs}
+use Rattle.levels_io.proofs.Prelude.{inl, inr, arith, needs}
 use Rattle.levels_io.proofs.output.make_room.Statement.{statement}
 use Rattle.levels_io.proofs.output.make_room.Tie as tie
 

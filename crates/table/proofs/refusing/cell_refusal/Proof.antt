@@ -1,7 +1,6 @@
 -- `table::refusing::cell_refusal` meets its contract. Assumes nothing.
-use mathlib.Core.Path.{sym, _∙_}
+use Rattle.table.proofs.Prelude.{sym, _∙_, needs}
 use Rattle.table.proofs.RefusingSteps.{cell-lookup, cell-above, cell-none}
-use borrow.Author.Needs.{needs}
 use Rattle.table.proofs.refusing.cell_refusal.Statement.{statement}
 use Rattle.table.proofs.refusing.cell_refusal.Tie as tie
 

@@ -1,7 +1,6 @@
 -- `table::refusing::clear_refusal` meets its contract. Assumes nothing.
-use mathlib.Core.Path.{sym, _∙_}
+use Rattle.table.proofs.Prelude.{sym, _∙_, needs}
 use Rattle.table.proofs.RefusingSteps.{clear-outside, clear-short, clear-early, clear-empty, clear-last}
-use borrow.Author.Needs.{needs}
 use Rattle.table.proofs.refusing.clear_refusal.Statement.{statement}
 use Rattle.table.proofs.refusing.clear_refusal.Tie as tie
 

@@ -1,7 +1,6 @@
 -- `table::refusing::compact_refusal` meets its contract. Assumes nothing.
-use mathlib.Core.Path.{sym, _∙_}
+use Rattle.table.proofs.Prelude.{sym, _∙_, needs}
 use Rattle.table.proofs.RefusingSteps.{compact-outside, compact-stores, compact-words, compact-last, compact-none}
-use borrow.Author.Needs.{needs}
 use Rattle.table.proofs.refusing.compact_refusal.Statement.{statement}
 use Rattle.table.proofs.refusing.compact_refusal.Tie as tie
 

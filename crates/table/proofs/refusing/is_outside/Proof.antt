@@ -1,9 +1,6 @@
 -- `table::refusing::is_outside` meets its contract. Assumes nothing.
-use mathlib.Core.Path.{sym, _∙_}
-use native.Mathlib.Omega.{arith}
-use borrow.Author.Tests.{not-true, not-false}
+use Rattle.table.proofs.Prelude.{sym, _∙_, arith, not-true, not-false, needs}
 use Rattle.table.proofs.RefusingSteps.{outside-some, outside-unopenable, outside-last}
-use borrow.Author.Needs.{needs}
 use Rattle.table.proofs.refusing.is_outside.Statement.{statement}
 use Rattle.table.proofs.refusing.is_outside.Tie as tie
 

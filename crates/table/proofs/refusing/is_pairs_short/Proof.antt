@@ -1,7 +1,6 @@
 -- `table::refusing::is_pairs_short` meets its contract. Assumes nothing.
-use native.Mathlib.Omega.{arith}
+use Rattle.table.proofs.Prelude.{arith, needs}
 use Rattle.table.proofs.RefusingSteps.{capacity-few, pairs-short}
-use borrow.Author.Needs.{needs}
 use Rattle.table.proofs.refusing.is_pairs_short.Statement.{statement}
 use Rattle.table.proofs.refusing.is_pairs_short.Tie as tie
 

@@ -1,7 +1,6 @@
 -- `table::refusing::is_pending_outside` meets its contract. Assumes nothing.
-use mathlib.Core.Path.{sym, _∙_}
+use Rattle.table.proofs.Prelude.{sym, _∙_, needs}
 use Rattle.table.proofs.RefusingSteps.{pending-some, pending-last}
-use borrow.Author.Needs.{needs}
 use Rattle.table.proofs.refusing.is_pending_outside.Statement.{statement}
 use Rattle.table.proofs.refusing.is_pending_outside.Tie as tie
 

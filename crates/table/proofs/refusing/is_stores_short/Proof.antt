@@ -1,7 +1,6 @@
 -- `table::refusing::is_stores_short` meets its contract. Assumes nothing.
-use mathlib.Core.Path.{sym, _∙_}
+use Rattle.table.proofs.Prelude.{sym, _∙_, needs}
 use Rattle.table.proofs.RefusingSteps.{stores-rows, stores-keys, stores-sorts}
-use borrow.Author.Needs.{needs}
 use Rattle.table.proofs.refusing.is_stores_short.Statement.{statement}
 use Rattle.table.proofs.refusing.is_stores_short.Tie as tie
 

@@ -1,7 +1,6 @@
 -- `table::refusing::is_words_short` meets its contract. Assumes nothing.
-use native.Mathlib.Omega.{arith}
+use Rattle.table.proofs.Prelude.{arith, needs}
 use Rattle.table.proofs.RefusingSteps.{capacity-few, words-live, words-base}
-use borrow.Author.Needs.{needs}
 use Rattle.table.proofs.refusing.is_words_short.Statement.{statement}
 use Rattle.table.proofs.refusing.is_words_short.Tie as tie
 

@@ -1,7 +1,6 @@
 -- `table::refusing::lookup_refusal` meets its contract. Assumes nothing.
-use mathlib.Core.Path.{sym, _∙_}
+use Rattle.table.proofs.Prelude.{sym, _∙_, needs}
 use Rattle.table.proofs.RefusingSteps.{lookup-outside, lookup-rows, lookup-keys, lookup-width, lookup-none}
-use borrow.Author.Needs.{needs}
 use Rattle.table.proofs.refusing.lookup_refusal.Statement.{statement}
 use Rattle.table.proofs.refusing.lookup_refusal.Tie as tie
 

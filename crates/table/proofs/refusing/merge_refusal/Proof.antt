@@ -1,8 +1,6 @@
 -- `table::refusing::merge_refusal` meets its contract. Assumes nothing.
-use mathlib.Core.Path.{sym, _∙_}
-use Rattle.table.specs.inner.Lent.{lengthsOf}
+use Rattle.table.proofs.Prelude.{sym, _∙_, lengthsOf, needs}
 use Rattle.table.proofs.RefusingSteps.{sound-inside, merge-sound, merge-words, merge-none}
-use borrow.Author.Needs.{needs}
 use Rattle.table.proofs.refusing.merge_refusal.Statement.{statement}
 use Rattle.table.proofs.refusing.merge_refusal.Tie as tie
 

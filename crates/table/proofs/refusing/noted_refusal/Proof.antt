@@ -1,7 +1,6 @@
 -- `table::refusing::noted_refusal` meets its contract. Assumes nothing.
-use mathlib.Core.Path.{sym, _∙_}
+use Rattle.table.proofs.Prelude.{sym, _∙_, needs}
 use Rattle.table.proofs.RefusingSteps.{noted-outside, noted-other, noted-above, noted-none}
-use borrow.Author.Needs.{needs}
 use Rattle.table.proofs.refusing.noted_refusal.Statement.{statement}
 use Rattle.table.proofs.refusing.noted_refusal.Tie as tie
 

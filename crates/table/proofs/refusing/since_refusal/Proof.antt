@@ -1,7 +1,6 @@
 -- `table::refusing::since_refusal` meets its contract. Assumes nothing.
-use mathlib.Core.Path.{sym, _∙_}
+use Rattle.table.proofs.Prelude.{sym, _∙_, needs}
 use Rattle.table.proofs.RefusingSteps.{since-outside, since-above, since-none}
-use borrow.Author.Needs.{needs}
 use Rattle.table.proofs.refusing.since_refusal.Statement.{statement}
 use Rattle.table.proofs.refusing.since_refusal.Tie as tie
 

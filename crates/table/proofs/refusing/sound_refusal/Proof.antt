@@ -1,7 +1,6 @@
 -- `table::refusing::sound_refusal` meets its contract. Assumes nothing.
-use mathlib.Core.Path.{sym, _∙_}
+use Rattle.table.proofs.Prelude.{sym, _∙_, needs}
 use Rattle.table.proofs.RefusingSteps.{inside-alone, sound-outside, sound-short, sound-none}
-use borrow.Author.Needs.{needs}
 use Rattle.table.proofs.refusing.sound_refusal.Statement.{statement}
 use Rattle.table.proofs.refusing.sound_refusal.Tie as tie
 
