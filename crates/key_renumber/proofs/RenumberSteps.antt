@@ -1,23 +1,24 @@
--- The steps of `renumber`: the new value of a word, and the loop iterations over the slots. Assumes nothing.
+-- The steps of `renumber`: the new value of a word, the bitmap word of a block, and the loop iterations over the slots. Assumes
+-- nothing.
 use Prim.Native.Nat.{ℕ, zero, suc, _+_, _-_, _*_, _/_, _%_, _^_, _≤_, _<_, min}
 use mathlib.Core.Path.{_≡_, refl, sym, ap, _∙_}
 use mathlib.Core.Logic.{inl, inr}
 use mathlib.Core.Bool.{Bool, true, false, not}
 use mathlib.Core.List.{List}
-use native.Mathlib.Nat.{add-zero, add-mul, mul-comm}
+use native.Mathlib.Nat.{add-zero, add-mul, mul-comm, one-mul}
 use native.Mathlib.Omega.{arith}
 use lib.Bits.{bitAnd}
 use lib.Count.{trailingZeros}
 use lib.Dec.{eqb}
 use lib.ListN.{length, getD, set, length-set}
-use lib.Pow.{pow-add}
+use lib.Pow.{pow-add, pow-mono, shl-exact}
 use lib.Seq.{set-getD}
-use borrow.Author.Tests.{le-leb, lt-leb, eqb-true, not-false}
+use borrow.Author.Tests.{le-leb, lt-leb, eqb-true, eq-eqb, ne-eqb, not-false}
 use Rattle.lists.specs.inner.Searching.{mapFront}
 use Rattle.lists.specs.Laws.Front.{length-mapFront, getD-mapFront-past, mapFront-step}
 use Rattle.lists.specs.Laws.Filter.{split}
 use Rattle.row_buffer.specs.Ranks.{setBelow, bitmapWord}
-use Rattle.row_buffer.specs.Laws.Rows.{bitmapWord-lt}
+use Rattle.row_buffer.specs.Laws.Rows.{bitmapWord-yes, bitmapWord-no, bitmapWord-lt}
 use Rattle.bitmap.specs.inner.Marking.{otherAt}
 use Rattle.bitmap.specs.Laws.Lowest.{bitmapWord-same, onward, onward-all, Next, next-bit, no-more}
 use Rattle.key_index.specs.declared.IndexShape.{IndexShape}
@@ -49,7 +50,7 @@ module _ (t : IndexShape) (w : ℕ) (live base : List ℕ) where
     pub in-words : Ranked t live base → (0 < w % 2 ^ 17) × ((w % 2 ^ 17 - 1) / 64 < length live) × ((w % 2 ^ 17 - 1) / 64 < length base)
     in-words r = let n = names-number t w e in (n .0, omega (arith, n, r .bitmapWord, r .count), omega (arith, n, r .firsts, r .count))
 
--- ---- the slots of a block
+-- ---- the bitmap word of a block
 
 -- a bitmap word is made of the words of its first n positions and of the others
 word-join : (f : ℕ → Bool) (n m : ℕ) → bitmapWord f (n + m) ≡ bitmapWord f n + bitmapWord (λ k. f (n + k)) m * 2 ^ n
@@ -65,6 +66,49 @@ word-join f n (suc m) =
     ]
 
 module _ (store : List ℕ) (from : ℕ) where
+  abbrev used : ℕ → Bool
+  used = otherAt store from 1 0
+
+  -- what holds at the loop's head: the word has the positions before `place`
+  pub record Half (word place : ℕ) : Type 0 where
+    pub few : place ≤ 32
+    pub made : word ≡ bitmapWord used place
+
+  pub half-begin : Half 0 0
+  unfolding bitmapWord
+  half-begin = record { few = omega arith; made = refl }
+
+  module _ (word place : ℕ) (s : Half word place) where
+    module _ (more : place < 32) where
+      here : from + place * 1 ≡ from + place
+      here = omega arith
+
+      pub half-free : getD store (from + place) 0 ≡ 0 → Half word (place + 1)
+      unfolding otherAt
+      half-free e =
+          let y : used place ≡ false = rw here (ap not (eq-eqb (getD store (from + place) 0) 0 e)) in
+          record { few = omega arith; made = s .made ∙ sym (bitmapWord-no used place y) }
+
+      module _ (some : getD store (from + place) 0 ≡ 0 → ⊥) (bit : ℕ) (one : bit ≡ (1 * 2 ^ place) % 2 ^ 32) where
+        grown : word + bit ≡ bitmapWord used (place + 1)
+        unfolding otherAt
+        grown =
+            let y : used place ≡ true = rw here (ap not (ne-eqb (getD store (from + place) 0) 0 some)) in
+            let e : bit ≡ 2 ^ place = one ∙ shl-exact {a = 1} 1 place 32 (omega arith) (omega arith) ∙ one-mul (2 ^ place) in
+            omega (arith, s .made, bitmapWord-yes used place y)
+
+        pub half-taken : Half (word + bit) (place + 1)
+        half-taken = record { few = omega arith; made = grown }
+
+        pub half-fits : word + bit < 4294967296
+        half-fits =
+            let k : place + 1 ≤ 32 = omega arith in
+            let m : 2 ^ (place + 1) ≤ 2 ^ 32 = pow-mono k in
+            omega (arith, grown, bitmapWord-lt used (place + 1))
+
+    pub half-end : 32 ≤ place → word ≡ bitmapWord used 32
+    half-end h = let e : place ≡ 32 = omega (arith, s .few) in s .made ∙ ap (bitmapWord used) e
+
   -- the words of the two halves of a block
   pub word-halves : (low high : ℕ) → low ≡ bitmapWord (otherAt store from 1 0) 32 → high ≡ bitmapWord (otherAt store (from + 32) 1 0) 32
       → high * 4294967296 + low ≡ bitmapWord (otherAt store from 1 0) 64
@@ -76,8 +120,7 @@ module _ (store : List ℕ) (from : ℕ) where
       let g : high ≡ bitmapWord (λ k. otherAt store from 1 0 (32 + k)) 32 = f ∙ same in
       omega (arith, e, g, word-join (otherAt store from 1 0) 32 32)
 
-pub half-below : (store : List ℕ) (from w : ℕ) → w ≡ bitmapWord (otherAt store from 1 0) 32 → w < 4294967296
-half-below store from w e = rw e (bitmapWord-lt (otherAt store from 1 0) 32)
+-- ---- the slots of a block
 
 -- elements that stay as they are may as well be mapped
 mapFront-skip : (f : ℕ → ℕ) (n k : ℕ) (l : List ℕ) → n + k ≤ length l → ((i : ℕ) → n ≤ i → i < n + k → f (getD l i 0) ≡ getD l i 0)

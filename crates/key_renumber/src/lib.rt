@@ -1,7 +1,7 @@
 // Writes the rows' new numbers after a compaction to the key store, in place and slot by slot. Takes them from the compaction
 // bitmap and hashes no key. Safe on any store: a word is validated before it is used as a row number.
 ghost use mathlib.Core.Path.{_≡_};
-ghost use Prim.Native.Nat.{_≤_, _<_};
+ghost use Prim.Native.Nat.{_+_, _≤_, _<_};
 ghost use lib.ListN.{length};
 ghost use Rattle.lists.specs.inner.Searching.{mapFront};
 ghost use Rattle.row_buffer.specs.Ranks.{bitmapWord};
@@ -31,8 +31,27 @@ fn renumber_word(t: IndexShape, word: u32, live: &[u64], base: &[u32]) -> u32
     word / ROW_RANGE * ROW_RANGE + (row_buffer::rank(live[at], first, row % 64) + 1)
 }
 
-// Half the slots of a block. Their number is constant, so that the compiler unrolls the test of their words into vector code.
+// Half the slots of a block. Their number is constant and their bits fit a slot's word, so that the test of them compiles to vector
+// code.
 const HALF: u32 = 32;
+
+// The bitmap word of the taken slots of half a block.
+fn half_bits(store: &[u32], from: usize) -> u32
+    requires { ⌜ from + 32 ≤ length (now store) ⌝ }
+    ensures { λ r. ⌜ r ≡ bitmapWord (otherAt (now (store .entry)) from 1 0) 32 ⌝ }
+{
+    let mut word: u32 = 0;
+    let mut place: u32 = 0;
+    while place < HALF {
+        let slot = store[from + place as usize];
+        let bit = 1u32 << place;
+        place += 1;
+        if slot != 0 {
+            word += bit;
+        }
+    }
+    word
+}
 
 // The bitmap word of the taken slots of a block.
 fn taken_bits(store: &[u32], from: usize, count: u32) -> u64
@@ -42,8 +61,8 @@ fn taken_bits(store: &[u32], from: usize, count: u32) -> u64
     if count < 2 * HALF {
         return different_bits(store, from, 1, count, 0);
     }
-    let low = different_bits(store, from, 1, HALF, 0);
-    let high = different_bits(store, from + HALF as usize, 1, HALF, 0);
+    let low = half_bits(store, from) as u64;
+    let high = half_bits(store, from + HALF as usize) as u64;
     high * 0x1_0000_0000 + low
 }
 
