@@ -13,7 +13,7 @@ use Rattle.lists.specs.Laws.Parts.{part-width}
 use Rattle.cells.specs.Cells.{compactHash, keyHash}
 use Rattle.constraints.specs.Constraints.{isLive}
 use Rattle.key_index.specs.declared.IndexShape.{IndexShape}
-use Rattle.key_index.specs.Slots.{LiveAt, keyAt, slots, word, home, slotFrom, KeysSound}
+use Rattle.key_index.specs.Slots.{keyAt, slots, word, home, slotFrom, KeysSound}
 use Rattle.key_index.specs.inner.Ring.{spread, tagged, rowNamed}
 use Rattle.key_index.specs.Laws.Ring.{home-spread, word-tagged, word-some, word-same, home-below}
 use Rattle.key_index.specs.Laws.Unrolled.{away, slot-zero, slot-below, slot-then, line, line-at}

@@ -16,8 +16,8 @@ use Rattle.key_index.specs.declared.IndexShape.{IndexShape}
 use Rattle.key_index.specs.Slots.{LiveAt, keyAt, slots, word, slotFrom, KeysSound}
 use Rattle.key_index.specs.inner.Index.{Fits}
 use Rattle.key_index.specs.Laws.Ring.{word-some, word-same}
-use Rattle.key_index.specs.Laws.Unrolled.{away, slot-below, slot-then, slot-zero, slot-round, slot-one, away-below, away-slot, away-line, line, line-at, Line}
-use Rattle.key_index.specs.Laws.Lines.{Stored, lineHome, small, roll}
+use Rattle.key_index.specs.Laws.Unrolled.{away, slot-below, slot-then, slot-zero, slot-round, slot-one, away-below, away-slot, away-line, line, line-at}
+use Rattle.key_index.specs.Laws.Lines.{small, roll}
 use Rattle.key_check.specs.inner.Check.{isLiveRow, tally, takenCount, Front, SlotsSound}
 
 module _ (test : ℕ → Bool) (n : ℕ) where

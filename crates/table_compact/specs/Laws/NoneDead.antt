@@ -1,12 +1,12 @@
 -- A compaction of a table without dead rows: only the generation rises. Assumes nothing.
-use Prim.Native.Nat.{ℕ, _+_, _*_, _≤_, _<_}
+use Prim.Native.Nat.{ℕ, _*_, _≤_, _<_}
 use mathlib.Core.Path.{_≡_, refl, sym, ap, _∙_}
 use mathlib.Core.Logic.{inl, inr}
 use mathlib.Core.Bool.{true, not}
 use mathlib.Core.List.{List, [], _∷_}
 use native.Mathlib.Omega.{arith}
 use lib.ListN.{length}
-use Rattle.lists.specs.Lists.{splice, filter, count, all, rowsOf, flatten}
+use Rattle.lists.specs.Lists.{count, all, rowsOf}
 use Rattle.lists.specs.Laws.All.{all-cons}
 use Rattle.lists.specs.Laws.Filter.{split, filter-all}
 use Rattle.lists.specs.Laws.Parts.{splice-front}
