@@ -3,8 +3,8 @@
 use Prim.Native.Nat.{ℕ, _+_, _-_, _/_, _%_, _^_, _≤_, _<_}
 use mathlib.Core.Path.{_≡_}
 use mathlib.Core.Bool.{not, _||_}
-use mathlib.Core.List.{List, [], _∷_, map}
-use lib.ListN.{length, getD}
+use mathlib.Core.List.{List, [], _∷_, _++_, map, zipWith}
+use lib.ListN.{length, take, drop, getD}
 use lib.Dec.{ltb, eqb}
 use Rattle.lists.specs.Lists.{splice, rowsOf, flatten, iota}
 use Rattle.refusals.specs.Refusals.{check, firstRefusal, Reply, refused, accepted, reply}
@@ -15,15 +15,9 @@ use Rattle.vault.specs.declared.ColumnsAnswer.the-variants.{Refused, Wri
 unfoldable pub minus : ℕ → ℕ → ℕ
 minus cell above = (cell + (2 ^ 32 - above)) % 2 ^ 32
 
--- the cells below one, each replaced by its difference from the cell above
-unfoldable pub differencesBelow : ℕ → List ℕ → List ℕ
-differencesBelow above [] = []
-differencesBelow above (cell ∷ cells) = minus cell above ∷ differencesBelow cell cells
-
--- "each cell but a column's first replaced"
+-- "each cell but a column's first replaced": the cells below it, each with the cell above
 unfoldable pub differences : List ℕ → List ℕ
-differences [] = []
-differences (cell ∷ cells) = cell ∷ differencesBelow cell cells
+differences cells = take 1 cells ++ zipWith minus (drop 1 cells) cells
 
 -- the inverse: each difference replaced by its sum with the cell above, modulo 2^32
 unfoldable pub plus : ℕ → ℕ → ℕ

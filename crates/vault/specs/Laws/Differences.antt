@@ -1,10 +1,10 @@
 -- One column: differences and sums are inverse to each other; the value at each place. Assumes nothing.
 use Prim.Native.Nat.{ℕ, zero, suc, _^_, _<_}
-use mathlib.Core.Path.{_≡_, refl, ap, ap₂}
-use mathlib.Core.List.{List, [], _∷_}
+use mathlib.Core.Path.{_≡_, refl, ap, ap₂, _∙_}
+use mathlib.Core.List.{List, [], _∷_, zipWith}
 use native.Mathlib.Omega.{arith}
 use lib.ListN.{length, getD}
-use Rattle.vault.specs.Columns.{minus, differencesBelow, differences, plus, sumsBelow, sums}
+use Rattle.vault.specs.Columns.{minus, differences, plus, sumsBelow, sums}
 
 -- each cell is a u32
 abbrev pub Cells : List ℕ → Type 0
@@ -22,6 +22,25 @@ plus-below : (d above : ℕ) → plus d above < 2 ^ 32
 unfolding plus
 plus-below d above = omega arith
 
+-- ---- the cells below one, each replaced by its difference from the cell above
+
+unfoldable pub differencesBelow : ℕ → List ℕ → List ℕ
+differencesBelow above [] = []
+differencesBelow above (cell ∷ cells) = minus cell above ∷ differencesBelow cell cells
+
+below-is : (above : ℕ) (cells : List ℕ) → zipWith minus cells (above ∷ cells) ≡ differencesBelow above cells
+unfolding zipWith differencesBelow
+below-is above [] = refl
+below-is above (cell ∷ cells) = ap (λ (r : List ℕ). minus cell above ∷ r) (below-is cell cells)
+
+differences-none : differences [] ≡ []
+unfolding differences zipWith
+differences-none = refl
+
+differences-some : (cell : ℕ) (cells : List ℕ) → differences (cell ∷ cells) ≡ cell ∷ differencesBelow cell cells
+unfolding differences
+differences-some cell cells = ap (λ (r : List ℕ). cell ∷ r) (below-is cell cells)
+
 -- ---- either after the other
 
 sumsBelow-differencesBelow : (above : ℕ) (cells : List ℕ) → above < 2 ^ 32 → Cells cells → sumsBelow above (differencesBelow above cells) ≡ cells
@@ -37,14 +56,14 @@ differencesBelow-sumsBelow above (d ∷ ds) h f =
     ap₂ (λ (x : ℕ) (r : List ℕ). x ∷ r) (minus-plus d above (f 0) h) (differencesBelow-sumsBelow (plus d above) ds (plus-below d above) (λ i. f (suc i)))
 
 pub sums-differences : (cells : List ℕ) → Cells cells → sums (differences cells) ≡ cells
-unfolding sums differences
-sums-differences [] f = refl
-sums-differences (cell ∷ cells) f = ap (λ (r : List ℕ). cell ∷ r) (sumsBelow-differencesBelow cell cells (f 0) (λ i. f (suc i)))
+unfolding sums
+sums-differences [] f = ap sums differences-none
+sums-differences (cell ∷ cells) f = ap sums (differences-some cell cells) ∙ ap (λ (r : List ℕ). cell ∷ r) (sumsBelow-differencesBelow cell cells (f 0) (λ i. f (suc i)))
 
 pub differences-sums : (ds : List ℕ) → Cells ds → differences (sums ds) ≡ ds
-unfolding sums differences
-differences-sums [] f = refl
-differences-sums (d ∷ ds) f = ap (λ (r : List ℕ). d ∷ r) (differencesBelow-sumsBelow d ds (f 0) (λ i. f (suc i)))
+unfolding sums
+differences-sums [] f = differences-none
+differences-sums (d ∷ ds) f = differences-some d (sumsBelow d ds) ∙ ap (λ (r : List ℕ). d ∷ r) (differencesBelow-sumsBelow d ds (f 0) (λ i. f (suc i)))
 
 -- ---- lengths
 
@@ -54,9 +73,8 @@ length-differencesBelow above [] = refl
 length-differencesBelow above (cell ∷ cells) = ap suc (length-differencesBelow cell cells)
 
 pub length-differences : (cells : List ℕ) → length (differences cells) ≡ length cells
-unfolding differences
-length-differences [] = refl
-length-differences (cell ∷ cells) = ap suc (length-differencesBelow cell cells)
+length-differences [] = ap length differences-none
+length-differences (cell ∷ cells) = ap length (differences-some cell cells) ∙ ap suc (length-differencesBelow cell cells)
 
 length-sumsBelow : (above : ℕ) (ds : List ℕ) → length (sumsBelow above ds) ≡ length ds
 unfolding sumsBelow
@@ -87,10 +105,10 @@ unfolding minus
 minus-zero cell h = omega arith
 
 pub differences-at : (cells : List ℕ) → Cells cells → (i : ℕ) → i < length cells → getD (differences cells) i 0 ≡ minus (getD cells i 0) (above cells i)
-unfolding differences above
+unfolding above
 differences-at [] f i h = absurd (omega arith)
-differences-at (cell ∷ cells) f zero h = minus-zero cell (f 0)
-differences-at (cell ∷ cells) f (suc i) h = differencesBelow-at cell cells i (omega arith)
+differences-at (cell ∷ cells) f zero h = ap (λ (l : List ℕ). getD l 0 0) (differences-some cell cells) ∙ minus-zero cell (f 0)
+differences-at (cell ∷ cells) f (suc i) h = ap (λ (l : List ℕ). getD l (suc i) 0) (differences-some cell cells) ∙ differencesBelow-at cell cells i (omega arith)
 
 sumsBelow-at : (a : ℕ) (ds : List ℕ) (i : ℕ) → i < length ds
     → getD (sumsBelow a ds) i 0 ≡ plus (getD ds i 0) (above (a ∷ sumsBelow a ds) (suc i))

@@ -1,14 +1,14 @@
 -- Both orders place by place: each cell, by the one above it. Assumes nothing.
 use Prim.Native.Nat.{ℕ, zero, suc, _+_, _*_, _<_}
 use mathlib.Core.Path.{_≡_, refl, sym, ap, ap₂, _∙_}
-use mathlib.Core.List.{List, [], _∷_, map}
+use mathlib.Core.List.{List, [], _∷_, map, zipWith}
 use native.Mathlib.Nat.{mul-comm}
 use native.Mathlib.Omega.{arith}
 use lib.ListN.{length, getD, length-map}
 use Rattle.lists.specs.Lists.{rowsOf, flatten, iota}
 use Rattle.lists.specs.Laws.All.{getD-map-below}
 use Rattle.lists.specs.Laws.Rows.{length-rowsOf, getD-rowsOf, getD-rowAt, rowsOf-widths}
-use Rattle.vault.specs.Columns.{minus, differences, differencesBelow, plus, sums, column, transposed, toColumns, fromColumns}
+use Rattle.vault.specs.Columns.{minus, differences, plus, sums, column, transposed, toColumns, fromColumns}
 use Rattle.vault.specs.inner.Filling.{cellAbove}
 use Rattle.vault.specs.Laws.Differences.{Cells, above, differences-at, sums-at}
 use Rattle.vault.specs.Laws.Transposed.{length-column, length-transposed, column-at, transposed-at, width-at, flat-at, rowsOf-cells, column-cells}
@@ -66,5 +66,5 @@ module _ (width n : ℕ) (some : 0 < width) (cells : List ℕ) (e : length cells
 
 -- the example of docs/FORMAT.md, three rows of two
 pub worked : toColumns 2 (1 ∷ 10 ∷ 6 ∷ 10 ∷ 5 ∷ 12 ∷ []) ≡ 1 ∷ 5 ∷ 4294967295 ∷ 10 ∷ 0 ∷ 2 ∷ []
-unfolding toColumns transposed column differences differencesBelow minus rowsOf flatten iota
+unfolding toColumns transposed column differences zipWith minus rowsOf flatten iota
 worked = refl
