@@ -52,12 +52,13 @@ pub record TextAfterWrite (text output : List ℕ) (answer : LengthAnswer) (outp
   pub written : firstRefusal (check (ltb (length output) (length text)) 2 ∷ []) ≡ 0 → output′ ≡ splice output 0 text
 
 -- An accepted image is the image of the table that was loaded, with the capacity that the image has and its text. So a table in stores
--- and a text have one image.
+-- and a text have one image. Whoever wrote it, the table is sound (its generation is a word, so it fits).
 pub record ImageOfLoaded (words : List ℕ) (h : Header) (b′ : Body) (pending′ : List ℕ) : Type 0 where
   pub capacity : ℕ
   pub text : List ℕ
   pub bytes : all (λ byte. ltb byte 256) text ≡ true
   pub is : words ≡ imageWords (imageOf (withCapacity h capacity) (b′ .rows) (b′ .sorts) pending′ text)
+  pub sound : h .generation ≤ 4294967295 → (p : Plain) × Represents p (joined h b′ pending′)
 
 -- ---- histories
 
@@ -101,10 +102,6 @@ pub record Archives : Type 0 where
       → TextAfterWrite (saved .text) output answer output′
   pub one-image : (words : List ℕ) (capacity : ℕ) (b : Body) (pending : List ℕ) (h : Header) (b′ : Body) (pending′ : List ℕ)
       → ImageRead words capacity b pending (Table h) b′ pending′ → ImageOfLoaded words h b′ pending′
-  -- whoever wrote an image, a table that is loaded from it is sound (its generation is a word, so it fits)
-  pub loaded-sound : (words : List ℕ) (capacity : ℕ) (b : Body) (pending : List ℕ) (h : Header) (b′ : Body) (pending′ : List ℕ)
-      → h .generation ≤ 4294967295 → ImageRead words capacity b pending (Table h) b′ pending′
-      → (p : Plain) × Represents p (joined h b′ pending′)
   pub damage-refused : (words words′ : List ℕ) (i : Image) → Reads words (some i) → Damaged (bytesOf words) (bytesOf words′) → RefusedAsImage words′
   -- the claim of term 3
   pub term-three : (p : Plain) (s : Stores) → Archived p s → Claimed p s

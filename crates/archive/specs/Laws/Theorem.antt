@@ -127,17 +127,6 @@ module _ (words : List ℕ) (capacity : ℕ) (b : Body) (pending : List ℕ) (h 
   image-back : imageOf (image .header) (b′ .rows) (b′ .sorts) pending′ (image .text) ≡ image
   image-back = λ j. record { header = image .header; text = image .text; rows = rows-front j; sorts = sorts-front j; pending = pending-front j }
 
-  pub one-image : ImageOfLoaded words h b′ pending′
-  one-image =
-      record {
-        capacity = image .header .capacity;
-        text = image .text;
-        bytes = parts .text-bytes;
-        is = accepted-image .are
-            ∙ ap imageWords (sym image-back)
-            ∙ ap (λ (x : Header). imageWords (imageOf x (b′ .rows) (b′ .sorts) pending′ (image .text))) (sym back-header);
-      }
-
   -- ---- the table that was loaded is sound
 
   abbrev after-load : Header
@@ -231,6 +220,18 @@ module _ (words : List ℕ) (capacity : ℕ) (b : Body) (pending : List ℕ) (h 
       let r = sound-represents sound-after g in
       (r .0, at-header h after-load b′ pending′ header-is (r .1))
 
+  pub one-image : ImageOfLoaded words h b′ pending′
+  one-image =
+      record {
+        capacity = image .header .capacity;
+        text = image .text;
+        bytes = parts .text-bytes;
+        is = accepted-image .are
+            ∙ ap imageWords (sym image-back)
+            ∙ ap (λ (x : Header). imageWords (imageOf x (b′ .rows) (b′ .sorts) pending′ (image .text))) (sym back-header);
+        sound = loaded-sound;
+      }
+
 -- ---- histories go on
 
 module _ {p : Plain} {s : Stores} (rows sorts pending : List ℕ) (r : Represents p (behind s (body rows [] sorts) pending)) {words : List ℕ} (saved : Saved s words) where
@@ -276,7 +277,6 @@ archives =
       read-after-write = read-after-write;
       text-after-write = text-after-write;
       one-image = one-image;
-      loaded-sound = λ words capacity b pending h b′ pending′ fits m. loaded-sound words capacity b pending h b′ pending′ m fits;
       damage-refused = damage-refused;
       term-three = archived-claimed;
     }
