@@ -1,19 +1,21 @@
--- The turns of `push_row`, `fill` and `empty_buckets`: entries pushed one after another, and buckets emptied. Assumes nothing.
-use Prim.Native.Nat.{ℕ, suc, _+_, _*_, _≤_, _<_}
-use mathlib.Core.Path.{_≡_, refl, sym, _∙_}
-use mathlib.Core.Bool.{true}
+-- The turns of `push_row`, `push_live`, `fill` and `empty_buckets`: entries pushed one after another, and buckets emptied. Assumes
+-- nothing.
+use Prim.Native.Nat.{ℕ, suc, _+_, _-_, _*_, _≤_, _<_}
+use mathlib.Core.Path.{_≡_, refl, sym, ap, _∙_}
+use mathlib.Core.Bool.{true, false, false≢true}
 use mathlib.Core.List.{List}
-use native.Mathlib.Decide.{ℕ-discrete}
+use native.Mathlib.Decide.{ℕ-discrete, decLt}
 use native.Mathlib.Numerals.{add-one}
 use native.Mathlib.Omega.{arith}
 use lib.ListN.{length, drop, getD, set}
 use lib.Seq.{getD-set-same, getD-set-other, drop-set-lt}
-use Rattle.lists.specs.Lists.{elem}
+use Rattle.lists.specs.Lists.{elem, rowAt}
 use Rattle.lists.specs.Laws.Rising.{elem-here}
+use Rattle.constraints.specs.Constraints.{isLive}
 use Rattle.table.specs.declared.Header.{Header}
 use Rattle.refresh_spec.specs.Index.{bucketOf, chain}
-use Rattle.refresh_index.specs.inner.Entries.{cellNamed, entryValue, headsAt, pushed, Listed, Fillable, Pushed, Emptied}
-use Rattle.refresh_index.specs.Laws.Chains.{pushed-own, pushed-keeps}
+use Rattle.refresh_index.specs.inner.Entries.{cellNamed, entryLive, entryValue, headsAt, pushed, Listed, Fillable, Pushed, Emptied}
+use Rattle.refresh_index.specs.Laws.Chains.{chain-longer, pushed-own, pushed-keeps}
 use Rattle.refresh_spec.specs.Laws.Places.{entry-in}
 use Rattle.refresh_spec.specs.Laws.Fronts.{bucket-below}
 use Rattle.refresh_index.proofs.Sizes.{small}
@@ -41,6 +43,32 @@ push-then p q =
       same-below = λ entry k. q .same-below entry (omega (arith, k, p .up)) ∙ p .same-below entry k;
       past = q .past ∙ p .past;
     }
+
+-- the entries of a dead row need not be pushed
+module _ (h : Header) (rows columns : List ℕ) (row : ℕ) (dead : isLive (rowAt (h .columns) row rows) ≡ false) where
+  dead-place : (place : ℕ) → place < length columns → entryLive h rows columns (row * length columns + place) ≡ false
+  unfolding entryLive
+  dead-place place p = rw (entry-in (suc row) (length columns) row place (omega arith) p .row-of) dead
+
+  dead-entry : (entry : ℕ) → row * length columns ≤ entry → entry < row * length columns + length columns → entryLive h rows columns entry ≡ false
+  dead-entry entry low high =
+      let e : row * length columns + (entry - row * length columns) ≡ entry = omega (arith, low) in
+      sym (ap (entryLive h rows columns) e) ∙ dead-place (entry - row * length columns) (omega (arith, low, high))
+
+  pub push-dead : (buckets : ℕ) (index : List ℕ) → Pushed h rows columns buckets (row * length columns) index (row * length columns + length columns) index
+  push-dead buckets index =
+      record {
+        up = omega arith;
+        lists = λ l. record {
+          each = λ entry k live.
+              elim (decLt entry (row * length columns)) [
+                | yes b ↦ chain-longer index (row * length columns) _ entry (l .each entry b live) (length columns)
+                | no b ↦ absurd (false≢true (sym (dead-entry entry (omega (arith, b)) k) ∙ live))
+              ];
+        };
+        same-below = λ entry k. refl;
+        past = refl;
+      }
 
 module _ (h : Header) (rows columns : List ℕ) (buckets : ℕ) where
   -- one more entry is listed under its value

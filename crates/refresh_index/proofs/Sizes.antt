@@ -49,9 +49,12 @@ fillable-same f index′ e =
       room = f .room;
     }
 
--- a row's cell in a named column
+-- a row, and its cell in a named column
+pub row-inside : {h : Header} {rows columns : List ℕ} → Readable h rows columns → (row : ℕ) → row < h .rows → Inside rows (h .columns) row
+row-inside {h} {rows} n row r =
+    let i = outside-inside h (n .inside) in
+    inside rows (h .columns) (h .capacity) row (i .bounds .capacity-few) (i .bounds .columns-few) (n .rows-long) (omega (arith, i .rows-fit))
+
 pub cell-in : {h : Header} {rows columns : List ℕ} → Readable h rows columns → (row place : ℕ) → row < h .rows → place < length columns
     → Inside rows (h .columns) row × (getD columns place 0 < h .columns)
-cell-in {h} {rows} {columns} n row place r p =
-    let i = outside-inside h (n .inside) in
-    (inside rows (h .columns) (h .capacity) row (i .bounds .capacity-few) (i .bounds .columns-few) (n .rows-long) (omega (arith, i .rows-fit)), ltb-true _ _ (all-getD _ columns (n .columns-there) place p 0))
+cell-in {columns = columns} n row place r p = (row-inside n row r, ltb-true _ _ (all-getD _ columns (n .columns-there) place p 0))

@@ -106,6 +106,17 @@ fn push_row(h: Header, rows: &[u32], index: &mut [u32], columns: &[u32], buckets
     }
 }
 
+// Pushes the entries of a row that is live. A dead row is never found, so it needs none.
+fn push_live(h: Header, rows: &[u32], index: &mut [u32], columns: &[u32], buckets: u32, row: u32)
+    requires { ⌜ Fillable h (now rows) (now columns) buckets (now index) × (row < h .rows) ⌝ }
+    ensures { λ _. ⌜ Pushed h (now (rows .entry)) (now (columns .entry)) buckets (row * length (now (columns .entry))) (now (index .entry)) (row * length (now (columns .entry)) + length (now (columns .entry))) (now (index .exit)) ⌝ }
+{
+    if row_buffer::is_dead(rows, (row * h.columns) as usize) {
+        return;
+    }
+    push_row(h, rows, index, columns, buckets, row);
+}
+
 // Writes the words before the entries, which describe the index.
 fn write_front(h: Header, index: &mut [u32], columns: &[u32], buckets: u32)
     requires { ⌜ (16 ≤ length (now index)) × (length (now columns) ≤ 8) ⌝ }
@@ -117,14 +128,14 @@ fn write_front(h: Header, index: &mut [u32], columns: &[u32], buckets: u32)
     index[BUCKETS] = buckets;
 }
 
-// Pushes the entries of the rows from `from` on, on top of an index of the rows before it.
+// Pushes the entries of the live rows from `from` on, on top of an index of the rows before it.
 fn fill(h: Header, rows: &[u32], index: &mut [u32], columns: &[u32], buckets: u32, from: u32)
     requires { ⌜ Fillable h (now rows) (now columns) buckets (now index) × (from ≤ h .rows) ⌝ }
     ensures { λ _. ⌜ Filled h (now (rows .entry)) (now (columns .entry)) buckets from (now (index .entry)) (now (index .exit)) ⌝ }
 {
     let mut row = from;
     while row < h.rows {
-        push_row(h, rows, index, columns, buckets, row);
+        push_live(h, rows, index, columns, buckets, row);
         row += 1;
     }
     write_front(h, index, columns, buckets);

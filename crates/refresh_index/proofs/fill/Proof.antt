@@ -23,15 +23,15 @@ abbrev μ-loop : tie.MeasureT-loop
 loop-holds : tie.Need-loop-holds Inv-loop μ-loop
 loop-holds c = (c .before .before .before .pre .1, refl, push-none)
 
-push-row-requires : tie.Need-push-row-requires Inv-loop μ-loop
-push-row-requires c κs = (fillable-same (c .before .before .before .before .before .before .before .pre .0) _ (c .before .before .before .loop .inv .1), c .before .if1 .taken)
+push-live-requires : tie.Need-push-live-requires Inv-loop μ-loop
+push-live-requires c κs = (fillable-same (c .before .before .before .before .before .before .before .pre .0) _ (c .before .before .before .loop .inv .1), c .before .if1 .taken)
 
 loop-again : tie.Need-loop-again Inv-loop μ-loop
 loop-again c =
     let l = c .before .before .before .before .before .before .loop in (
       omega (arith, c .before .before .before .before .if1 .taken),
       c .before .index .given ∙ l .inv .1,
-      push-then (l .inv .2) (rw (add-one, suc-mul) (c .before .before .push-row .ensures)),
+      push-then (l .inv .2) (rw (add-one, suc-mul) (c .before .before .push-live .ensures)),
     )
 
 write-front-requires : tie.Need-write-front-requires Inv-loop μ-loop
@@ -50,5 +50,5 @@ pub fill-spec : {M : Type 1} → statement M
 fill-spec =
     tie.close
     (tie.spec
-    Inv-loop μ-loop loop-holds push-row-requires (λ c. search needs) (λ c. search needs) loop-again
+    Inv-loop μ-loop loop-holds push-live-requires (λ c. search needs) (λ c. search needs) loop-again
     write-front-requires same-length returns)

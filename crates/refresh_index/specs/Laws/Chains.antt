@@ -4,6 +4,7 @@ use mathlib.Core.Path.{_≡_, refl, ap, _∙_}
 use mathlib.Core.Logic.{_≢_}
 use mathlib.Core.Bool.{true, false≢true}
 use mathlib.Core.List.{List, [], _∷_}
+use native.Mathlib.Nat.{add-zero}
 use native.Mathlib.Decide.{ℕ-discrete}
 use native.Mathlib.Numerals.{add-one}
 use native.Mathlib.Omega.{arith}
@@ -34,6 +35,13 @@ chain-on index (suc n) link some below =
 pub chain-none : (index : List ℕ) (n : ℕ) → chain index n 0 ≡ []
 chain-none index zero = unfold chain in refl
 chain-none index (suc n) = chain-below index n 0 (omega arith) ∙ chain-none index n
+
+-- entries of a chain are in it with a higher limit too
+pub chain-longer : (index : List ℕ) (n link e : ℕ) → elem e (chain index n link) ≡ true → (k : ℕ) → elem e (chain index (n + k) link) ≡ true
+chain-longer index n link e q zero = rw (add-zero n) q
+chain-longer index n link e q (suc k) =
+    let next : n + suc k ≡ suc (n + k) = omega arith in
+    rw (next, chain-below index (n + k) link (λ s. false≢true (unfold elem in rw (chain-above index n link (omega arith)) at q))) (chain-longer index n link e q k)
 
 module _ (index : List ℕ) (head n : ℕ) (below : 16 + n < head) (inside : head < length index) where
   other : (at : ℕ) → at ≢ 16 + n → at ≢ head → getD (pushed index head n) at 0 ≡ getD index at 0
