@@ -1,10 +1,6 @@
 -- `short_histories::is_known` meets its contract. Assumes nothing.
-use Prim.Native.Nat.{_-_}
-use mathlib.Core.Path.{_≡_, sym}
-use native.Mathlib.Omega.{arith}
-use borrow.Author.Needs.{needs}
+use Rattle.short_histories.proofs.Prelude.{_-_, _≡_, sym, arith, length, drop, needs}
 use lib.Dec.{ltb}
-use lib.ListN.{length, drop}
 use Rattle.lists.specs.Lists.{all}
 use Rattle.short_histories.specs.Sequences.{known}
 use Rattle.short_histories.proofs.LoopSteps.{too-long, known-start, unknown-here, known-on, known-end}

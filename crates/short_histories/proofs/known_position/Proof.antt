@@ -1,9 +1,5 @@
 -- `short_histories::known_position` meets its contract. Assumes nothing.
-use Prim.Native.Nat.{_+_, _-_, _≤_}
-use mathlib.Core.Path.{_≡_, sym, _∙_}
-use native.Mathlib.Omega.{arith}
-use borrow.Author.Needs.{needs}
-use lib.ListN.{length, take}
+use Rattle.short_histories.proofs.Prelude.{_+_, _-_, _≤_, _≡_, sym, _∙_, arith, length, take, needs}
 use Rattle.short_histories.specs.Sequences.{positionOf}
 use Rattle.short_histories.specs.Laws.Positions.{position-below, position-nothing}
 use Rattle.short_histories.proofs.LoopSteps.{position-on, position-end, prefix-below}

@@ -1,6 +1,5 @@
 -- `short_histories::write_sequence` meets its contract. Assumes nothing.
-use native.Mathlib.Omega.{arith}
-use borrow.Author.Needs.{needs}
+use Rattle.short_histories.proofs.Prelude.{arith, needs}
 use Rattle.short_histories.proofs.LoopSteps.{Writing, writing-begun, some-left, writing-inside, writing-on, writing-ended}
 use Rattle.short_histories.proofs.write_sequence.Statement.{statement}
 use Rattle.short_histories.proofs.write_sequence.Tie as tie
