@@ -2,8 +2,7 @@
 use Rattle.listing_spec.specs.Listings.{headLetter}
 use Rattle.listing_write.specs.Writing.{headNumbers}
 use Rattle.listing_write.specs.inner.Lines.{headLine}
-use native.Mathlib.Omega.{arith}
-use borrow.Author.Needs.{needs}
+use Rattle.listing_write.proofs.Prelude.{arith, needs}
 use Rattle.listing_write.proofs.put_head.Statement.{statement}
 use Rattle.listing_write.proofs.put_head.Tie as tie
 

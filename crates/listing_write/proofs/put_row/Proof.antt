@@ -1,7 +1,6 @@
 -- `listing_write::put_row` meets its contract. Assumes nothing.
-use mathlib.Core.Path.{sym, _∙_}
+use Rattle.listing_write.proofs.Prelude.{sym, _∙_, needs}
 use Rattle.listing_write.proofs.Steps.{room-numbered, room-live, put-numbered-row, put-live-row, put-dead-row}
-use borrow.Author.Needs.{needs}
 use Rattle.listing_write.proofs.put_row.Statement.{statement}
 use Rattle.listing_write.proofs.put_row.Tie as tie
 

@@ -1,8 +1,6 @@
 -- `listing_write::put_rows` meets its contract. The loop's invariant: the rows still to come end where all of them do. Assumes nothing.
-use Prim.Native.Nat.{_-_}
-use native.Mathlib.Omega.{arith}
+use Rattle.listing_write.proofs.Prelude.{_-_, arith, needs}
 use Rattle.listing_write.proofs.Steps.{Putting, putting-begin, place-next, putting-room, putting-again, putting-end}
-use borrow.Author.Needs.{needs}
 use Rattle.listing_write.proofs.put_rows.Statement.{statement}
 use Rattle.listing_write.proofs.put_rows.Tie as tie
 

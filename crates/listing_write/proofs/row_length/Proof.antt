@@ -1,9 +1,7 @@
 -- `listing_write::row_length` meets its contract. Assumes nothing.
-use mathlib.Core.Path.{sym, _∙_}
-use native.Mathlib.Omega.{arith}
+use Rattle.listing_write.proofs.Prelude.{sym, _∙_, arith, needs}
 use Rattle.levels_text.specs.Laws.Decimals.{length-field, length-fields}
 use Rattle.listing_write.proofs.Steps.{bytes-numbered, bytes-live, bytes-dead}
-use borrow.Author.Needs.{needs}
 use Rattle.listing_write.proofs.row_length.Statement.{statement}
 use Rattle.listing_write.proofs.row_length.Tie as tie
 

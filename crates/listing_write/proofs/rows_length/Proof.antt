@@ -1,10 +1,7 @@
 -- `listing_write::rows_length` meets its contract. The loop's invariant: the bytes counted and those still to come are all. Assumes
 -- nothing.
-use Prim.Native.Nat.{_-_}
-use native.Mathlib.Omega.{arith}
-use lib.ListN.{length-take, length-drop}
+use Rattle.listing_write.proofs.Prelude.{_-_, arith, length-take, length-drop, needs}
 use Rattle.listing_write.proofs.Steps.{place-next, Measuring, measuring-begin, measuring-few, measuring-again, measuring-end}
-use borrow.Author.Needs.{needs}
 use Rattle.listing_write.proofs.rows_length.Statement.{statement}
 use Rattle.listing_write.proofs.rows_length.Tie as tie
 

@@ -1,7 +1,6 @@
 -- `listing_write::text_length` meets its contract. Assumes nothing.
-use native.Mathlib.Omega.{arith}
+use Rattle.listing_write.proofs.Prelude.{arith, needs}
 use Rattle.listing_write.proofs.Steps.{text-bytes, text-few}
-use borrow.Author.Needs.{needs}
 use Rattle.listing_write.proofs.text_length.Statement.{statement}
 use Rattle.listing_write.proofs.text_length.Tie as tie
 

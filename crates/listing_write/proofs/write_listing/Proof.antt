@@ -1,9 +1,7 @@
 -- `listing_write::write_listing` meets its contract. Assumes nothing.
-use mathlib.Core.Path.{sym, _∙_}
-use native.Mathlib.Omega.{arith}
+use Rattle.listing_write.proofs.Prelude.{sym, _∙_, arith, needs}
 use Rattle.listing_write.specs.Laws.Lines.{stored-rows}
 use Rattle.listing_write.proofs.Steps.{refused-outside, refused-rows, refused-output, written-all}
-use borrow.Author.Needs.{needs}
 use Rattle.listing_write.proofs.write_listing.Statement.{statement}
 use Rattle.listing_write.proofs.write_listing.Tie as tie
 
