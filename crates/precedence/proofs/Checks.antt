@@ -1,14 +1,10 @@
 -- The checks one by one, and what is known if nothing is refused. Assumes nothing.
-use Prim.Native.Nat.{ℕ, _/_, _%_, _≤_, _<_}
-use mathlib.Core.Path.{_≡_, refl, sym, ap, _∙_}
+use Rattle.precedence.proofs.Prelude.{ℕ, _/_, _%_, _≤_, _<_, _≡_, refl, sym, ap, _∙_, arith, length, leb-false, ltb-false, le-leb, lt-leb, lt-ltb, le-ltb, eq-eqb, ne-eqb}
 use mathlib.Core.Logic.{inl, inr}
 use mathlib.Core.Bool.{false, not, _||_}
 use mathlib.Core.List.{List, [], _∷_}
 use mathlib.Core.Option.{none, some}
-use native.Mathlib.Omega.{arith}
 use lib.Dec.{leb, ltb, eqb}
-use lib.ListN.{length}
-use borrow.Author.Tests.{leb-false, ltb-false, le-leb, lt-leb, lt-ltb, le-ltb, eq-eqb, ne-eqb}
 use Rattle.lists.specs.Laws.Filter.{split}
 use Rattle.lists.specs.Laws.All.{or-no-right}
 use Rattle.refusals.specs.Refusals.{check, firstRefusal, accepted}

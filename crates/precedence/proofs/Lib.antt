@@ -1,2 +1,3 @@
+mod Prelude
 pub mod Checks
 pub mod Steps

@@ -1,6 +1,5 @@
 -- `precedence::is_filed_by` meets its contract. Assumes nothing.
-use borrow.Author.Needs.{needs}
-use native.Mathlib.Omega.{arith}
+use Rattle.precedence.proofs.Prelude.{arith, needs}
 use Rattle.precedence.proofs.Steps.{RowInStore, lookup-pre, found-in-store, found-none, found-at}
 use Rattle.precedence.proofs.is_filed_by.Statement.{statement}
 use Rattle.precedence.proofs.is_filed_by.Tie as tie

@@ -1,7 +1,5 @@
 -- `precedence::is_row_filed` meets its contract. Assumes nothing.
-use borrow.Author.Needs.{needs}
-use native.Mathlib.Omega.{arith}
-use mathlib.Core.Path.{refl}
+use Rattle.precedence.proofs.Prelude.{refl, arith, needs}
 use Rattle.precedence.proofs.Steps.{RowInStore, row-in-store, key-fits, key-made, filed-row}
 use Rattle.precedence.proofs.is_row_filed.Statement.{statement}
 use Rattle.precedence.proofs.is_row_filed.Tie as tie

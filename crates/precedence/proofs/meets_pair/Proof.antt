@@ -1,7 +1,5 @@
 -- `precedence::meets_pair` meets its contract. Assumes nothing.
-use borrow.Author.Needs.{needs}
-use native.Mathlib.Omega.{arith}
-use mathlib.Core.Path.{_∙_}
+use Rattle.precedence.proofs.Prelude.{_∙_, arith, needs}
 use Rattle.precedence.proofs.Steps.{RowInStore, row-in-store, not-named, named}
 use Rattle.precedence.proofs.meets_pair.Statement.{statement}
 use Rattle.precedence.proofs.meets_pair.Tie as tie

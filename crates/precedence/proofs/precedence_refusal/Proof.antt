@@ -1,6 +1,5 @@
 -- `precedence::precedence_refusal` meets its contract. Assumes nothing.
-use borrow.Author.Needs.{needs}
-use mathlib.Core.Path.{sym, _∙_}
+use Rattle.precedence.proofs.Prelude.{sym, _∙_, needs}
 use Rattle.precedence.proofs.Checks.{lookup-refused, no-key-column, odd-words, no-pairs, many-pairs, none-refused}
 use Rattle.precedence.proofs.precedence_refusal.Statement.{statement}
 use Rattle.precedence.proofs.precedence_refusal.Tie as tie
