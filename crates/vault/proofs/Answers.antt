@@ -1,10 +1,7 @@
 -- The ways out of the entry points: refused, or all written. Assumes nothing.
-use Prim.Native.Nat.{ℕ, zero, suc, _+_, _*_, _/_, _%_, _<_}
-use mathlib.Core.Path.{_≡_, refl, sym, _∙_}
-use mathlib.Core.Bool.{Bool, true, false}
+use Rattle.vault.proofs.Prelude.{ℕ, zero, suc, _+_, _*_, _/_, _%_, _<_, _≡_, refl, sym, _∙_, Bool, true, false, arith}
 use mathlib.Core.List.{List}
 use native.Mathlib.Nat.{mul-comm, mul-zero, div-add-mod', mod-lt, div-lt-iff-lt-mul}
-use native.Mathlib.Omega.{arith}
 use lib.ListN.{length}
 use Rattle.lists.specs.Lists.{splice}
 use Rattle.refusals.specs.Laws.Replies.{reply-refused, reply-accepted}

@@ -1,12 +1,9 @@
 -- The output filled cell by cell, column by column, block by block, and all of it. Assumes nothing.
-use Prim.Native.Nat.{ℕ, zero, suc, _+_, _-_, _*_, _%_, _^_, _≤_, _<_}
-use mathlib.Core.Path.{_≡_, refl, sym, ap, subst, _∙_}
-use mathlib.Core.Bool.{Bool, true}
+use Rattle.vault.proofs.Prelude.{ℕ, zero, suc, _+_, _-_, _*_, _%_, _^_, _≤_, _<_, _≡_, refl, sym, ap, subst, _∙_, Bool, true, arith}
 use mathlib.Core.List.{List}
 use native.Mathlib.Nat.{zero-add, zero-mul, suc-mul, mul-comm, mul-le-mul-right}
 use native.Mathlib.Decide.{decLt, ℕ-discrete}
 use native.Mathlib.Numerals.{add-one}
-use native.Mathlib.Omega.{arith}
 use lib.ListN.{length, getD, set, length-set}
 use lib.Seq.{getD-set-same, getD-set-other, ext-getD}
 use Rattle.lists.specs.Lists.{splice}

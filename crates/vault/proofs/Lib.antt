@@ -1,2 +1,3 @@
+mod Prelude
 pub mod Filling
 pub mod Answers

@@ -1,6 +1,5 @@
 -- `vault::cell_above` meets its contract. Assumes nothing.
-use native.Mathlib.Omega.{arith}
-use borrow.Author.Needs.{needs}
+use Rattle.vault.proofs.Prelude.{arith, needs}
 use Rattle.vault.proofs.Filling.{above-none, above-some, above-inside}
 use Rattle.vault.proofs.cell_above.Statement.{statement}
 use Rattle.vault.proofs.cell_above.Tie as tie

@@ -1,7 +1,5 @@
 -- `vault::difference_column` meets its contract. Assumes nothing.
-use Prim.Native.Nat.{_-_}
-use native.Mathlib.Omega.{arith}
-use borrow.Author.Needs.{needs}
+use Rattle.vault.proofs.Prelude.{_-_, arith, needs}
 use Rattle.vault.proofs.Filling.{Differencing, column-scan-begin, column-scan-end, difference-more, to-inside, from-inside, columns-inside, rows-inside}
 use Rattle.vault.proofs.difference_column.Statement.{statement}
 use Rattle.vault.proofs.difference_column.Tie as tie

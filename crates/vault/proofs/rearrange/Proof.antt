@@ -1,7 +1,5 @@
 -- `vault::rearrange` meets its contract. Assumes nothing.
-use mathlib.Core.Path.{sym, _∙_}
-use native.Mathlib.Omega.{arith}
-use borrow.Author.Needs.{needs}
+use Rattle.vault.proofs.Prelude.{sym, _∙_, arith, needs}
 use Rattle.vault.proofs.Answers.{rearranged-refused, shaped, all-written}
 use Rattle.vault.proofs.rearrange.Statement.{statement}
 use Rattle.vault.proofs.rearrange.Tie as tie

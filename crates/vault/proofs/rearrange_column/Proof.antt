@@ -1,6 +1,5 @@
 -- `vault::rearrange_column` meets its contract. Assumes nothing.
-use mathlib.Core.Bool.{true, false}
-use borrow.Author.Needs.{needs}
+use Rattle.vault.proofs.Prelude.{true, false, needs}
 use Rattle.vault.proofs.Filling.{direction-begun, direction-filled}
 use Rattle.vault.proofs.rearrange_column.Statement.{statement}
 use Rattle.vault.proofs.rearrange_column.Tie as tie

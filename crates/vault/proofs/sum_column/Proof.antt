@@ -1,8 +1,5 @@
 -- `vault::sum_column` meets its contract. Assumes nothing.
-use Prim.Native.Nat.{_-_}
-use mathlib.Core.Path.{_∙_}
-use native.Mathlib.Omega.{arith}
-use borrow.Author.Needs.{needs}
+use Rattle.vault.proofs.Prelude.{_-_, _∙_, arith, needs}
 use Rattle.vault.proofs.Filling.{Summing, column-scan-begin, column-scan-end, sum-more, above-summed, to-inside, from-inside, columns-inside, rows-fit}
 use Rattle.vault.proofs.sum_column.Statement.{statement}
 use Rattle.vault.proofs.sum_column.Tie as tie
