@@ -12,11 +12,6 @@ Inv-loop room store₀ slots at₀ store at = (at ≤ slots) × (length store �
 abbrev μ-loop : tie.MeasureT-loop
 μ-loop room store₀ slots at₀ store at = slots - at
 
-loop-again : tie.Need-loop-again Inv-loop μ-loop
-loop-again c =
-    let l = c .before in
-    (search needs, search needs, ap (λ (s : List ℕ). set s (l .loop .at) 0) (l .loop .inv .2) ∙ empty-step _ (l .loop .at) (omega arith))
-
 returns : tie.Need-returns Inv-loop μ-loop
 returns c =
     let l = c .before .loop in
@@ -29,4 +24,6 @@ empty-spec =
     tie.close
     (tie.spec
     Inv-loop μ-loop (λ c. search needs) (λ c. search needs) (λ c. (search needs, refl, empty-begin _)) (λ c. search needs)
-    (λ c. search needs) (λ c. search needs) (λ c. search needs) loop-again (λ c. search needs) returns)
+    (λ c. search needs) (λ c. search needs) (λ c. search needs)
+    (λ c. let l = c .before in (search needs, search needs, ap (λ (s : List ℕ). set s (l .loop .at) 0) (l .loop .inv .2) ∙ empty-step _ (l .loop .at) (omega arith)))
+    (λ c. search needs) returns)

@@ -34,9 +34,6 @@ loop-again c =
     let p : Past _ _ _ _ _ = record { other = c .before .before .is-hit .ensures .no (c .before .if2 .left) } in
     on _ _ _ _ (l .at) (l .passed) _ (l .inv) (c .before .before .before .before .before .loop-test .taken) p (c .next-slot .ensures .0)
 
-returns-3 : tie.Need-returns-3 Inv-loop μ-loop
-returns-3 c = let l = c .before .loop in found-round _ _ _ _ _ (few (c .before .before .before .before .before .before .before)) (l .at) (l .passed) (l .inv) (c .loop-test .left)
-
 pub find-spec : {M : Type 1} → statement M
 find-spec =
     tie.close
@@ -45,4 +42,5 @@ find-spec =
     (λ c. begin _ _ _ _ _ (c .home-slot .ensures .0) (c .home-slot .ensures .1)) (λ c. search needs) (λ c. search needs)
     (λ c. search needs) returns
     (λ c κs. let p = c .before .before .before .before .before .before .before .before .before .pre in (rows-in _ _ _ (p .0), p .1))
-    sub-row returns-2 (λ c κs. search needs) (λ c. search needs) (λ c. search needs) loop-again returns-3)
+    sub-row returns-2 (λ c κs. search needs) (λ c. search needs) (λ c. search needs) loop-again
+    (λ c. let l = c .before .loop in found-round _ _ _ _ _ (few (c .before .before .before .before .before .before .before)) (l .at) (l .passed) (l .inv) (c .loop-test .left)))

@@ -9,10 +9,6 @@ use Rattle.key_index.proofs.is_hit.Tie as tie
 few : (s : tie.Start) → s .args .t .rows ≤ 65536
 few s = omega (arith, s .pre .0)
 
-returns-2 : tie.Need-returns-2
-returns-2 c =
-    hit-nameless _ _ _ _ _ _ (few (c .before .before .before .before .before)) (sym (c .before .names-row .ensures) ∙ not-true _ (c .if2 .taken))
-
 -- the row that the word names
 row : (c : tie.Else2) → let a = c .before .before .before .before .before .args in Named (a .t) (a .rows .now) (a .word)
 row c = named _ _ _ (c .before .before .before .before .before .pre .0) (sym (c .before .names-row .ensures) ∙ not-false _ (c .if2 .left))
@@ -32,7 +28,8 @@ pub is-hit-spec : {M : Type 1} → statement M
 is-hit-spec =
     tie.close
     (tie.spec
-    (λ c. hit-bits _ _ _ _ _ _ (few (c .before .before .before)) (c .if1 .taken)) (λ c κs. search needs) returns-2
+    (λ c. hit-bits _ _ _ _ _ _ (few (c .before .before .before)) (c .if1 .taken)) (λ c κs. search needs)
+    (λ c. hit-nameless _ _ _ _ _ _ (few (c .before .before .before .before .before)) (sym (c .before .names-row .ensures) ∙ not-true _ (c .if2 .taken)))
     (λ c. omega (arith, row c)) (λ c. omega (arith, row (c .before))) (λ c. omega (arith, row (c .before)))
     (λ c κs. let p = c .before .before .before .before .before .before .pre in omega (arith, row (c .before), p .0 .most-keys, p .1))
     returns-3)

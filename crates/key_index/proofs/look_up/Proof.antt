@@ -26,23 +26,6 @@ returns-2 c =
     let w = passed-to _ _ _ _ _ (few s) (h .result) (f .0) (h .ensures .0) (c .before .before .before .is-hit .ensures .no (c .before .before .if1 .left)) (f .1 .ahead) in
     found-free _ _ _ _ _ (few s) _ _ w (f .1 .free)
 
-add-slot : tie.Need-add-slot
-add-slot c = omega (arith, c .bits-ahead .ensures .below, c .before .before .before .before .before .before .before .before .before .before .before .pre .0)
-
-cast-next : tie.Need-cast-next
-cast-next c = omega (arith, c .bits-ahead .ensures .below, c .before .before .before .before .before .before .before .before .before .before .before .pre .0)
-
-mul-next : tie.Need-mul-next
-mul-next c = omega (arith, c .bits-ahead .ensures .below, c .before .before .before .before .before .before .before .before .before .before .before .pre .0)
-
-shared-slice-read-next : tie.Need-shared-slice-read-next
-shared-slice-read-next c = omega (arith, c .before .bits-ahead .ensures .below, c .before .before .before .before .before .before .before .before .before .before .before .before .pre .0)
-
-is-hit-requires-2 : tie.Need-is-hit-requires-2
-is-hit-requires-2 c κs =
-    let p = c .before .before .before .before .before .before .before .before .before .before .before .before .pre in
-    (rows-in _ _ _ (p .0), p .1)
-
 -- the word ahead names a row
 named-ahead : (c : tie.Then3) → 0 < getD (c .before .before .before .before .before .before .before .before .before .before .before .before .before .before .args .store .now) (c .before .before .before .before .before .before .before .before .before .home-slot .result + c .before .before .before .bits-ahead .result) 0 % 2 ^ 17
 named-ahead c = leads-some _ _ _ _ _ _ (few (c .before .before .before .before .before .before .before .before .before .before .before .before .before .before)) (c .before .is-hit2 .ensures .yes (c .if3 .taken))
@@ -61,6 +44,10 @@ look-up-spec =
     (tie.spec
     (λ c. search needs) (λ c κs. search needs) (λ c. search needs) (λ c. search needs) (λ c. search needs)
     (λ c κs. let p = c .before .before .before .before .before .before .pre in (rows-in _ _ _ (p .0), p .1))
-    (λ c. omega (arith, named c)) returns (λ c κs. search needs) returns-2 (λ c κs. search needs) add-slot cast-next mul-next
-    shared-slice-read-next is-hit-requires-2 (λ c. omega (arith, named-ahead c)) returns-3 (λ c κs. search needs)
-    (λ c. c .find .ensures))
+    (λ c. omega (arith, named c)) returns (λ c κs. search needs) returns-2 (λ c κs. search needs)
+    (λ c. omega (arith, c .bits-ahead .ensures .below, c .before .before .before .before .before .before .before .before .before .before .before .pre .0))
+    (λ c. omega (arith, c .bits-ahead .ensures .below, c .before .before .before .before .before .before .before .before .before .before .before .pre .0))
+    (λ c. omega (arith, c .bits-ahead .ensures .below, c .before .before .before .before .before .before .before .before .before .before .before .pre .0))
+    (λ c. omega (arith, c .before .bits-ahead .ensures .below, c .before .before .before .before .before .before .before .before .before .before .before .before .pre .0))
+    (λ c κs. let p = c .before .before .before .before .before .before .before .before .before .before .before .before .pre in (rows-in _ _ _ (p .0), p .1))
+    (λ c. omega (arith, named-ahead c)) returns-3 (λ c κs. search needs) (λ c. c .find .ensures))
