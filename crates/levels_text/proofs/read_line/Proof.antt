@@ -16,9 +16,6 @@ abbrev μ-loop : tie.MeasureT-loop
 returns-4 : tie.Need-returns-4 Inv-loop μ-loop
 returns-4 c = read-wrong _ _ _ (comma-first (c .before .before .before .before .before .before .before .args .line .now) (c .before .before .before .if2 .left) (c .if4 .taken)) (λ h. refl)
 
-loop-holds : tie.Need-loop-holds Inv-loop μ-loop
-loop-holds c = numbers-begin _ _ (c .before .before .before .before .if1 .left) (c .before .before .if3 .left) (c .before .before .before .if2 .left) (c .if4 .left)
-
 returns-6 : tie.Need-returns-6 Inv-loop μ-loop
 returns-6 c = wrong-number _ _ _ _ _ (c .before .before .before .before .before .before .loop .inv) (c .before .before .before .before .before .loop-test .taken) (c .before .before .before .if5 .left) _ (c .before .before .read-field .ensures) (c .enum-told .given .1)
 
@@ -44,8 +41,9 @@ read-line-spec =
     (tie.spec
     Inv-loop μ-loop (λ c. read-wrong _ _ _ (too-long _ (c .if1 .taken)) (λ h. refl))
     (λ c. read-wrong _ _ _ (no-bytes (c .before .before .before .before .args .line .now) (c .if2 .taken)) (λ h. refl))
-    (λ c. read-no-room _ _ (c .if3 .taken)) (λ c. search needs) returns-4 loop-holds (λ c. search needs)
-    (λ c. c .before .before .before .loop .inv .same)
+    (λ c. read-no-room _ _ (c .if3 .taken)) (λ c. search needs) returns-4
+    (λ c. numbers-begin _ _ (c .before .before .before .before .if1 .left) (c .before .before .if3 .left) (c .before .before .before .if2 .left) (c .if4 .left))
+    (λ c. search needs) (λ c. c .before .before .before .loop .inv .same)
     (λ c. wrong-letter _ _ _ _ _ (c .before .before .before .loop .inv) (c .before .before .loop-test .taken) (c .if5 .taken))
     (λ c. search needs) (λ c κs. search needs) (λ c. search needs)
     (λ c. c .before .before .before .before .before .before .loop .inv .same) returns-6 (λ c. search needs)

@@ -11,13 +11,11 @@ Inv-loop text₀ used bytes end₀ i₀ text end i =
 abbrev μ-loop : tie.MeasureT-loop
 μ-loop text₀ used bytes end₀ i₀ text end i = length bytes - i
 
-loop-again : tie.Need-loop-again Inv-loop μ-loop
-loop-again c =
-    putting-again (c .before .before .before .before .before .before .loop .inv) (search needs) (search needs) (c .before .before .put .ensures)
-
 pub put-bytes-spec : {M : Type 1} → statement M
 put-bytes-spec =
     tie.close
     (tie.spec
     Inv-loop μ-loop (λ c. putting-begin _ _ _) (λ c. search needs) (λ c κs. search needs) (λ c. search needs)
-    (λ c. search needs) loop-again (λ c. search needs) (λ c. putting-end (c .before .loop .inv) (search needs)))
+    (λ c. search needs)
+    (λ c. putting-again (c .before .before .before .before .before .before .loop .inv) (search needs) (search needs) (c .before .before .put .ensures))
+    (λ c. search needs) (λ c. putting-end (c .before .loop .inv) (search needs)))

@@ -14,14 +14,11 @@ abbrev μ-loop : tie.MeasureT-loop
 put-number-requires : tie.Need-put-number-requires Inv-loop μ-loop
 put-number-requires c κs = omega (arith, numbering-next (c .before .before .before .loop .inv) (search needs), c .before .before .before .loop .inv .same-length, c .before .before .before .before .before .before .pre)
 
-loop-again : tie.Need-loop-again Inv-loop μ-loop
-loop-again c =
-    numbering-again (c .before .before .before .before .before .before .loop .inv) (search needs) (search needs) (c .before .before .put-number .ensures)
-
 pub put-numbers-spec : {M : Type 1} → statement M
 put-numbers-spec =
     tie.close
     (tie.spec
     Inv-loop μ-loop (λ c. numbering-begin _ _ _) (λ c. search needs) (λ c. search needs) put-number-requires
-    (λ c. search needs) (λ c. search needs) loop-again (λ c. search needs)
-    (λ c. numbering-end (c .before .loop .inv) (search needs)))
+    (λ c. search needs) (λ c. search needs)
+    (λ c. numbering-again (c .before .before .before .before .before .before .loop .inv) (search needs) (search needs) (c .before .before .put-number .ensures))
+    (λ c. search needs) (λ c. numbering-end (c .before .loop .inv) (search needs)))

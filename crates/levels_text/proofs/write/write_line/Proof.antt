@@ -5,11 +5,9 @@ use Rattle.levels_text.specs.Laws.Decimals.{length-written}
 use Rattle.levels_text.proofs.write.write_line.Statement.{statement}
 use Rattle.levels_text.proofs.write.write_line.Tie as tie
 
-put-line-requires : tie.Need-put-line-requires
-put-line-requires c κs = omega (arith, length-written (c .before .before .before .args .letter) (c .before .before .before .args .numbers .now), c .before .before .before .pre)
-
 pub write-line-spec : {M : Type 1} → statement M
 write-line-spec =
     tie.close
     (tie.spec
-    put-line-requires (λ c. search needs) (λ c. line-wrote _ _ (search needs) (c .before .before .put-line .ensures)))
+    (λ c κs. omega (arith, length-written (c .before .before .before .args .letter) (c .before .before .before .args .numbers .now), c .before .before .before .pre))
+    (λ c. search needs) (λ c. line-wrote _ _ (search needs) (c .before .before .put-line .ensures)))
