@@ -5,7 +5,8 @@ ghost use Rattle.replay_calls.specs.Encoding.{decoded};
 ghost use Rattle.replay_calls.specs.inner.Making.{Made};
 ghost use Rattle.replay.specs.Replays.{Replayed};
 use replay_calls::make_call;
-use replay_frames::frame_length;
+use replay_frames::Frame;
+use replay_frames::frame_at;
 use table::Header;
 use table::TableAnswer;
 use table_open::open_table;
@@ -26,8 +27,11 @@ fn make_calls(
 {
     let mut n = h;
     let mut at: usize = 0;
-    let mut words = frame_length(calls, at);
-    while words != 0 {
+    loop {
+        let frame = frame_at(calls, at);
+        let Frame::Words(words) = frame else {
+            return n;
+        };
         n = make_call(
             n,
             calls[at],
@@ -41,9 +45,7 @@ fn make_calls(
             index,
         );
         at += words;
-        words = frame_length(calls, at);
     }
-    n
 }
 
 // Opens a table and executes all requests on it. Each refresh among them is lent the index store.

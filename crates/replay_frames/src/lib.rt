@@ -1,20 +1,29 @@
 // Lists in words: each item is a kind, a count and that number of words.
 ghost use Prim.Native.Nat.{_≤_};
 ghost use lib.ListN.{length};
-ghost use Rattle.replay_frames.specs.inner.Lengths.{FrameLength};
+ghost use Rattle.replay_frames.specs.inner.Lengths.{FrameIs};
 
-// The number of words of the item at a place, including its kind and count; 0 if there is no complete item.
-pub fn frame_length(words: &[u32], at: usize) -> usize
+// The words of an item before those that it counts.
+const HEAD_WORDS: usize = 2;
+
+// What begins at a place: no complete item, or an item of this many words, including its kind and count.
+pub enum Frame {
+    None,
+    Words(usize),
+}
+
+// The item at a place.
+pub fn frame_at(words: &[u32], at: usize) -> Frame
     requires { ⌜ at ≤ length (now words) ⌝ }
-    ensures { λ r. ⌜ FrameLength (now (words .entry)) at r ⌝ }
+    ensures { λ r. ⌜ FrameIs (now (words .entry)) at r ⌝ }
 {
     let left = words.len() - at;
-    if left < 2 {
-        return 0;
+    if left < HEAD_WORDS {
+        return Frame::None;
     }
     let count = words[at + 1] as usize;
-    if left < count + 2 {
-        return 0;
+    if left < count + HEAD_WORDS {
+        return Frame::None;
     }
-    count + 2
+    Frame::Words(count + HEAD_WORDS)
 }

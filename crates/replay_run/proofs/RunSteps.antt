@@ -6,7 +6,7 @@ use mathlib.Core.List.{List, [], _∷_, _++_, append-assoc, append-nil}
 use native.Mathlib.Omega.{arith}
 use lib.ListN.{length, take, drop, getD, length-take, length-append}
 use Rattle.lists.specs.Lists.{any}
-use Rattle.replay_frames.specs.inner.Lengths.{FrameLength}
+use Rattle.replay_frames.specs.inner.Lengths.{Cut, Whole}
 use Rattle.replay_frames.specs.Laws.Frames.{framed-end, framed-next}
 use Rattle.offsets.specs.declared.SubsetHead.{SubsetHead}
 use Rattle.offsets.specs.Answers.{subsetOf}
@@ -36,9 +36,9 @@ drop-behind (suc n) [] b h = absurd (omega arith)
 drop-behind (suc n) (x ∷ a) b h = drop-behind n a b (omega arith)
 
 -- before the query at a place: the result of the remaining queries, with those accepted so far, is the result of all queries
-module _ (h : Header) (rows sorts ids words first₀ second₀ : List ℕ) (l₀ : RunAnswer) (first second : List ℕ) (l : RunAnswer) (at count : ℕ) where
+module _ (h : Header) (rows sorts ids words first₀ second₀ : List ℕ) (l₀ : RunAnswer) (first second : List ℕ) (l : RunAnswer) (at : ℕ) where
   pub record Going : Type 0 where
-    pub here : FrameLength words at count
+    pub inside : at ≤ length words
     pub first-long : length first ≡ length first₀
     pub second-long : length second ≡ length second₀
     pub alike : length second₀ ≡ length first₀
@@ -51,11 +51,11 @@ module _ (h : Header) (rows sorts ids words first₀ second₀ : List ℕ) (l₀
         → QueriedAll h rows sorts (length first₀) (subsetLeft l₀ ids first₀ second₀) (queriesIn words) (behind accepted o)
 
 module _ {h : Header} {rows sorts ids words first₀ second₀ : List ℕ} {l₀ : RunAnswer} where
-  pub going-begin : {count : ℕ} → FrameLength words 0 count → l₀ .count ≡ 0 → l₀ .taken ≡ 0 → length second₀ ≡ length first₀
-      → Going h rows sorts ids words first₀ second₀ l₀ first₀ second₀ l₀ 0 count
-  going-begin here none fresh alike =
+  pub going-begin : l₀ .count ≡ 0 → l₀ .taken ≡ 0 → length second₀ ≡ length first₀
+      → Going h rows sorts ids words first₀ second₀ l₀ first₀ second₀ l₀ 0
+  going-begin none fresh alike =
       record {
-        here = here;
+        inside = omega arith;
         first-long = refl;
         second-long = refl;
         alike = alike;
@@ -67,26 +67,26 @@ module _ {h : Header} {rows sorts ids words first₀ second₀ : List ℕ} {l₀
         rest = λ o more. more;
       }
 
-  module _ {first second : List ℕ} {l : RunAnswer} {at count : ℕ} (v : Going h rows sorts ids words first₀ second₀ l₀ first second l at count) where
+  module _ {first second : List ℕ} {l : RunAnswer} {at : ℕ} (v : Going h rows sorts ids words first₀ second₀ l₀ first second l at) where
     -- one query is run
-    pub going-again : {first′ second′ : List ℕ} {l′ : RunAnswer} {more : ℕ} → (count ≡ 0 → ⊥)
+    pub going-again : {first′ second′ : List ℕ} {l′ : RunAnswer} {count : ℕ} → Whole words at count
         → QueryExecuted h rows sorts ids (queryOf (getD words at 0) (take (at + count - (at + 2)) (drop (at + 2) words))) l first second l′ first′ second′
-        → length first′ ≡ length first → length second′ ≡ length second → FrameLength words (at + count) more
-        → Going h rows sorts ids words first₀ second₀ l₀ first′ second′ l′ (at + count) more
-    going-again {first′} {second′} {l′} left p a b here =
+        → length first′ ≡ length first → length second′ ≡ length second
+        → Going h rows sorts ids words first₀ second₀ l₀ first′ second′ l′ (at + count)
+    going-again {first′} {second′} {l′} {count} here p a b =
         let cells : at + count - (at + 2) ≡ count - 2 = omega arith in
         let q : List Query = queryOf (getD words at 0) (take (count - 2) (drop (at + 2) words)) in
         let qs : List Query = queriesIn (drop (at + count) words) in
         let t : QueryExecuted h rows sorts ids q l first second l′ first′ second′ = rw cells at p in
         let queried : List Query = t .execute .accepted in
-        let frame : queriesIn (drop at words) ≡ q ++ qs = framed-next queryOf (v .here) left in
+        let frame : queriesIn (drop at words) ≡ q ++ qs = framed-next queryOf here in
         record {
-          here = here;
+          inside = here .inside;
           first-long = a ∙ v .first-long;
           second-long = b ∙ v .second-long;
           alike = v .alike;
           fits = rw (v .first-long) at (t .execute .fits);
-          early = omega (arith, t .few, v .early, left);
+          early = omega (arith, t .few, v .early, here .counted);
           accepted = v .accepted ++ queried;
           refined-is = t .execute .refined-is ∙ ap (λ (r : Bool). r || any refines queried) (v .refined-is) ∙ or-assoc (l₀ .refined) (any refines (v .accepted)) (any refines queried)
               ∙ ap (λ (r : Bool). l₀ .refined || r) (sym (any-both refines (v .accepted) queried));
@@ -100,9 +100,9 @@ module _ {h : Header} {rows sorts ids words first₀ second₀ : List ℕ} {l₀
         }
 
     -- no query is left
-    pub going-end : count ≡ 0 → QueriesExecuted h rows sorts ids (queriesIn words) l₀ first₀ second₀ l first second
+    pub going-end : Cut words at → QueriesExecuted h rows sorts ids (queriesIn words) l₀ first₀ second₀ l first second
     going-end none =
-        let frame : queriesIn (drop at words) ≡ [] = framed-end queryOf (v .here) none in
+        let frame : queriesIn (drop at words) ≡ [] = framed-end queryOf none in
         record {
           accepted = v .accepted;
           queried = rw (append-nil (v .accepted)) at (v .rest (outcome (subsetLeft l ids first second) []) (rw frame (end (subsetLeft l ids first second))));

@@ -8,7 +8,8 @@ ghost use Rattle.replay_run.specs.RunQueries.{RunMade};
 ghost use Rattle.replay_run.specs.inner.Executing.{QueriesExecuted, QueryExecuted};
 use offsets::SubsetHead;
 use query_spec::refusing::smaller;
-use replay_frames::frame_length;
+use replay_frames::Frame;
+use replay_frames::frame_at;
 use replay_queries::FIRST_LIST;
 use replay_queries::RunAnswer;
 use replay_queries::SECOND_LIST;
@@ -84,8 +85,11 @@ fn run_queries_within(
 {
     let mut n = l;
     let mut at: usize = 0;
-    let mut words = frame_length(queries, at);
-    while words != 0 {
+    loop {
+        let frame = frame_at(queries, at);
+        let Frame::Words(words) = frame else {
+            return n;
+        };
         n = execute_query(
             h,
             rows,
@@ -98,9 +102,7 @@ fn run_queries_within(
             second,
         );
         at += words;
-        words = frame_length(queries, at);
     }
-    n
 }
 
 // Runs all queries. Both lists are used up to the length of the shorter, so it does not matter which one is lent first.

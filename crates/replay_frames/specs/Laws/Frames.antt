@@ -7,22 +7,22 @@ use lib.ListN.{length, take, drop, getD, length-drop}
 use lib.Seq.{drop-drop, getD-drop}
 use borrow.Author.Tests.{le-leb, lt-leb}
 use Rattle.replay_frames.specs.Frames.{framedAfter, framed}
-use Rattle.replay_frames.specs.inner.Lengths.{FrameLength}
+use Rattle.replay_frames.specs.inner.Lengths.{Cut, Whole}
 
--- ---- the length of an item
+-- ---- the item at a place
 
 module _ (words : List ℕ) (at : ℕ) (inside : at ≤ length words) where
   -- fewer than two words are left
-  pub length-end : length words - at < 2 → FrameLength words at 0
-  length-end h = record { inside = omega arith; cut = λ e. omega arith; whole = λ f. absurd (f refl) }
+  pub cut-end : length words - at < 2 → Cut words at
+  cut-end h = record { short = omega arith }
 
   -- fewer than the count are left
-  pub length-cut : length words - at < getD words (at + 1) 0 + 2 → FrameLength words at 0
-  length-cut h = record { inside = omega arith; cut = λ e. omega arith; whole = λ f. absurd (f refl) }
+  pub cut-count : length words - at < getD words (at + 1) 0 + 2 → Cut words at
+  cut-count h = record { short = omega arith }
 
   -- all words of the item are left
-  pub length-whole : getD words (at + 1) 0 + 2 ≤ length words - at → FrameLength words at (getD words (at + 1) 0 + 2)
-  length-whole h = record { inside = omega arith; cut = λ e. absurd (omega arith); whole = λ f. refl }
+  pub whole-there : getD words (at + 1) 0 + 2 ≤ length words - at → Whole words at (getD words (at + 1) 0 + 2)
+  whole-there h = record { inside = omega arith; counted = refl }
 
 -- ---- the items from a place on
 
@@ -46,21 +46,20 @@ module _ {A : Type 0} (of : ℕ → List ℕ → List A) where
   framed-whole (kind ∷ []) h = absurd (omega arith)
   framed-whole (kind ∷ count ∷ words) h = rw (le-leb count (length words) (omega arith), framed-after count words)
 
-  module _ {words : List ℕ} {at r : ℕ} (l : FrameLength words at r) where
-    second : getD (drop at words) 1 0 ≡ getD words (at + 1) 0
-    second = getD-drop at words 1 0
+  second : (words : List ℕ) (at : ℕ) → getD (drop at words) 1 0 ≡ getD words (at + 1) 0
+  second words at = getD-drop at words 1 0
 
+  module _ {words : List ℕ} {at : ℕ} where
     -- no more items
-    pub framed-end : r ≡ 0 → framed of (drop at words) ≡ []
-    framed-end e = framed-cut (drop at words) (omega (arith, length-drop at words, second, l .cut e, l .inside))
+    pub framed-end : Cut words at → framed of (drop at words) ≡ []
+    framed-end l = framed-cut (drop at words) (omega (arith, length-drop at words, second words at, l .short))
 
     -- an item, and those behind it
-    pub framed-next : (r ≡ 0 → ⊥)
-        → framed of (drop at words) ≡ of (getD words at 0) (take (r - 2) (drop (at + 2) words)) ++ framed of (drop (at + r) words)
-    framed-next some =
-        let is : r ≡ getD words (at + 1) 0 + 2 = l .whole some in
-        let count : getD words (at + 1) 0 ≡ r - 2 = omega arith in
+    pub framed-next : {n : ℕ} → Whole words at n
+        → framed of (drop at words) ≡ of (getD words at 0) (take (n - 2) (drop (at + 2) words)) ++ framed of (drop (at + n) words)
+    framed-next {n} l =
+        let count : getD words (at + 1) 0 ≡ n - 2 = omega (arith, l .counted) in
         let start : at + 0 ≡ at = omega arith in
-        let end : at + 2 + (r - 2) ≡ at + r = omega arith in
-        framed-whole (drop at words) (omega (arith, length-drop at words, second, l .inside))
-        ∙ rw (second, count, getD-drop at words 0 0, drop-drop 2 at words, drop-drop (r - 2) (at + 2) words, start, end)
+        let end : at + 2 + (n - 2) ≡ at + n = omega (arith, l .counted) in
+        framed-whole (drop at words) (omega (arith, length-drop at words, second words at, l .inside, l .counted))
+        ∙ rw (second words at, count, getD-drop at words 0 0, drop-drop 2 at words, drop-drop (n - 2) (at + 2) words, start, end)
