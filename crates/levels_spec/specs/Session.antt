@@ -29,6 +29,11 @@ session t [] = []
 session t (line ∷ lines) =
     lineResult programLengths t line .text ++ session (lineResult programLengths t line .table) lines
 
+-- the table after lines
+unfoldable pub tableAfter : Option Plain → List (List ℕ) → Option Plain
+tableAfter t [] = t
+tableAfter t (line ∷ lines) = tableAfter (lineResult programLengths t line .table) lines
+
 -- the text that an input prints
 unfoldable pub printed : List ℕ → List ℕ
 printed input = session none (linesIn input)

@@ -8,13 +8,17 @@ use Rattle.lists.specs.Lists.{any}
 use Rattle.refusals.specs.Refusals.{accepted, reply, outcome}
 use Rattle.plain_table.specs.Staged.{Opening}
 use Rattle.plain_table.specs.Refusing.{openRefusal}
-use Rattle.plain_table.specs.Calls.{Call}
+use Rattle.plain_table.specs.Calls.{Call, LentCall}
 use Rattle.table.specs.declared.Header.{Header}
 use Rattle.table.specs.declared.TableAnswer.{TableAnswer}
 use Rattle.table.specs.declared.TableAnswer.the-variants.{Table}
 use Rattle.table.specs.Numbers.{tableView}
 use Rattle.table.specs.Contracts.{Stores, Body, stores, joined, CompactionWords, lengths, SlotsPast, WordsPast, Opened}
-use Rattle.replay_calls.specs.Requests.{Request, isRefresh, IndexPast, ServedAll}
+use Rattle.replay_calls.specs.Requests.{Request, isRefresh, IndexPast, lentAll, ServedAll}
+
+-- calls that are lent the whole stores
+abbrev pub callsLent : List Call → Body → List ℕ → CompactionWords → List LentCall
+callsLent calls b pending w = lentAll (lengths (b .rows) (b .keys) (b .sorts) pending (w .live) (w .base)) calls
 
 module _ (o : Opening) (generation : ℕ) (requests : List Request) (b : Body) (pending : List ℕ) (w : CompactionWords) (index : List ℕ) where
   -- an accepted opening on these stores and then the requests, with the calls of a history that they correspond to

@@ -23,6 +23,11 @@ unfoldable pub isRefresh : Request → Bool
 isRefresh (make c) = false
 isRefresh (refresh r) = true
 
+-- the call that a request corresponds to with a sound index store of this length
+unfoldable pub requested : ℕ → Request → Call
+requested index (make c) = c
+requested index (refresh r) = refreshing r index
+
 -- "16 words plus 3 for each row of the capacity and named column", of at most eight columns: words past these are never written
 abbrev pub IndexPast : ℕ → List ℕ → List ℕ → Type 0
 IndexPast capacity index index′ = drop (16 + 24 * capacity) index′ ≡ drop (16 + 24 * capacity) index

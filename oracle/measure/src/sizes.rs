@@ -149,6 +149,10 @@ fn merges(report: &mut Report, size: &str, both: &Both, rows: u32, capacity: u32
         1,
         &[Call::Compact],
     );
+    let dying = places(rows, rows / 4);
+    let quarter = both.clone().staged(dying.iter().map(|&i| removal(i)));
+    let name = format!("{size}: compact, a quarter of the rows dead, whole");
+    quarter.merged().once(report, &name, 1, &[Call::Compact]);
     both.once(report, &format!("{size}: clear, whole"), 1, &[Call::Clear]);
 }
 

@@ -26,7 +26,7 @@ use Rattle.levels_text.specs.Lines.{fields, isDecimal, isLine, letter, numbers,
 use Rattle.listing_spec.specs.Listings.{Listing, areNumbers, ParsesAs}
 use Rattle.listing_spec.specs.Laws.Lines.{line-numbers}
 use Rattle.levels_spec.specs.Response.{LineResult, printing, replied, openNumber, opens, calls, queries, listText, numberedText, openingIn, served, onTable, result, lineResult}
-use Rattle.levels_spec.specs.Session.{programLengths, linesIn, session, printed}
+use Rattle.levels_spec.specs.Session.{programLengths, linesIn, session, printed, tableAfter}
 use Rattle.levels_spec.specs.Laws.Listings.{listingOf, plain-listed, numbered-listed}
 use Rattle.levels_spec.specs.Laws.Cells.{Fits, opened-fits, staged-fits, merged-fits, compacted-fits, cleared-fits, after-fits}
 
@@ -132,11 +132,6 @@ open-of-session o = rw (o .same) (a-table (o .listable))
 
 open-of : (p : Plain) → Listable p → IsOpen (some p)
 open-of p k = record { table = p; same = refl; listable = k }
-
--- the table after lines
-unfoldable pub tableAfter : Option Plain → List (List ℕ) → Option Plain
-tableAfter t [] = t
-tableAfter t (line ∷ lines) = tableAfter (lineResult programLengths t line .table) lines
 
 -- a table that is open remains open
 pub open-stays : (t : Option Plain) (lines : List (List ℕ)) → IsOpen t → IsOpen (tableAfter t lines)

@@ -28,10 +28,10 @@ use Rattle.refresh_spec.specs.Index.{isNew, IndexSound}
 use Rattle.history.specs.Histories.{Steps}
 use Rattle.history.specs.Laws.Calls.{steps-represents}
 use Rattle.history.specs.Laws.Determined.{SameCells, steps-determined}
-use Rattle.replay_calls.specs.Requests.{Request, isRefresh, IndexPast}
-use Rattle.replay_calls.specs.Laws.Requests.{requested, served-steps}
-use Rattle.replay.specs.Replays.{MadeFrom, Replayed}
-use Rattle.replay.specs.Laws.Theorem.{callsLent, replay-requested, replay-index}
+use Rattle.replay_calls.specs.Requests.{Request, isRefresh, requested, IndexPast}
+use Rattle.replay_calls.specs.Laws.Requests.{served-steps}
+use Rattle.replay.specs.Replays.{callsLent, MadeFrom, Replayed}
+use Rattle.replay.specs.Laws.Theorem.{replay-requested, replay-index}
 
 -- the result of a replay
 pub record ReplayLeft : Type 0 where

@@ -26,16 +26,12 @@ use Rattle.history.specs.Claim.{Claimed}
 use Rattle.history.specs.Laws.Calls.{steps-represents}
 use Rattle.history.specs.Laws.Further.{history-whole}
 use Rattle.history.specs.Laws.Theorem.{term-three}
-use Rattle.replay_calls.specs.Requests.{Request, isRefresh, lentAll}
+use Rattle.replay_calls.specs.Requests.{Request, isRefresh, requested, lentAll}
 use Rattle.replay_calls.specs.inner.Making.{Made}
-use Rattle.replay_calls.specs.Laws.Requests.{requested, served-steps, index-unused, index-past, calls-requested, calls-plain, index-sound}
-use Rattle.replay.specs.Replays.{MadeFrom, Replayed}
+use Rattle.replay_calls.specs.Laws.Requests.{served-steps, index-unused, index-past, calls-requested, calls-plain, index-sound}
+use Rattle.replay.specs.Replays.{callsLent, MadeFrom, Replayed}
 
 -- ---- the claim
-
--- calls that are lent the whole stores
-abbrev pub callsLent : List Call → Body → List ℕ → CompactionWords → List LentCall
-callsLent calls b pending w = lentAll (lengths (b .rows) (b .keys) (b .sorts) pending (w .live) (w .base)) calls
 
 module _ {o : Opening} {generation : ℕ} {requests : List Request} {b : Body} {pending : List ℕ} {w : CompactionWords} {index : List ℕ} {s : Stores} {index′ : List ℕ}
     (m : MadeFrom o generation requests b pending w index s index′) where

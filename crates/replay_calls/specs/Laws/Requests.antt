@@ -31,7 +31,7 @@ use Rattle.history.specs.Refreshes.{ownRefresh, OwnIndex, adopted, other-call, 
 use Rattle.history.specs.Laws.Calls.{step-represents}
 use Rattle.history.specs.Laws.Refreshes.{own-indexes-sound}
 use Rattle.history.specs.Laws.Further.{behind-nothing, whole-step}
-use Rattle.replay_calls.specs.Requests.{Request, make, refresh, isRefresh, IndexPast, lentTo, lentAll, Served, made, refreshed, refreshed-unsound, ServedAll, end, next}
+use Rattle.replay_calls.specs.Requests.{Request, make, refresh, isRefresh, requested, IndexPast, lentTo, lentAll, Served, made, refreshed, refreshed-unsound, ServedAll, end, next}
 
 -- ---- steps of a history
 
@@ -97,11 +97,6 @@ index-past {l} {p} r (next {c = c} one more) =
     (rw opening at (index-past (step-represents r (whole-step (served-called one))) more)) ∙ served-past r one
 
 -- ---- with a new index store
-
--- the call that a request corresponds to with a sound index store of this length
-unfoldable pub requested : ℕ → Request → Call
-requested index (make c) = c
-requested index (refresh r) = refreshing r index
 
 both : {c d : Call} {cs ds : List Call} → c ≡ d → cs ≡ ds → c ∷ cs ≡ d ∷ ds
 both e f = λ i. e i ∷ f i
