@@ -5,9 +5,6 @@ use Rattle.bitmap.proofs.Marking.{marked-new, marked-already}
 use Rattle.bitmap.proofs.mark.Statement.{statement}
 use Rattle.bitmap.proofs.mark.Tie as tie
 
-slice-write-words-2 : tie.Need-slice-write-words-2
-slice-write-words-2 c = simp length-set (search needs)
-
 returns : tie.Need-returns
 returns c = let s = c .before .before .before .pre in marked-new _ _ (s .0) (s .1) (c .before .before .slice-known .given _ .fits) (c .if1 .taken)
 
@@ -20,4 +17,4 @@ mark-spec =
     (tie.spec
     (λ c. search needs) (λ c. search needs) (λ c. search needs) (λ c. search needs) (λ c. search needs) (λ c. search needs)
     (λ c. search needs) (λ c. search needs) (λ c. search needs) (λ c. search needs) (λ c. search needs) (λ c. search needs)
-    (λ c. search needs) slice-write-words-2 (λ c. search needs) returns (λ c. search needs) returns-2)
+    (λ c. search needs) (λ c. simp length-set (search needs)) (λ c. search needs) returns (λ c. search needs) returns-2)

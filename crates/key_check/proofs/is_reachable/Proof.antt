@@ -7,15 +7,6 @@ use Rattle.key_check.proofs.CheckSteps.{reachable-zero, reachable-past,
 use Rattle.key_check.proofs.is_reachable.Statement.{statement}
 use Rattle.key_check.proofs.is_reachable.Tie as tie
 
-returns : tie.Need-returns
-returns c = reachable-zero _ _ _ _ _ (c .if1 .taken)
-
-returns-2 : tie.Need-returns-2
-returns-2 c = reachable-past _ _ _ _ _ (c .if2 .taken)
-
-returns-3 : tie.Need-returns-3
-returns-3 c = reachable-dead _ _ _ _ _ (sym (c .before .row-live .ensures) ∙ not-true _ (c .if3 .taken))
-
 returns-4 : tie.Need-returns-4
 returns-4 c = reachable-bits _ _ _ _ _ _ (c .before .before .row-hash .ensures) (λ e. c .if4 .taken (e ∙ sym (c .before .slot-word .ensures)))
 
@@ -30,6 +21,6 @@ pub is-reachable-spec : {M : Type 1} → statement M
 is-reachable-spec =
     tie.close
     (tie.spec
-    returns returns-2 (λ c. search needs) (λ c κs. search needs) returns-3 (λ c κs. search needs)
+    (λ c. reachable-zero _ _ _ _ _ (c .if1 .taken)) (λ c. reachable-past _ _ _ _ _ (c .if2 .taken)) (λ c. search needs) (λ c κs. search needs) (λ c. reachable-dead _ _ _ _ _ (sym (c .before .row-live .ensures) ∙ not-true _ (c .if3 .taken))) (λ c κs. search needs)
     (λ c κs. search needs) returns-4 (λ c. search needs) (λ c κs. search needs) (λ c. search needs) (λ c. search needs)
     (λ c. search needs) returns-5)

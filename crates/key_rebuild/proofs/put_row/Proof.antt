@@ -11,15 +11,6 @@ use Rattle.key_rebuild.proofs.put_row.Tie as tie
 lies : (s : tie.Start) → Inside (s .args .rows .now) (s .args .t .columns) (s .args .row)
 lies s = row-inside _ _ _ (rows-in _ _ _ (s .pre .0)) (s .pre .1)
 
-mul-at : tie.Need-mul-at
-mul-at c = omega (arith, lies (c .before .before .before))
-
-cast-at : tie.Need-cast-at
-cast-at c = omega (arith, lies (c .before .before .before))
-
-is-dead-requires : tie.Need-is-dead-requires
-is-dead-requires c κs = omega (arith, lies (c .before .before .before), c .before .before .before .pre .0 .some-columns)
-
 returns : tie.Need-returns
 returns c =
     let s = c .before .before .before .before .before in
@@ -37,4 +28,4 @@ pub put-row-spec : {M : Type 1} → statement M
 put-row-spec =
     tie.close
     (tie.spec
-    mul-at cast-at is-dead-requires returns row-hash-requires (λ c κs. search needs) (λ c. search needs) returns-2)
+    (λ c. omega (arith, lies (c .before .before .before))) (λ c. omega (arith, lies (c .before .before .before))) (λ c κs. omega (arith, lies (c .before .before .before), c .before .before .before .pre .0 .some-columns)) returns row-hash-requires (λ c κs. search needs) (λ c. search needs) returns-2)

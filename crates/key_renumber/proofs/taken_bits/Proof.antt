@@ -8,15 +8,6 @@ use Rattle.key_renumber.proofs.RenumberSteps.{word-halves}
 use Rattle.key_renumber.proofs.taken_bits.Statement.{statement}
 use Rattle.key_renumber.proofs.taken_bits.Tie as tie
 
-half-bits-requires : tie.Need-half-bits-requires
-half-bits-requires c κs = omega (arith, c .before .before .pre .inside, c .if1 .left)
-
-add-half-bits : tie.Need-add-half-bits
-add-half-bits c = let p = c .before .before .before .pre in omega (arith, p .inside, c .before .if1 .left)
-
-half-bits-requires-2 : tie.Need-half-bits-requires-2
-half-bits-requires-2 c κs = let p = c .before .before .before .pre in omega (arith, p .inside, c .before .if1 .left)
-
 returns-2 : tie.Need-returns-2
 returns-2 c =
     let s = c .before .before .before .before in
@@ -27,5 +18,5 @@ pub taken-bits-spec : {M : Type 1} → statement M
 taken-bits-spec =
     tie.close
     (tie.spec
-    (λ c. search needs) (λ c κs. search needs) (λ c. search needs) half-bits-requires (λ c. omega arith) (λ c. omega arith)
-    add-half-bits half-bits-requires-2 (λ c. omega arith) (λ c. omega arith) (λ c. omega arith) returns-2)
+    (λ c. search needs) (λ c κs. search needs) (λ c. search needs) (λ c κs. omega (arith, c .before .before .pre .inside, c .if1 .left)) (λ c. omega arith) (λ c. omega arith)
+    (λ c. let p = c .before .before .before .pre in omega (arith, p .inside, c .before .if1 .left)) (λ c κs. let p = c .before .before .before .pre in omega (arith, p .inside, c .before .if1 .left)) (λ c. omega arith) (λ c. omega arith) (λ c. omega arith) returns-2)

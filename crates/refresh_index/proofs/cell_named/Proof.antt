@@ -14,9 +14,6 @@ use Rattle.refresh_index.proofs.cell_named.Tie as tie
 lies : (s : tie.Start) → let a = s .args in Inside (a .rows .now) (a .h .columns) (a .row) × (getD (a .columns .now) (a .place) 0 < a .h .columns)
 lies s = cell-in (s .pre .0) _ _ (s .pre .1) (s .pre .2)
 
-add-at : tie.Need-add-at
-add-at c = omega (arith, lies (c .before .before))
-
 returns : tie.Need-returns
 unfolding cellNamed
 returns c = sym (getD-rowAt _ _ _ _ 0 (lies (c .before .before .before) .1))
@@ -25,6 +22,6 @@ pub cell-named-spec : {M : Type 1} → statement M
 cell-named-spec =
     tie.close
     (tie.spec
-    (λ c. omega (arith, lies (c .before))) (λ c. search needs) (λ c. search needs) add-at
+    (λ c. omega (arith, lies (c .before))) (λ c. search needs) (λ c. search needs) (λ c. omega (arith, lies (c .before .before)))
     (λ c. omega (arith, lies (c .before .before))) (λ c. omega (arith, lies (c .before .before)))
     (λ c. omega (arith, lies (c .before .before .before))) returns)

@@ -5,9 +5,6 @@ use Rattle.refresh_index.specs.inner.Entries.{pushed}
 use Rattle.refresh_index.proofs.push_entry.Statement.{statement}
 use Rattle.refresh_index.proofs.push_entry.Tie as tie
 
-slice-write-index-2 : tie.Need-slice-write-index-2
-slice-write-index-2 c = simp length-set (search needs)
-
 returns : tie.Need-returns
 unfolding pushed
 returns c = rw (c .before .bucket-of .ensures .0)
@@ -18,4 +15,4 @@ push-entry-spec =
     (tie.spec
     (λ c κs. search needs) (λ c. search needs) (λ c. search needs) (λ c. search needs) (λ c. search needs)
     (λ c. search needs) (λ c. search needs) (λ c. search needs) (λ c. search needs)
-    slice-write-index-2 (λ c. search needs) returns)
+    (λ c. simp length-set (search needs)) (λ c. search needs) returns)

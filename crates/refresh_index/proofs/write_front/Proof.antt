@@ -9,9 +9,6 @@ use Rattle.refresh_index.specs.inner.Entries.{fronted}
 use Rattle.refresh_index.proofs.write_front.Statement.{statement}
 use Rattle.refresh_index.proofs.write_front.Tie as tie
 
-same-length : tie.Need-same-length
-same-length c = simp length-set (c .before .index2 .given ∙ c .before .before .before .before .before .index .given)
-
 returns : tie.Need-returns
 unfolding fronted
 returns c =
@@ -23,4 +20,4 @@ write-front-spec =
     tie.close
     (tie.spec
     (λ c. search needs) (λ c. search needs) (λ c κs. search needs) (λ c κs. search needs) (λ c. search needs)
-    same-length returns)
+    (λ c. simp length-set (c .before .index2 .given ∙ c .before .before .before .before .before .index .given)) returns)

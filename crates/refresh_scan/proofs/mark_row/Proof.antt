@@ -10,25 +10,10 @@ use Rattle.refresh_scan.proofs.mark_row.Tie as tie
 lies : (s : tie.Start) → RowInStore (s .args .h) (s .args .rows .now) (s .args .row)
 lies s = row-in-store (s .pre .0) (s .pre .1)
 
-mul-at : tie.Need-mul-at
-mul-at c = omega (arith, lies (c .before .before .before .before .before .before))
-
-is-dead-requires : tie.Need-is-dead-requires
-is-dead-requires c κs = omega (arith, lies (c .before .before .before .before .before .before))
-
 returns : tie.Need-returns
 returns c =
     let s = c .before .before .before .before .before .before .before .before in
     row-passed _ _ _ _ _ (dead-mentions _ _ _ _ _ (lies s) (s .pre .1) _ (c .before .is-dead .ensures) (c .if1 .taken))
-
-add-end : tie.Need-add-end
-add-end c = omega (arith, lies (c .before .before .before .before .before .before .before .before))
-
-mul-mentions-one : tie.Need-mul-mentions-one
-mul-mentions-one c = omega (arith, lies (c .before .before .before .before .before .before .before .before))
-
-part-mentions-one-end : tie.Need-part-mentions-one-end
-part-mentions-one-end c = omega (arith, lies (c .before .before .before .before .before .before .before .before))
 
 mentions-one-requires : tie.Need-mentions-one-requires
 mentions-one-requires c κs =
@@ -60,14 +45,14 @@ mark-row-spec =
     tie.close
     (tie.spec
     (λ c. search needs)
-    mul-at
-    is-dead-requires
+    (λ c. omega (arith, lies (c .before .before .before .before .before .before)))
+    (λ c κs. omega (arith, lies (c .before .before .before .before .before .before)))
     returns
-    add-end
-    mul-mentions-one
+    (λ c. omega (arith, lies (c .before .before .before .before .before .before .before .before)))
+    (λ c. omega (arith, lies (c .before .before .before .before .before .before .before .before)))
     (λ c. search needs)
     (λ c. search needs)
-    part-mentions-one-end
+    (λ c. omega (arith, lies (c .before .before .before .before .before .before .before .before)))
     mentions-one-requires
     returns-2
     mark-requires

@@ -11,29 +11,14 @@ use Rattle.table_check.proofs.finds_itself.Tie as tie
 lies : (s : tie.Start) → Inside (s .args .rows .now) (s .args .t .columns) (s .args .row)
 lies s = row-inside _ _ _ (rows-in _ _ _ (s .pre .0)) (s .pre .1)
 
-mul-from : tie.Need-mul-from
-mul-from c = omega (arith, lies (c .before .before .before))
-
-cast-from : tie.Need-cast-from
-cast-from c = omega (arith, lies (c .before .before .before))
-
-is-dead-requires : tie.Need-is-dead-requires
-is-dead-requires c κs = omega (arith, lies (c .before .before .before), c .before .before .before .pre .0 .some-columns)
-
 returns : tie.Need-returns
 returns c = let s = c .before .before .before .before .before in itself-dead _ _ _ _ (s .pre .0) (s .pre .1) (sym (c .before .is-dead .ensures) ∙ c .if1 .taken)
 
 add-to : tie.Need-add-to
 add-to c = omega (arith, lies (c .before .before .before .before .before .before), c .before .before .before .before .before .before .pre .0 .most-keys)
 
-mul-compact-hash : tie.Need-mul-compact-hash
-mul-compact-hash c = omega (arith, lies (c .before .before .before .before .before .before))
-
 part-compact-hash-end : tie.Need-part-compact-hash-end
 part-compact-hash-end c = omega (arith, lies (c .before .before .before .before .before .before), c .before .before .before .before .before .before .pre .0 .most-keys)
-
-mul-find : tie.Need-mul-find
-mul-find c = omega (arith, lies (c .before .before .before .before .before .before .before .before))
 
 part-find-end : tie.Need-part-find-end
 part-find-end c = omega (arith, lies (c .before .before .before .before .before .before .before .before), c .before .before .before .before .before .before .before .before .pre .0 .most-keys)
@@ -54,6 +39,6 @@ pub finds-itself-spec : {M : Type 1} → statement M
 finds-itself-spec =
     tie.close
     (tie.spec
-    mul-from cast-from is-dead-requires returns (λ c. search needs) add-to mul-compact-hash (λ c. search needs)
-    (λ c. search needs) part-compact-hash-end (λ c κs. search needs) mul-find (λ c. search needs) (λ c. search needs)
+    (λ c. omega (arith, lies (c .before .before .before))) (λ c. omega (arith, lies (c .before .before .before))) (λ c κs. omega (arith, lies (c .before .before .before), c .before .before .before .pre .0 .some-columns)) returns (λ c. search needs) add-to (λ c. omega (arith, lies (c .before .before .before .before .before .before))) (λ c. search needs)
+    (λ c. search needs) part-compact-hash-end (λ c κs. search needs) (λ c. omega (arith, lies (c .before .before .before .before .before .before .before .before))) (λ c. search needs) (λ c. search needs)
     part-find-end (λ c κs. search needs) (λ c. search needs) (λ c. search needs) returns-2 returns-3)

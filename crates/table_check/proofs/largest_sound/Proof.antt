@@ -4,9 +4,6 @@ use Rattle.table_check.proofs.CheckingSteps.{largest-empty, largest-mis
 use Rattle.table_check.proofs.largest_sound.Statement.{statement}
 use Rattle.table_check.proofs.largest_sound.Tie as tie
 
-returns : tie.Need-returns
-returns c = let a = c .before .before .args in largest-empty (a .h) (a .sorts .now) (c .if1 .taken)
-
 returns-2 : tie.Need-returns-2
 returns-2 c =
     let a = c .before .before .before .before .args in
@@ -21,5 +18,5 @@ pub largest-sound-spec : {M : Type 1} → statement M
 largest-sound-spec =
     tie.close
     (tie.spec
-    returns (λ c. search needs) (λ c. search needs) (λ c. search needs) (λ c. search needs) (λ c. search needs)
+    (λ c. let a = c .before .before .args in largest-empty (a .h) (a .sorts .now) (c .if1 .taken)) (λ c. search needs) (λ c. search needs) (λ c. search needs) (λ c. search needs) (λ c. search needs)
     (λ c. search needs) (λ c. search needs) returns-2 returns-3)

@@ -7,12 +7,6 @@ use Rattle.table_check.proofs.CheckingSteps.{KeyInside, key-inside, rea
 use Rattle.table_check.proofs.record_words.Statement.{statement}
 use Rattle.table_check.proofs.record_words.Tie as tie
 
-returns : tie.Need-returns
-returns c = read-no-kind _ _ _ _ _ (c .before .kind-words .ensures) (c .if1 .taken)
-
-returns-2 : tie.Need-returns-2
-returns-2 c = read-short _ _ _ _ _ (c .before .before .before .kind-words .ensures) (c .if2 .taken)
-
 -- the hash and the key are within the record
 key-in : (c : tie.After-shared-slice-known3) → KeyInside (openingOf (c .before .before .before .before .before .before .before .before .before .args .h)) (getD (c .before .before .before .before .before .before .before .before .before .args .pending .now) (c .before .before .before .before .before .before .before .before .before .args .at) 0) (c .before .before .before .before .before .before .kind-words .result)
 key-in c = key-inside _ _ (c .before .before .before .before .before .before .kind-words .ensures) (c .before .before .before .before .before .if1 .left) (c .before .before .before .before .before .before .before .before .before .pre .0 .most-keys)
@@ -38,7 +32,7 @@ pub record-words-spec : {M : Type 1} → statement M
 record-words-spec =
     tie.close
     (tie.spec
-    (λ c. search needs) (λ c. search needs) (λ c κs. search needs) returns (λ c. search needs) returns-2
+    (λ c. search needs) (λ c. search needs) (λ c κs. search needs) (λ c. read-no-kind _ _ _ _ _ (c .before .kind-words .ensures) (c .if1 .taken)) (λ c. search needs) (λ c. read-short _ _ _ _ _ (c .before .before .before .kind-words .ensures) (c .if2 .taken))
     (λ c κs. search needs) (λ c. search needs) (λ c. search needs) (λ c. search needs) (λ c. search needs)
     (λ c. search needs) (λ c. search needs) shared-slice-read-if3 (λ c. search needs) (λ c. search needs)
     (λ c. search needs) part-compact-hash-end (λ c κs. search needs) returns-3 returns-4)

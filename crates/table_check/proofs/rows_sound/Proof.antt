@@ -6,12 +6,6 @@ use Rattle.table_check.proofs.CheckingSteps.{rows-miscounted, rows-unso
 use Rattle.table_check.proofs.rows_sound.Statement.{statement}
 use Rattle.table_check.proofs.rows_sound.Tie as tie
 
-returns : tie.Need-returns
-returns c = rows-miscounted _ _ _ (λ e. c .if1 .taken (e ∙ sym (c .before .before .dead-rows .ensures)))
-
-returns-2 : tie.Need-returns-2
-returns-2 c = rows-unsorted _ _ _ (sym (not-true _ (c .if2 .taken)) ∙ c .before .entries-sound .ensures)
-
 returns-3 : tie.Need-returns-3
 returns-3 c = rows-exceeding _ _ _ (sym (not-false _ (c .before .before .if2 .left)) ∙ c .before .before .before .entries-sound .ensures) (sym (not-true _ (c .if3 .taken)) ∙ c .before .largest-sound .ensures)
 
@@ -25,5 +19,5 @@ pub rows-sound-spec : {M : Type 1} → statement M
 rows-sound-spec =
     tie.close
     (tie.spec
-    (λ c κs. search needs) returns (λ c κs. search needs) returns-2 (λ c κs. search needs) returns-3
+    (λ c κs. search needs) (λ c. rows-miscounted _ _ _ (λ e. c .if1 .taken (e ∙ sym (c .before .before .dead-rows .ensures)))) (λ c κs. search needs) (λ c. rows-unsorted _ _ _ (sym (not-true _ (c .if2 .taken)) ∙ c .before .entries-sound .ensures)) (λ c κs. search needs) returns-3
     (λ c κs. search needs) returns-4)

@@ -11,9 +11,6 @@ rows-sound-requires c κs =
     let s = c .before .before .before .before in
     (sound-cells (s .args .h) (s .args .rows .now) (s .args .keys .now) (s .args .sorts .now) (s .args .pending .now) (s .pre), sound-held (s .args .h) (s .args .rows .now) (s .args .keys .now) (s .args .sorts .now) (s .args .pending .now) (s .pre))
 
-returns : tie.Need-returns
-returns c = stores-rows _ _ _ _ _ (c .before .rows-sound .ensures .no (not-true _ (c .if1 .taken)))
-
 key-store-sound-requires : tie.Need-key-store-sound-requires
 key-store-sound-requires c κs =
     let s = c .before .before .before .before .before .before .before in
@@ -36,4 +33,4 @@ pub stores-sound-spec : {M : Type 1} → statement M
 stores-sound-spec =
     tie.close
     (tie.spec
-    rows-sound-requires returns (λ c κs. search needs) key-store-sound-requires returns-2 pending-whole-requires returns-3)
+    rows-sound-requires (λ c. stores-rows _ _ _ _ _ (c .before .rows-sound .ensures .no (not-true _ (c .if1 .taken)))) (λ c κs. search needs) key-store-sound-requires returns-2 pending-whole-requires returns-3)

@@ -5,9 +5,6 @@ use Rattle.table_compact.proofs.CompactionSteps.{compact-next, compact-
 use Rattle.table_compact.proofs.compact.Statement.{statement}
 use Rattle.table_compact.proofs.compact.Tie as tie
 
-returns : tie.Need-returns
-returns c = compact-refused _ _ _ _ _ _ _ (c .before .compact-refusal .ensures) (c .if1 .taken)
-
 next-generation-requires : tie.Need-next-generation-requires
 next-generation-requires c κs = compact-next _ _ _ (c .before .before .before .compact-refusal .ensures) (c .before .before .if1 .left) (omega arith)
 
@@ -28,5 +25,5 @@ pub compact-spec : {M : Type 1} → statement M
 compact-spec =
     tie.close
     (tie.spec
-    (λ c κs. search needs) returns next-generation-requires returns-2 compact-rows-requires (λ c. search needs) (λ c. search needs) (λ c. search needs)
+    (λ c κs. search needs) (λ c. compact-refused _ _ _ _ _ _ _ (c .before .compact-refusal .ensures) (c .if1 .taken)) next-generation-requires returns-2 compact-rows-requires (λ c. search needs) (λ c. search needs) (λ c. search needs)
     (λ c. search needs) (λ c. search needs) returns-3)

@@ -6,9 +6,6 @@ use Rattle.table_compact.proofs.CompactionSteps.{closable, can-lead, co
 use Rattle.table_compact.proofs.compact_rows.Statement.{statement}
 use Rattle.table_compact.proofs.compact_rows.Tie as tie
 
-close-up-requires : tie.Need-close-up-requires
-close-up-requires c κs = closable (c .before .before .before .before .before .before .before .before .before .pre .0)
-
 add-n : tie.Need-add-n
 add-n c = omega (arith, c .before .before .before .before .before .before .before .before .before .before .before .before .before .before .before .before .before .before .before .pre .1)
 
@@ -22,5 +19,5 @@ pub compact-rows-spec : {M : Type 1} → statement M
 compact-rows-spec =
     tie.close
     (tie.spec
-    close-up-requires add-n update-keys-requires (λ c. search needs) (λ c. search needs) (λ c. search needs)
+    (λ c κs. closable (c .before .before .before .before .before .before .before .before .before .pre .0)) add-n update-keys-requires (λ c. search needs) (λ c. search needs) (λ c. search needs)
     (λ c. search needs) (λ c. search needs) returns)

@@ -11,12 +11,6 @@ mul-to c = omega (arith, from-place (c .before .before .before .before .pre), to
 cast-to : tie.Need-cast-to
 cast-to c = omega (arith, from-place (c .before .before .before .before .pre), to-place (c .before .before .before .before .pre))
 
-mul-from : tie.Need-mul-from
-mul-from c = omega (arith, from-place (c .before .before .before .before .before .pre))
-
-cast-from : tie.Need-cast-from
-cast-from c = omega (arith, from-place (c .before .before .before .before .before .pre))
-
 move-down-requires : tie.Need-move-down-requires
 move-down-requires c κs = (to-place (c .before .before .before .before .before .before .before .pre), from-place (c .before .before .before .before .before .before .before .pre) .in-store)
 
@@ -36,5 +30,5 @@ pub keep-row-spec : {M : Type 1} → statement M
 keep-row-spec =
     tie.close
     (tie.spec
-    mul-to cast-to mul-from cast-from (λ c. search needs) move-down-requires (λ c. search needs) add-cell
+    mul-to cast-to (λ c. omega (arith, from-place (c .before .before .before .before .before .pre))) (λ c. omega (arith, from-place (c .before .before .before .before .before .pre))) (λ c. search needs) move-down-requires (λ c. search needs) add-cell
     mul-append-entry slice-read-append-entry (λ c κs. search needs) (λ c. search needs) (λ c. search needs) returns)
