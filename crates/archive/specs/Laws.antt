@@ -1,4 +1,5 @@
 -- What follows from the definitions.
+mod Prelude
 pub mod Contents
 pub mod Resized
 pub mod Saved

@@ -1,2 +1,3 @@
+mod Prelude
 pub mod MarkSteps
 pub mod Marking

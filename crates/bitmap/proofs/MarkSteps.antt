@@ -1,16 +1,6 @@
 -- The loop iterations of `different_bits`. Assumes nothing.
-use Prim.Native.Nat.{ℕ, _+_, _*_, _^_, _≤_, _<_}
-use mathlib.Core.Path.{_≡_, refl, sym, ap, _∙_}
-use mathlib.Core.Bool.{true, false, not}
-use mathlib.Core.List.{List}
-use native.Mathlib.Nat.{zero-mul, suc-mul}
-use native.Mathlib.Numerals.{add-one}
-use native.Mathlib.Omega.{arith}
-use lib.ListN.{length, getD}
-use borrow.Author.Tests.{eq-eqb, ne-eqb}
-use Rattle.lists.specs.Laws.Rows.{row-in}
+use Rattle.bitmap.proofs.Prelude.{ℕ, _+_, _*_, _^_, _≤_, _<_, _≡_, refl, sym, ap, _∙_, true, false, not, List, zero-mul, suc-mul, add-one, arith, length, getD, eq-eqb, ne-eqb, row-in, bitmapWord-yes, bitmapWord-no, bitmapWord-lt}
 use Rattle.row_buffer.specs.Ranks.{bitmapWord}
-use Rattle.row_buffer.specs.Laws.Rows.{bitmapWord-yes, bitmapWord-no, bitmapWord-lt}
 use Rattle.bitmap.specs.inner.Marking.{Spaced, otherAt}
 
 module _ (cells : List ℕ) (from stride count than : ℕ) where

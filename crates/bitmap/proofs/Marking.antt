@@ -1,26 +1,7 @@
 -- The bit of a row in its word, and the bitmap with it. Assumes nothing.
-use Prim.Native.Nat.{ℕ, suc, _+_, _-_, _*_, _/_, _%_, _^_, _<_}
-use mathlib.Core.Path.{_≡_, refl, sym, ap, _∙_}
-use mathlib.Core.Logic.{inl, inr}
-use mathlib.Core.Bool.{Bool, false, cond, _||_}
-use mathlib.Core.List.{List}
-use native.Mathlib.Nat.{one-mul, zero-mul, pow-suc}
-use native.Mathlib.Decide.{ℕ-discrete, decLt}
-use native.Mathlib.Numerals.{one-add}
-use native.Mathlib.Omega.{arith}
-use lib.Bits.{bitAnd, bitOr, and-high, or-add-and}
-use lib.Dec.{eqb}
-use lib.ListN.{length, getD, set, length-set}
-use lib.Pow.{pow-pos, shl-exact}
-use lib.Seq.{getD-set-same, getD-set-other}
-use borrow.Author.Tests.{eq-eqb, ne-eqb, eqb-true, eqb-false}
-use Rattle.lists.specs.Laws.All.{or-no-left, or-no-right}
-use Rattle.lists.specs.Laws.Filter.{split}
-use Rattle.bitmap.specs.Laws.Lowest.{bitmapWord-same}
+use Rattle.bitmap.proofs.Prelude.{ℕ, suc, _+_, _-_, _*_, _/_, _%_, _^_, _<_, _≡_, refl, sym, ap, _∙_, inl, inr, Bool, false, cond, _||_, List, one-mul, zero-mul, pow-suc, ℕ-discrete, decLt, one-add, arith, bitAnd, bitOr, and-high, or-add-and, eqb, length, getD, set, length-set, pow-pos, shl-exact, getD-set-same, getD-set-other, eq-eqb, ne-eqb, eqb-true, eqb-false, or-no-left, or-no-right, split, bitmapWord-same, below-bitmapWord, bitmapWord-with, word-bits}
 use Rattle.row_buffer.specs.Ranks.{setBelow, bitmapWord, countTo}
-use Rattle.row_buffer.specs.Laws.Rows.{below-bitmapWord}
 use Rattle.bitmap.specs.inner.Bitmaps.{Bitmap, bitOf, Summarised, MarkedOne}
-use Rattle.bitmap.specs.Laws.Bitmaps.{bitmapWord-with, word-bits}
 
 module _ (f : ℕ → Bool) (k n : ℕ) (h : k < n) where
   digit-of : bitmapWord f n / 2 ^ k % 2 ≡ cond (f k) 1 0

@@ -1,4 +1,5 @@
 -- What follows from the definitions.
+mod Prelude
 pub mod Calls
 pub mod Further
 pub mod Determined

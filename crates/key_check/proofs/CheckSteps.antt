@@ -1,27 +1,13 @@
 -- The steps of check.rt, by the laws of specs/Check.antt. Assumes nothing.
-use Prim.Native.Nat.{ℕ, _+_, _-_, _*_, _%_, _^_, _≤_, _<_}
-use mathlib.Core.Path.{_≡_, refl, sym, ap, _∙_}
-use mathlib.Core.Bool.{true, false, false≢true}
-use mathlib.Core.List.{List}
-use native.Mathlib.Decide.{decLt}
-use native.Mathlib.Omega.{arith}
-use lib.Dec.{ltb, eqb}
-use lib.ListN.{take, drop, getD}
-use borrow.Author.Tests.{lt-ltb, le-ltb, ltb-true, ltb-false, eqb-true, eqb-false}
+use Rattle.key_check.proofs.Prelude.{ℕ, _+_, _-_, _*_, _%_, _^_, _≤_, _<_, _≡_, refl, sym, ap, _∙_, true, false, false≢true, List, decLt, arith, ltb, eqb, take, drop, getD, lt-ltb, le-ltb, ltb-true, ltb-false, eqb-true, eqb-false, part-width, isLive, IndexShape, home-spread, word-tagged, word-some, word-same, home-below, free-slot, tally-yes, tally-no, tally-le, matched, Joins, front-none, front-more, Run, run-none, run-more, near-line, far-line, live-is, is-live}
 use Rattle.lists.specs.Lists.{rowAt}
-use Rattle.lists.specs.Laws.Parts.{part-width}
 use Rattle.cells.specs.Cells.{compactHash, keyHash}
-use Rattle.constraints.specs.Constraints.{isLive}
-use Rattle.key_index.specs.declared.IndexShape.{IndexShape}
 use Rattle.key_index.specs.Slots.{keyAt, slots, word, home, slotFrom, KeysSound}
 use Rattle.key_index.specs.inner.Ring.{spread, tagged, rowNamed}
-use Rattle.key_index.specs.Laws.Ring.{home-spread, word-tagged, word-some, word-same, home-below}
 use Rattle.key_index.specs.Laws.Unrolled.{away, slot-zero, slot-below, slot-then, line, line-at}
 use Rattle.key_index.specs.inner.Index.{Fits, homeOf}
 use Rattle.key_index.specs.Laws.Lines.{small, Stored, lineHome, unroll}
-use Rattle.key_index.specs.Laws.Index.{free-slot}
 use Rattle.key_check.specs.inner.Check.{isLiveRow, tally, liveCount, FreeIs, named, Reachable, ReachableIs, RoundFits, Front, takenCount, SlotsSound, SlotsChecked}
-use Rattle.key_check.specs.Laws.Check.{tally-yes, tally-no, tally-le, matched, Joins, front-none, front-more, Run, run-none, run-more, near-line, far-line, live-is, is-live}
 
 -- ---- rows
 

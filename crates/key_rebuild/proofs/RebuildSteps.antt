@@ -1,21 +1,6 @@
 -- The steps of `put_row`, one law for each return path, and the loop iterations of `rebuild`. Assumes nothing.
-use Prim.Native.Nat.{ℕ, _+_, _*_, _≤_, _<_}
-use mathlib.Core.Path.{_≡_, refl, ap, sym, _∙_}
-use mathlib.Core.Bool.{Bool, true, false, not, false≢true}
-use mathlib.Core.List.{List}
-use native.Mathlib.Omega.{arith}
-use lib.ListN.{length, getD, drop}
-use Rattle.lists.specs.Lists.{rowAt}
+use Rattle.key_rebuild.proofs.Prelude.{ℕ, _+_, _*_, _≤_, _<_, _≡_, refl, ap, sym, _∙_, Bool, true, false, not, false≢true, List, arith, length, getD, drop, rowAt, isLive, live-first, IndexShape, keyAt, slots, KeysSound, Fits, PutIs, EmptyIs, keys-same, empty-sound, emptied, put-sound, fits-fewer, grown-rows, firstRows, RowPut, Rebuilt}
 use Rattle.cells.specs.Cells.{isDead, compactHash, keyHash}
-use Rattle.constraints.specs.Constraints.{isLive}
-use Rattle.constraints.specs.Laws.Rows.{live-first}
-use Rattle.key_index.specs.declared.IndexShape.{IndexShape}
-use Rattle.key_index.specs.Slots.{keyAt, slots, KeysSound}
-use Rattle.key_index.specs.inner.Index.{Fits, PutIs, EmptyIs}
-use Rattle.key_index.specs.Laws.Index.{keys-same, empty-sound, emptied, put-sound}
-use Rattle.key_index.specs.Laws.SizeClasses.{fits-fewer}
-use Rattle.key_index.specs.Laws.Rows.{grown-rows}
-use Rattle.key_rebuild.specs.inner.Rebuilding.{firstRows, RowPut, Rebuilt}
 
 module _ (t : IndexShape) (rows store : List ℕ) (row : ℕ) (f : Fits t rows store) (h : row < t .rows) where
   by-first : isLive (rowAt (t .columns) row rows) ≡ not (isDead (getD rows (row * t .columns) 0))

@@ -1,32 +1,11 @@
 -- The steps of `renumber`: the new value of a word, the bitmap word of a block, and the loop iterations over the slots. Assumes
 -- nothing.
-use Prim.Native.Nat.{ℕ, zero, suc, _+_, _-_, _*_, _/_, _%_, _^_, _≤_, _<_, min}
-use mathlib.Core.Path.{_≡_, refl, sym, ap, _∙_}
-use mathlib.Core.Logic.{inl, inr}
-use mathlib.Core.Bool.{Bool, true, false, not}
-use mathlib.Core.List.{List}
-use native.Mathlib.Nat.{add-zero, add-mul, mul-comm, one-mul}
-use native.Mathlib.Omega.{arith}
-use lib.Bits.{bitAnd}
-use lib.Count.{trailingZeros}
-use lib.Dec.{eqb}
-use lib.ListN.{length, getD, set, length-set}
-use lib.Pow.{pow-add, pow-mono, shl-exact}
-use lib.Seq.{set-getD}
-use borrow.Author.Tests.{le-leb, lt-leb, eqb-true, eq-eqb, ne-eqb, not-false}
+use Rattle.key_renumber.proofs.Prelude.{ℕ, zero, suc, _+_, _-_, _*_, _/_, _%_, _^_, _≤_, _<_, min, _≡_, refl, sym, ap, _∙_, inl, inr, Bool, true, false, not, List, add-zero, add-mul, mul-comm, one-mul, arith, bitAnd, trailingZeros, eqb, length, getD, set, length-set, pow-add, pow-mono, shl-exact, set-getD, le-leb, lt-leb, eqb-true, eq-eqb, ne-eqb, not-false, length-mapFront, getD-mapFront-past, mapFront-step, split, bitmapWord-yes, bitmapWord-no, bitmapWord-lt, bitmapWord-same, onward, onward-all, Next, next-bit, no-more, IndexShape, slots, names-number, renumbered-free}
 use Rattle.lists.specs.inner.Searching.{mapFront}
-use Rattle.lists.specs.Laws.Front.{length-mapFront, getD-mapFront-past, mapFront-step}
-use Rattle.lists.specs.Laws.Filter.{split}
 use Rattle.row_buffer.specs.Ranks.{setBelow, bitmapWord}
-use Rattle.row_buffer.specs.Laws.Rows.{bitmapWord-yes, bitmapWord-no, bitmapWord-lt}
 use Rattle.bitmap.specs.inner.Marking.{otherAt}
-use Rattle.bitmap.specs.Laws.Lowest.{bitmapWord-same, onward, onward-all, Next, next-bit, no-more}
-use Rattle.key_index.specs.declared.IndexShape.{IndexShape}
-use Rattle.key_index.specs.Slots.{slots}
 use Rattle.key_index.specs.inner.Ring.{rowNamed, namesRow}
-use Rattle.key_index.specs.Laws.Ring.{names-number}
 use Rattle.key_renumber.specs.inner.Renumbering.{newRow, renumbered, Ranked, Block, BlockRenumbered}
-use Rattle.key_renumber.specs.Laws.Renumbering.{renumbered-free}
 
 module _ (t : IndexShape) (w : ℕ) (live base : List ℕ) where
   -- a word that names no row stays

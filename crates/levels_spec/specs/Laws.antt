@@ -1,4 +1,5 @@
 -- What follows from the definitions.
+mod Prelude
 pub mod Letters
 pub mod Truncated
 pub mod Results

@@ -1,40 +1,12 @@
 -- The rows that mention a value: how the passes that set their bits make one, and that the records of the rows in the bitmap
 -- are those of the rows found. Assumes nothing.
-use Prim.Native.Nat.{ℕ, suc, _+_, _*_, _/_, _%_, _≤_, _<_}
-use mathlib.Core.Path.{_≡_, refl, sym, ap, _∙_}
-use mathlib.Core.Logic.{inl, inr}
-use mathlib.Core.Bool.{Bool, true, false, not, _&&_, _||_, false≢true}
-use mathlib.Core.List.{List, [], _∷_, map}
-use native.Mathlib.Nat.{add-zero}
-use native.Mathlib.Decide.{decLt}
-use native.Mathlib.Omega.{arith}
-use lib.Dec.{leb, ltb, eqb}
-use lib.ListN.{length, take, drop, getD}
-use borrow.Author.Tests.{leb-true, ltb-true, eqb-true, le-leb, lt-ltb}
+use Rattle.refresh.proofs.Prelude.{ℕ, suc, _+_, _*_, _/_, _%_, _≤_, _<_, _≡_, refl, sym, ap, _∙_, inl, inr, Bool, true, false, not, _&&_, _||_, false≢true, List, [], _∷_, map, add-zero, decLt, arith, leb, ltb, eqb, length, take, drop, getD, leb-true, ltb-true, eqb-true, le-leb, lt-ltb, and-both, or-right, split, and-left, and-right, isLive, below-bitmapWord, Bitmap, Summarised, Marked, marked-then, marked-weaker, marked-few, count-none, noRow, Header, openingOf, outside, rowsIn, rowOfCells, length-rowsIn, getD-rowsIn, outside-inside, rowsSeen, IndexSound, Scannable, UpToDate, usable-index, RowsFound}
 use Rattle.lists.specs.Lists.{filter, same, rowAt, iota}
-use Rattle.lists.specs.Laws.All.{and-both, or-right}
-use Rattle.lists.specs.Laws.Filter.{split, and-left, and-right}
-use Rattle.constraints.specs.Constraints.{isLive}
 use Rattle.row_buffer.specs.Ranks.{setBelow, bitmapWord, countTo}
-use Rattle.row_buffer.specs.Laws.Rows.{below-bitmapWord}
-use Rattle.bitmap.specs.inner.Bitmaps.{Bitmap, Summarised, Marked}
-use Rattle.bitmap.specs.Laws.Bitmaps.{marked-then, marked-weaker, marked-few, count-none}
 use Rattle.plain_table.specs.Plain.{Row, Numbered, liveFrom, liveRows}
 use Rattle.plain_table.specs.Refreshing.{Refresh, mentions, mentioning, refreshed}
-use Rattle.plain_table.specs.Laws.Rows.{noRow}
-use Rattle.table.specs.declared.Header.{Header}
-use Rattle.table.specs.Numbers.{openingOf}
-use Rattle.table.specs.Refusing.{outside}
-use Rattle.table.specs.Stores.{rowsIn}
-use Rattle.table.specs.Laws.Live.{rowOfCells, length-rowsIn, getD-rowsIn}
-use Rattle.table.specs.Laws.Refusals.{outside-inside}
-use Rattle.refresh_spec.specs.Index.{rowsSeen, IndexSound}
 use Rattle.refresh_spec.specs.Refreshes.{recordsFound}
 use Rattle.refresh_spec.specs.inner.Finding.{mentionsAt, mentionsBelow, mentionsFrom, Lendable, usable, ListedMarked, CaughtUp}
-use Rattle.refresh_scan.specs.inner.Scanning.{Scannable}
-use Rattle.refresh_index.specs.inner.Entries.{UpToDate}
-use Rattle.refresh_index.specs.Laws.Using.{usable-index}
-use Rattle.refresh.specs.inner.Finding.{RowsFound}
 use Rattle.refresh.specs.inner.Staging.{numbered, markedRows}
 
 -- ---- one pass or two

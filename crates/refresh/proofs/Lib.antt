@@ -1,3 +1,4 @@
+mod Prelude
 pub mod TestSteps
 pub mod FindSteps
 pub mod WriteSteps

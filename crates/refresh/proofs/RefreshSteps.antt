@@ -1,44 +1,13 @@
 -- The results of a refresh: refused before the search for its rows, refused because the records do not fit, or done.
 -- Assumes nothing.
-use Prim.Native.Nat.{ℕ, zero, suc, _+_, _*_, _≤_, _<_}
-use mathlib.Core.Path.{_≡_, refl, sym, ap, _∙_}
-use mathlib.Core.Logic.{inl, inr}
-use mathlib.Core.Bool.{Bool, true, false}
-use mathlib.Core.List.{List, [], _∷_, map}
-use native.Mathlib.Nat.{mul-le-mul, mul-le-mul-right}
-use native.Mathlib.Omega.{arith}
-use lib.Dec.{ltb}
-use lib.ListN.{length, replicate}
-use borrow.Author.Tests.{ltb-false, lt-ltb, le-ltb}
-use Rattle.lists.specs.Lists.{splice, flatten}
-use Rattle.lists.specs.Laws.All.{or-right, or-no-left, or-no-right}
-use Rattle.lists.specs.Laws.Filter.{split}
+use Rattle.refresh.proofs.Prelude.{ℕ, zero, suc, _+_, _*_, _≤_, _<_, _≡_, refl, sym, ap, _∙_, inl, inr, Bool, true, false, List, [], _∷_, map, mul-le-mul, mul-le-mul-right, arith, ltb, length, replicate, ltb-false, lt-ltb, le-ltb, splice, flatten, or-right, or-no-left, or-no-right, split, reply-refused, reply-accepted, countTo, bitmap-none, summarised-none, countTo-le, Staged, wordsAll, Numbered, Refresh, refreshed, Header, openingOf, outside, recordWords, withPending, outside-inside, Refreshed, IndexSound, mentionsAt, Lendable, CaughtUp, UpToDate, earlyRefusal, RowsFound, usable-index}
 use Rattle.refusals.specs.Refusals.{check, firstRefusal, accepted}
-use Rattle.refusals.specs.Laws.Replies.{reply-refused, reply-accepted}
-use Rattle.row_buffer.specs.Ranks.{countTo}
-use Rattle.bitmap.specs.Laws.Bitmaps.{bitmap-none, summarised-none, countTo-le}
-use Rattle.plain_table.specs.Staged.{Staged, wordsAll}
-use Rattle.plain_table.specs.Plain.{Numbered}
 use Rattle.plain_table.specs.Refusing.{overfull}
-use Rattle.plain_table.specs.Refreshing.{Refresh, refreshed}
-use Rattle.table.specs.declared.Header.{Header}
-use Rattle.table.specs.Numbers.{openingOf}
-use Rattle.table.specs.Refusing.{outside}
-use Rattle.table.specs.Stores.{recordWords}
-use Rattle.table.specs.Contracts.{withPending}
-use Rattle.table.specs.Laws.Refusals.{outside-inside}
-use Rattle.refresh_spec.specs.declared.Refreshed.{Refreshed}
 use Rattle.refresh_spec.specs.declared.RefreshAnswer.the-variants.{Refused, Refreshed as RefreshDone}
-use Rattle.refresh_spec.specs.Index.{IndexSound}
 use Rattle.refresh_spec.specs.Refreshes.{refreshView, refreshRefusal, recordsFound, answered, Refreshing}
-use Rattle.refresh_spec.specs.inner.Finding.{mentionsAt, Lendable, CaughtUp}
-use Rattle.refresh_index.specs.inner.Entries.{UpToDate}
-use Rattle.refresh.specs.inner.Testing.{earlyRefusal}
-use Rattle.refresh.specs.inner.Finding.{RowsFound}
 use Rattle.refresh.specs.inner.Staging.{markedRows, rowsWords, rowWords, Stageable, RowsStaged}
 use Rattle.refresh.proofs.TestSteps.{refused-before-seven, Passed, only-seven, lendable}
 use Rattle.refresh.proofs.FindSteps.{FoundRows, found-rows, there-below, found, records-found}
-use Rattle.refresh_index.specs.Laws.Using.{usable-index}
 use Rattle.refresh.proofs.StageSteps.{length-marked, all-marked, words-of, length-refreshed}
 
 -- the words of the removals and of the inserts of so many rows fit a u32

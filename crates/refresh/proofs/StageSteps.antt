@@ -1,36 +1,9 @@
 -- The records of marked rows, row after row: how many words they take, and the turns of the loops that write them. Assumes nothing.
-use Prim.Native.Nat.{ℕ, zero, suc, _+_, _-_, _*_, _/_, _%_, _^_, _≤_, _<_}
-use mathlib.Core.Path.{_≡_, refl, sym, ap, ap₂, _∙_}
-use mathlib.Core.Logic.{inl, inr}
-use mathlib.Core.Bool.{Bool, true, false}
-use mathlib.Core.List.{List, [], _∷_, _++_, map, map-append, append-nil}
-use native.Mathlib.Nat.{zero-add, add-zero, mul-le-mul-right}
-use native.Mathlib.Decide.{decLt}
-use native.Mathlib.Numerals.{add-one}
-use native.Mathlib.Omega.{arith}
-use lib.Bits.{bitAnd}
-use lib.Count.{trailingZeros}
-use lib.ListN.{length, getD, length-append}
-use borrow.Author.Tests.{eq-eqb}
+use Rattle.refresh.proofs.Prelude.{ℕ, zero, suc, _+_, _-_, _*_, _/_, _%_, _^_, _≤_, _<_, _≡_, refl, sym, ap, ap₂, _∙_, inl, inr, Bool, true, false, List, [], _∷_, _++_, map, map-append, append-nil, zero-add, add-zero, mul-le-mul-right, decLt, add-one, arith, bitAnd, trailingZeros, length, getD, length-append, eq-eqb, all-snoc, split, filter-append, splice-nil, splice-then, length-splice, iota-snoc, flatten-append, bitOf, word-bits, bitmapWord-none, onward, onward-all, Next, next-bit, no-more, Numbered, Wide, refreshed-whole, Header, openingOf, recordWords, length-records, outside-inside}
 use Rattle.lists.specs.Lists.{splice, filter, all, flatten, iota}
-use Rattle.lists.specs.Laws.All.{all-snoc}
-use Rattle.lists.specs.Laws.Filter.{split, filter-append}
-use Rattle.lists.specs.Laws.Parts.{splice-nil, splice-then, length-splice}
-use Rattle.lists.specs.Laws.Rising.{iota-snoc}
-use Rattle.lists.specs.Laws.Rows.{flatten-append}
-use Rattle.bitmap.specs.inner.Bitmaps.{bitOf}
-use Rattle.bitmap.specs.Laws.Bitmaps.{word-bits}
-use Rattle.bitmap.specs.Laws.Lowest.{bitmapWord-none, onward, onward-all, Next, next-bit, no-more}
 use Rattle.row_buffer.specs.Ranks.{bitmapWord, countTo}
 use Rattle.plain_table.specs.Staged.{Staged, wordsOf, wordsAll}
-use Rattle.plain_table.specs.Plain.{Numbered}
 use Rattle.plain_table.specs.Refreshing.{restamping, refreshed}
-use Rattle.plain_table.specs.Laws.Refreshing.{Wide, refreshed-whole}
-use Rattle.table.specs.declared.Header.{Header}
-use Rattle.table.specs.Numbers.{openingOf}
-use Rattle.table.specs.Stores.{recordWords}
-use Rattle.table.specs.Laws.Pending.{length-records}
-use Rattle.table.specs.Laws.Refusals.{outside-inside}
 use Rattle.refresh.specs.inner.Staging.{RowInStore, numbered, markedRows, rowsWords, rowWords, RecordsFit, Written, Block, BlockWritten, Group, GroupWritten, Stageable}
 use Rattle.refresh.proofs.WriteSteps.{here-wide}
 

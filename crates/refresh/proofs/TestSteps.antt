@@ -1,31 +1,10 @@
 -- The tests before 7: what each of their results implies for the check list, and what is known if all pass. Assumes nothing.
-use Prim.Native.Nat.{ℕ, _+_, _*_, _≤_, _<_}
-use mathlib.Core.Path.{_≡_, refl, sym, ap}
-use mathlib.Core.Logic.{inl, inr}
-use mathlib.Core.Bool.{Bool, true, false, not}
-use mathlib.Core.List.{List, [], _∷_, _++_}
-use native.Mathlib.Nat.{mul-le-mul}
-use native.Mathlib.Numerals.{add-one}
-use native.Mathlib.Omega.{arith}
-use lib.Dec.{ltb}
-use lib.ListN.{length, take, getD}
-use lib.Seq.{take-all, take-suc}
-use borrow.Author.Tests.{ltb-true, ltb-false, lt-ltb, not-false}
+use Rattle.refresh.proofs.Prelude.{ℕ, _+_, _*_, _≤_, _<_, _≡_, refl, sym, ap, inl, inr, Bool, true, false, not, List, [], _∷_, _++_, mul-le-mul, add-one, arith, ltb, length, take, getD, take-all, take-suc, ltb-true, ltb-false, lt-ltb, not-false, or-no-left, all-more, split, all-getD, Staged, wordsAll, below, overfull, firstRefusal-no, firstRefusal-rest, Header, openingOf, largestView, outside-inside, rows-long-of, Lendable}
 use Rattle.lists.specs.Lists.{all}
-use Rattle.lists.specs.Laws.All.{or-no-left, all-more}
-use Rattle.lists.specs.Laws.Filter.{split, all-getD}
 use Rattle.refusals.specs.Refusals.{Check, check, firstRefusal}
-use Rattle.plain_table.specs.Staged.{Staged, wordsAll}
-use Rattle.plain_table.specs.Plain.{below}
-use Rattle.plain_table.specs.Refusing.{overfull}
 use Rattle.plain_table.specs.Refreshing.{Refresh, indexShort, refreshChecks}
-use Rattle.plain_table.specs.Laws.Calls.{firstRefusal-no, firstRefusal-rest}
-use Rattle.table.specs.declared.Header.{Header}
-use Rattle.table.specs.Numbers.{openingOf, largestView}
 use Rattle.table.specs.Refusing.{outside, pendingOutside, rowsShort}
-use Rattle.table.specs.Laws.Refusals.{outside-inside, rows-long-of}
 use Rattle.refresh_spec.specs.Refreshes.{refreshRefusal}
-use Rattle.refresh_spec.specs.inner.Finding.{Lendable}
 use Rattle.refresh.specs.inner.Testing.{earlyRefusal}
 
 -- the words that an index store needs fit a u32

@@ -1,24 +1,9 @@
 -- The records of a row, word for word. Assumes nothing.
-use Prim.Native.Nat.{ℕ, _+_, _-_, _*_, _≤_, _<_}
-use mathlib.Core.Path.{_≡_, sym, ap, _∙_}
-use mathlib.Core.List.{List, [], _∷_, _++_, append-nil}
-use native.Mathlib.Nat.{suc-mul}
-use native.Mathlib.Numerals.{add-one}
-use native.Mathlib.Omega.{arith}
-use lib.ListN.{length, take, drop, set, length-set}
-use lib.Seq.{length-take-le, take-take, take-set-lt}
+use Rattle.refresh.proofs.Prelude.{ℕ, _+_, _-_, _*_, _≤_, _<_, _≡_, sym, ap, _∙_, List, [], _∷_, _++_, append-nil, suc-mul, add-one, arith, length, take, drop, set, length-set, length-take-le, take-take, take-set-lt, part-width, length-splice, splice-then, length-rowAt, take-put, key-row, Inside, inside, insert, removeRow, Header, outside-inside}
 use Rattle.lists.specs.Lists.{splice, rowAt, flatten}
-use Rattle.lists.specs.Laws.Parts.{part-width, length-splice, splice-then}
-use Rattle.lists.specs.Laws.Rows.{length-rowAt}
-use Rattle.lists.specs.Laws.Search.{take-put}
 use Rattle.cells.specs.Cells.{compactHash, keyHash}
-use Rattle.row_buffer.specs.Laws.Rows.{key-row}
-use Rattle.key_index.specs.Laws.Places.{Inside, inside}
-use Rattle.plain_table.specs.Staged.{insert, removeRow}
 use Rattle.plain_table.specs.Refreshing.{restamping, refreshed}
-use Rattle.table.specs.declared.Header.{Header}
 use Rattle.table.specs.Stores.{recordWords}
-use Rattle.table.specs.Laws.Refusals.{outside-inside}
 use Rattle.refresh.specs.inner.Staging.{RowInStore, numbered, rowsWords, rowWords}
 
 module _ {h : Header} {rows : List ℕ} {row : ℕ} (l : RowInStore h rows row) where

@@ -1,18 +1,7 @@
 -- The two cases of `catch_up`: continuing after the rows seen, and starting again. Assumes nothing.
-use Prim.Native.Nat.{ℕ, _+_, _*_, _/_, _%_, _≤_, _<_}
-use mathlib.Core.Path.{_≡_, sym, _∙_}
-use mathlib.Core.Bool.{true, false, false≢true}
-use mathlib.Core.List.{List}
-use native.Mathlib.Nat.{zero-mul, div-add-mod'}
-use native.Mathlib.Omega.{arith}
-use lib.ListN.{length, getD}
-use Rattle.table.specs.declared.Header.{Header}
+use Rattle.refresh_index.proofs.Prelude.{ℕ, _+_, _*_, _/_, _%_, _≤_, _<_, _≡_, sym, _∙_, true, false, false≢true, List, zero-mul, div-add-mod', arith, length, getD, Header, Lendable, usable, CaughtUp, entry-in-range, column-is, Usable, usable-is}
 use Rattle.refresh_spec.specs.Index.{rowsSeen, entriesUnder, IndexOf}
-use Rattle.refresh_spec.specs.inner.Finding.{Lendable, usable, CaughtUp}
-use Rattle.refresh_spec.specs.Laws.Places.{entry-in-range}
-use Rattle.refresh_spec.specs.Laws.Lookup.{column-is}
 use Rattle.refresh_index.specs.inner.Entries.{cellNamed, entryLive, entryValue, headsAt, Listed, Fillable, UpToDate, Filled, Emptied}
-use Rattle.refresh_index.specs.Laws.Using.{Usable, usable-is}
 use Rattle.refresh_index.proofs.Sizes.{small}
 
 module _ (h : Header) (rows columns index : List ℕ) where

@@ -1,18 +1,7 @@
 -- The turns of `mark_chain`, from entry to entry. Assumes nothing.
-use Prim.Native.Nat.{ℕ, _+_, _-_, _*_, _≤_, _<_}
-use mathlib.Core.Path.{_≡_}
-use mathlib.Core.Bool.{Bool, true}
-use mathlib.Core.List.{List, []}
-use native.Mathlib.Nat.{mul-le-mul-right}
-use lib.ListN.{length, getD}
+use Rattle.refresh_index.proofs.Prelude.{ℕ, _+_, _-_, _*_, _≤_, _<_, _≡_, Bool, true, List, [], mul-le-mul-right, length, getD, Header, Lendable, usable, headsAt, MarkedAll, chain-on, usable-is}
 use Rattle.lists.specs.Lists.{any}
-use Rattle.table.specs.declared.Header.{Header}
 use Rattle.refresh_spec.specs.Index.{rowsSeen, bucketOf, chain, entriesUnder, leadsTo, leads}
-use Rattle.refresh_spec.specs.inner.Finding.{Lendable, usable}
-use Rattle.refresh_index.specs.inner.Entries.{headsAt}
-use Rattle.refresh_index.specs.inner.Marking.{MarkedAll}
-use Rattle.refresh_index.specs.Laws.Chains.{chain-on}
-use Rattle.refresh_index.specs.Laws.Using.{usable-is}
 use Rattle.refresh_index.proofs.Sizes.{small}
 use Rattle.refresh_index.proofs.Goings.{Going, going-begin, going-on, going-end}
 

@@ -1,23 +1,7 @@
 -- The turns of `push_row`, `push_live`, `fill` and `empty_buckets`: entries pushed one after another, and buckets emptied. Assumes
 -- nothing.
-use Prim.Native.Nat.{ℕ, suc, _+_, _-_, _*_, _≤_, _<_}
-use mathlib.Core.Path.{_≡_, refl, sym, ap, _∙_}
-use mathlib.Core.Bool.{true, false, false≢true}
-use mathlib.Core.List.{List}
-use native.Mathlib.Decide.{ℕ-discrete, decLt}
-use native.Mathlib.Numerals.{add-one}
-use native.Mathlib.Omega.{arith}
-use lib.ListN.{length, drop, getD, set}
-use lib.Seq.{getD-set-same, getD-set-other, drop-set-lt}
-use Rattle.lists.specs.Lists.{elem, rowAt}
-use Rattle.lists.specs.Laws.Rising.{elem-here}
-use Rattle.constraints.specs.Constraints.{isLive}
-use Rattle.table.specs.declared.Header.{Header}
-use Rattle.refresh_spec.specs.Index.{bucketOf, chain}
+use Rattle.refresh_index.proofs.Prelude.{ℕ, suc, _+_, _-_, _*_, _≤_, _<_, _≡_, refl, sym, ap, _∙_, true, false, false≢true, List, ℕ-discrete, decLt, add-one, arith, length, drop, getD, set, getD-set-same, getD-set-other, drop-set-lt, elem, rowAt, elem-here, isLive, Header, bucketOf, chain, chain-longer, pushed-own, pushed-keeps, entry-in, bucket-below}
 use Rattle.refresh_index.specs.inner.Entries.{cellNamed, entryLive, entryValue, headsAt, pushed, Listed, Fillable, Pushed, Emptied}
-use Rattle.refresh_index.specs.Laws.Chains.{chain-longer, pushed-own, pushed-keeps}
-use Rattle.refresh_spec.specs.Laws.Places.{entry-in}
-use Rattle.refresh_spec.specs.Laws.Fronts.{bucket-below}
 use Rattle.refresh_index.proofs.Sizes.{small}
 
 pushed-past : (index : List ℕ) (head entry n : ℕ) → 16 + entry < n → head < n → drop n (pushed index head entry) ≡ drop n index

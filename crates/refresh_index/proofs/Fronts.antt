@@ -1,21 +1,8 @@
 -- The words before the entries, as they are written, and an index of all rows. Assumes nothing.
-use Prim.Native.Nat.{ℕ, _+_, _*_, _≤_, _<_}
-use mathlib.Core.Path.{_≡_, refl, sym, ap, _∙_}
-use mathlib.Core.Bool.{true, false}
-use mathlib.Core.List.{List, [], _∷_}
-use native.Mathlib.Omega.{arith}
-use lib.ListN.{length, take, drop, getD}
-use lib.Seq.{getD-set-same, getD-set-other, take-set-le, drop-set-lt}
+use Rattle.refresh_index.proofs.Prelude.{ℕ, _+_, _*_, _≤_, _<_, _≡_, refl, sym, ap, _∙_, true, false, List, [], _∷_, arith, length, take, drop, getD, getD-set-same, getD-set-other, take-set-le, drop-set-lt, take-drop, length-splice, drop-splice, part-splice, getD-splice-after, isLive, Header, usable-of, entry-in, chain-same, column-is}
 use Rattle.lists.specs.Lists.{splice, elem, rowAt}
-use Rattle.lists.specs.Laws.Parts.{take-drop, length-splice, drop-splice, part-splice, getD-splice-after}
-use Rattle.constraints.specs.Constraints.{isLive}
-use Rattle.table.specs.declared.Header.{Header}
 use Rattle.refresh_spec.specs.Index.{isNew, generationSeen, rowsSeen, columnsNamed, namedIn, bucketOf, chain, entriesUnder, IndexOf, Current}
 use Rattle.refresh_index.specs.inner.Entries.{cellNamed, entryLive, entryValue, headsAt, fronted, Listed, Fillable, Pushed, UpToDate, Filled}
-use Rattle.refresh_index.specs.Laws.Using.{usable-of}
-use Rattle.refresh_spec.specs.Laws.Places.{entry-in}
-use Rattle.refresh_spec.specs.Laws.Fronts.{chain-same}
-use Rattle.refresh_spec.specs.Laws.Lookup.{column-is}
 
 module _ (h : Header) (columns : List ℕ) (buckets : ℕ) (index : List ℕ) (long : 16 ≤ length index) (few : length columns ≤ 8) where
   words : List ℕ

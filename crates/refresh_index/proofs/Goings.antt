@@ -1,14 +1,5 @@
 -- A loop that sets the bits of the rows of one test after another: the bits set so far, of all that are to be set. Assumes nothing.
-use Prim.Native.Nat.{ℕ, _+_, _^_, _≤_, _<_}
-use mathlib.Core.Path.{_≡_, _∙_}
-use mathlib.Core.Logic.{inl, inr}
-use mathlib.Core.Bool.{Bool, true, false, not, _&&_, _||_, false≢true}
-use mathlib.Core.List.{List}
-use lib.ListN.{length, getD}
-use Rattle.lists.specs.Laws.Filter.{split}
-use Rattle.lists.specs.Laws.All.{or-right}
-use Rattle.bitmap.specs.inner.Bitmaps.{Marked}
-use Rattle.bitmap.specs.Laws.Bitmaps.{bitmap-of, marked-none, marked-then, marked-weaker, marked-few}
+use Rattle.refresh_index.proofs.Prelude.{ℕ, _+_, _^_, _≤_, _<_, _≡_, _∙_, inl, inr, Bool, true, false, not, _&&_, _||_, false≢true, List, length, getD, split, or-right, Marked, bitmap-of, marked-none, marked-then, marked-weaker, marked-few}
 
 -- of all rows to be marked, those of the rest are yet to come
 pub record Going (all rest : ℕ → Bool) (words words′ : List ℕ) (more : ℕ) : Type 0 where

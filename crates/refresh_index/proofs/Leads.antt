@@ -1,20 +1,8 @@
 -- The ways of `mark_entry` to return. Assumes nothing.
-use Prim.Native.Nat.{ℕ, _*_, _<_}
-use mathlib.Core.Path.{_≡_, refl, sym, ap, _∙_}
-use mathlib.Core.Bool.{Bool, true, false, not, _&&_}
-use mathlib.Core.List.{List}
-use lib.Dec.{eqb}
-use lib.ListN.{getD}
-use borrow.Author.Tests.{eq-eqb, ne-eqb}
-use Rattle.lists.specs.Laws.Filter.{and-right}
+use Rattle.refresh_index.proofs.Prelude.{ℕ, _*_, _<_, _≡_, refl, sym, ap, _∙_, Bool, true, false, not, _&&_, List, eqb, getD, eq-eqb, ne-eqb, and-right, live-first, Header, MarkedOne, marked-one, marked-none, marked-weaker, MarkedAll}
 use Rattle.cells.specs.Cells.{isDead}
-use Rattle.constraints.specs.Laws.Rows.{live-first}
-use Rattle.table.specs.declared.Header.{Header}
-use Rattle.bitmap.specs.inner.Bitmaps.{MarkedOne}
-use Rattle.bitmap.specs.Laws.Bitmaps.{marked-one, marked-none, marked-weaker}
 use Rattle.refresh_spec.specs.Index.{leadsTo}
 use Rattle.refresh_index.specs.inner.Entries.{cellNamed, entryRow, entryLive, entryValue}
-use Rattle.refresh_index.specs.inner.Marking.{MarkedAll}
 
 module _ (h : Header) (rows columns : List ℕ) where
   -- an entry's row is live or dead by its first cell

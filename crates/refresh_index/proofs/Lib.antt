@@ -1,3 +1,4 @@
+mod Prelude
 pub mod Sizes
 pub mod Fills
 pub mod Fronts

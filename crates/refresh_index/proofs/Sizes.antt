@@ -1,19 +1,5 @@
 -- How large a table's numbers are, and where its cells are. Assumes nothing.
-use Prim.Native.Nat.{ℕ, _*_, _≤_, _<_}
-use mathlib.Core.Path.{_≡_}
-use mathlib.Core.Bool.{false}
-use mathlib.Core.List.{List}
-use native.Mathlib.Nat.{mul-le-mul, mul-le-mul-right}
-use native.Mathlib.Omega.{arith}
-use lib.ListN.{length, getD}
-use borrow.Author.Tests.{ltb-true}
-use Rattle.lists.specs.Laws.Filter.{all-getD}
-use Rattle.key_index.specs.Laws.Places.{Inside, inside}
-use Rattle.table.specs.declared.Header.{Header}
-use Rattle.table.specs.Refusing.{outside}
-use Rattle.table.specs.Laws.Refusals.{outside-inside}
-use Rattle.refresh_spec.specs.inner.Finding.{Lendable}
-use Rattle.refresh_index.specs.inner.Entries.{Readable, Fillable}
+use Rattle.refresh_index.proofs.Prelude.{ℕ, _*_, _≤_, _<_, _≡_, false, List, mul-le-mul, mul-le-mul-right, arith, length, getD, ltb-true, all-getD, Inside, inside, Header, outside, outside-inside, Lendable, Readable, Fillable}
 
 -- so many entries a row
 pub record Small (h : Header) (count : ℕ) : Type 0 where

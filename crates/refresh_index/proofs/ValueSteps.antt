@@ -1,27 +1,8 @@
 -- The turns of `mark_values`, from value to value: a value that is looked up, and one that was looked up before. Assumes nothing.
-use Prim.Native.Nat.{ℕ, _+_, _≤_, _<_}
-use mathlib.Core.Path.{_≡_, refl, sym, ap, _∙_}
-use mathlib.Core.Logic.{inl, inr}
-use mathlib.Core.Bool.{Bool, true, _||_, false≢true}
-use mathlib.Core.List.{List}
-use native.Mathlib.Decide.{ℕ-discrete, decLt}
-use native.Mathlib.Omega.{arith}
-use lib.Dec.{eqb}
-use lib.ListN.{length, take, getD, set, replicate, length-set, length-replicate, getD-replicate}
-use lib.Seq.{length-take-le, take-all, getD-take, getD-set-same, getD-set-other}
-use borrow.Author.Tests.{eqb-true}
+use Rattle.refresh_index.proofs.Prelude.{ℕ, _+_, _≤_, _<_, _≡_, refl, sym, ap, _∙_, inl, inr, Bool, true, _||_, false≢true, List, ℕ-discrete, decLt, arith, eqb, length, take, getD, set, replicate, length-set, length-replicate, getD-replicate, length-take-le, take-all, getD-take, getD-set-same, getD-set-other, eqb-true, or-right, or-second, any-at, any-of, split, Header, Marked, marked-none, marked-then, marked-weaker, usable, ListedMarked, bucket-below, usable-is, found-mentions, mentions-found}
 use Rattle.lists.specs.Lists.{any}
-use Rattle.lists.specs.Laws.All.{or-right, or-second, any-at, any-of}
-use Rattle.lists.specs.Laws.Filter.{split}
-use Rattle.table.specs.declared.Header.{Header}
-use Rattle.bitmap.specs.inner.Bitmaps.{Marked}
-use Rattle.bitmap.specs.Laws.Bitmaps.{marked-none, marked-then, marked-weaker}
 use Rattle.refresh_spec.specs.Index.{bucketOf, entriesUnder, leads}
-use Rattle.refresh_spec.specs.inner.Finding.{usable, ListedMarked}
-use Rattle.refresh_spec.specs.Laws.Fronts.{bucket-below}
 use Rattle.refresh_index.specs.inner.Marking.{MarkedAll, found, Noted}
-use Rattle.refresh_index.specs.Laws.Using.{usable-is}
-use Rattle.refresh_index.specs.Laws.Found.{found-mentions, mentions-found}
 
 -- ---- the first values
 

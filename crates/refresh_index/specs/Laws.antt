@@ -1,4 +1,5 @@
 -- What callers may rely on of an index store.
+mod Prelude
 pub mod Chains
 pub mod Using
 pub mod Found

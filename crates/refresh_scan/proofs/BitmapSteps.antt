@@ -1,30 +1,9 @@
 -- The turns of the passes: a row, the rows from one on, the parts of the values. Assumes nothing.
-use Prim.Native.Nat.{ℕ, _+_, _-_, _*_, _≤_, _<_, min}
-use mathlib.Core.Path.{_≡_, refl, sym, ap, _∙_}
-use mathlib.Core.Bool.{Bool, true, false, not, _&&_, _||_, false≢true}
-use mathlib.Core.List.{List, [], _∷_, _++_}
-use native.Mathlib.Decide.{decLt}
-use native.Mathlib.Nat.{add-zero, suc-mul}
-use native.Mathlib.Numerals.{add-one}
-use native.Mathlib.Omega.{arith}
-use lib.Dec.{leb, ltb, eqb}
-use lib.ListN.{length, take, drop, getD, take-append-drop, length-take}
-use lib.Seq.{take-add, take-all}
-use borrow.Author.Tests.{eq-eqb, eqb-true, le-leb, leb-true, lt-ltb, ltb-true}
+use Rattle.refresh_scan.proofs.Prelude.{ℕ, _+_, _-_, _*_, _≤_, _<_, min, _≡_, refl, sym, ap, _∙_, Bool, true, false, not, _&&_, _||_, false≢true, List, [], _∷_, _++_, decLt, add-zero, suc-mul, add-one, arith, leb, ltb, eqb, length, take, drop, getD, take-append-drop, length-take, take-add, take-all, eq-eqb, eqb-true, le-leb, leb-true, lt-ltb, ltb-true, and-left, and-right, and-both, or-right, part-width, elem-append, length-rowAt, getD-rowAt, Inside, inside, Header, outside-inside, MarkedOne, Marked, marked-one, marked-none, marked-then, marked-weaker}
 use Rattle.lists.specs.Lists.{all, any, elem, rowAt}
-use Rattle.lists.specs.Laws.Filter.{and-left, and-right}
-use Rattle.lists.specs.Laws.All.{and-both, or-right}
-use Rattle.lists.specs.Laws.Parts.{part-width}
-use Rattle.lists.specs.Laws.Rising.{elem-append}
-use Rattle.lists.specs.Laws.Rows.{length-rowAt, getD-rowAt}
 use Rattle.cells.specs.Cells.{isDead}
 use Rattle.constraints.specs.Constraints.{isLive}
-use Rattle.key_index.specs.Laws.Places.{Inside, inside}
 use Rattle.plain_table.specs.Refreshing.{mentions}
-use Rattle.table.specs.declared.Header.{Header}
-use Rattle.table.specs.Laws.Refusals.{outside-inside}
-use Rattle.bitmap.specs.inner.Bitmaps.{MarkedOne, Marked}
-use Rattle.bitmap.specs.Laws.Bitmaps.{marked-one, marked-none, marked-then, marked-weaker}
 use Rattle.refresh_spec.specs.inner.Finding.{mentionsAt, mentionsFrom}
 use Rattle.refresh_scan.specs.inner.Scanning.{Scannable, mentionsOnly}
 

@@ -1,3 +1,4 @@
+mod Prelude
 pub mod Links
 pub mod Mentions
 pub mod BitmapSteps

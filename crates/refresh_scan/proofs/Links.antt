@@ -1,19 +1,6 @@
 -- The links of a part's values: how they are made, and what a loop along them decides. Assumes nothing.
-use Prim.Native.Nat.{ℕ, zero, suc, _+_, _-_, _≤_, _<_}
-use mathlib.Core.Path.{_≡_, refl, sym, ap, _∙_}
-use mathlib.Core.Logic.{inl, inr}
-use mathlib.Core.Bool.{Bool, true, false, _||_}
-use mathlib.Core.List.{List, [], _∷_}
-use native.Mathlib.Decide.{decLt}
-use native.Mathlib.Numerals.{add-one}
-use native.Mathlib.Omega.{arith}
-use lib.Dec.{eqb}
-use lib.ListN.{length, take, getD, set, replicate, length-set, length-replicate, getD-replicate}
-use lib.Seq.{take-suc, take-length, getD-set-same, getD-set-other}
-use borrow.Author.Tests.{eqb-true, eqb-false}
+use Rattle.refresh_scan.proofs.Prelude.{ℕ, zero, suc, _+_, _-_, _≤_, _<_, _≡_, refl, sym, ap, _∙_, inl, inr, Bool, true, false, _||_, List, [], _∷_, decLt, add-one, arith, eqb, length, take, getD, set, replicate, length-set, length-replicate, getD-replicate, take-suc, take-length, getD-set-same, getD-set-other, eqb-true, eqb-false, split, elem-append, elem-there, elem-of}
 use Rattle.lists.specs.Lists.{elem}
-use Rattle.lists.specs.Laws.Filter.{split}
-use Rattle.lists.specs.Laws.Rising.{elem-append, elem-there, elem-of}
 use Rattle.refresh_spec.specs.Index.{bucketOf}
 use Rattle.refresh_scan.specs.inner.Scanning.{linkTo, Linked}
 

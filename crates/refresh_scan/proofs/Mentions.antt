@@ -1,11 +1,5 @@
 -- The turns of the test of a row. Assumes nothing.
-use Prim.Native.Nat.{ℕ, suc, _+_, _≤_, _<_}
-use mathlib.Core.Path.{_≡_, sym, _∙_}
-use mathlib.Core.Bool.{true, false, _||_}
-use mathlib.Core.List.{List}
-use native.Mathlib.Numerals.{add-one}
-use lib.ListN.{length, drop, getD, drop-of-length-le}
-use lib.Seq.{drop-cons}
+use Rattle.refresh_scan.proofs.Prelude.{ℕ, suc, _+_, _≤_, _<_, _≡_, sym, _∙_, true, false, _||_, List, add-one, length, drop, getD, drop-of-length-le, drop-cons}
 use Rattle.lists.specs.Lists.{any, elem}
 use Rattle.plain_table.specs.Refreshing.{mentions}
 

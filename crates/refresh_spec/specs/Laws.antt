@@ -1,4 +1,5 @@
 -- What follows from the definitions.
+mod Prelude
 pub mod Keeps
 pub mod Determined
 pub mod Decided

@@ -1,49 +1,16 @@
 -- The steps of checking.rt, by the laws of specs/Laws/Checks.antt: one law for each way that a function answers, and what
 -- holds at the head of the loop over the pending words. Assumes nothing.
-use Prim.Native.Nat.{ℕ, _+_, _-_, _*_, _≤_, _<_}
-use mathlib.Core.Path.{_≡_, refl, sym, ap, _∙_}
-use mathlib.Core.Bool.{Bool, true, false, not, false≢true}
-use mathlib.Core.List.{List, [], _∷_}
+use Rattle.table_check.proofs.Prelude.{ℕ, _+_, _-_, _*_, _≤_, _<_, _≡_, refl, sym, ap, _∙_, Bool, true, false, not, false≢true, List, [], _∷_, add-zero, ℕ-discrete, arith, leb, eqb, length, take, drop, getD, length-drop, getD-drop, drop-drop, ne-eqb, le-leb, leb-true, outcome-refused, count-append, count-le, length-rowsOf, rowsOf-snoc, isLive, live-first, key-part, IndexShape, Found, None, At, LiveAt, keyAt, KeysSound, Fits, FoundIs, KeysDiffer, SlotsSound, entriesOf, entriesSound, Decides, decides-yes, decides-no, cellsSound, cells-live, cells-of, last-entriesOf, last-none, sound-climb, last-all, Header, soundRefusal, indexShapeOf, Checked, parts-sound, sound-rows, sound-index, sound-whole, own-differ, own-sound, own-dead, own-none, own-at, begins-words, begins-hash, words-begin, holds-cons, holds-head, holds-tail, holds-none, holds-some, holds-pending, pending-holds}
 use mathlib.Core.Option.{Option, none as no-value, some as a-value}
-use native.Mathlib.Nat.{add-zero}
-use native.Mathlib.Decide.{ℕ-discrete}
-use native.Mathlib.Omega.{arith}
-use lib.Dec.{leb, eqb}
-use lib.ListN.{length, take, drop, getD, length-drop}
-use lib.Seq.{getD-drop, drop-drop}
-use borrow.Author.Tests.{ne-eqb, le-leb, leb-true}
 use Rattle.refusals.specs.Refusals.{reply, outcome}
-use Rattle.refusals.specs.Laws.Replies.{outcome-refused}
 use Rattle.lists.specs.Lists.{all, count, rowAt, rowsOf}
-use Rattle.lists.specs.Laws.Filter.{count-append, count-le}
-use Rattle.lists.specs.Laws.Rows.{length-rowsOf, rowsOf-snoc}
 use Rattle.cells.specs.Cells.{isDead, compactHash, keyHash}
-use Rattle.constraints.specs.Constraints.{isLive}
-use Rattle.constraints.specs.Laws.Rows.{live-first}
-use Rattle.key_index.specs.Laws.Places.{key-part}
-use Rattle.key_index.specs.declared.IndexShape.{IndexShape}
-use Rattle.key_index.specs.declared.Found.{Found}
-use Rattle.key_index.specs.declared.Found.the-variants.{None, At}
-use Rattle.key_index.specs.Slots.{LiveAt, keyAt, KeysSound}
-use Rattle.key_index.specs.inner.Index.{Fits, FoundIs, KeysDiffer}
-use Rattle.key_check.specs.inner.Check.{SlotsSound}
-use Rattle.sort_entries.specs.Entries.{entriesOf, entriesSound}
-use Rattle.sort_entries.specs.inner.Checks.{Decides, decides-yes, decides-no, cellsSound}
-use Rattle.sort_entries.specs.Laws.Cells.{cells-live, cells-of}
-use Rattle.sort_entries.specs.Laws.Stores.{last-entriesOf, last-none}
-use Rattle.sort_entries.specs.Laws.Sound.{sound-climb}
-use Rattle.sort_entries.specs.Laws.Tests.{last-all}
 use Rattle.plain_table.specs.Proper.{atMost}
 use Rattle.plain_table.specs.Staged.{Opening, Staged, insert, removeKey, removeRow, wordsOf}
-use Rattle.table.specs.declared.Header.{Header}
 use Rattle.table.specs.declared.Largest.the-variants.{None as NoLargest, Value}
 use Rattle.table.specs.declared.SoundAnswer.the-variants.{Refused, Sound as IsSound}
 use Rattle.table.specs.Numbers.{openingOf, largestView, soundView}
-use Rattle.table.specs.Refusing.{soundRefusal}
-use Rattle.table.specs.Sound.{indexShapeOf}
-use Rattle.table.specs.Contracts.{Checked}
 use Rattle.table_check.specs.inner.Checks.{deadRows, lastKept, RowsSound, KeyStoreSound, OwnIs, AllOwn, kindWords, keyPlace, keyWords, Begins, RecordRead, HoldsFrom, PendingWhole, SoundStores}
-use Rattle.table_check.specs.Laws.Checks.{parts-sound, sound-rows, sound-index, sound-whole, own-differ, own-sound, own-dead, own-none, own-at, begins-words, begins-hash, words-begin, holds-cons, holds-head, holds-tail, holds-none, holds-some, holds-pending, pending-holds}
 
 -- ---- rows
 

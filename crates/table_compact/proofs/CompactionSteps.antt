@@ -1,52 +1,13 @@
 -- The steps of a compaction: a row kept, the turns of the loops over the rows, and what the entry point answers. Assumes nothing.
-use Prim.Native.Nat.{ℕ, _+_, _-_, _*_, _/_, _%_, _≤_, _<_, min}
-use mathlib.Core.Path.{_≡_, refl, sym, ap, ap₂, _∙_}
-use mathlib.Core.Bool.{Bool, true, false}
-use mathlib.Core.List.{List, [], _∷_, _++_}
-use native.Mathlib.Nat.{add-zero, add-mul, mul-le-mul-right}
-use native.Mathlib.Omega.{arith}
-use lib.Bits.{bitAnd}
-use lib.Count.{trailingZeros}
-use lib.ListN.{length, take, drop, getD, set, length-take, length-drop, length-set, length-append}
-use lib.Seq.{drop-set-lt}
+use Rattle.table_compact.proofs.Prelude.{ℕ, _+_, _-_, _*_, _/_, _%_, _≤_, _<_, min, _≡_, refl, sym, ap, ap₂, _∙_, Bool, true, false, List, [], _∷_, _++_, add-zero, add-mul, mul-le-mul-right, arith, bitAnd, trailingZeros, length, take, drop, getD, set, length-take, length-drop, length-set, length-append, drop-set-lt, mapFront, splice-nil, getD-splice-in, length-filter, row-in, isLive, live-first, Append, push, push-few, bitmapWord-same, onward, onward-all, Next, next-bit, no-more, IndexShape, slots, Fits, rows-in, Inside, row-inside, fits-stores, sizeClass-most, fits-fewer, Rebuilt, renumbered, Ranked, below-number, live-among, outcome-refused, outcome-accepted, Header, KeptCounts, Lengths, compactRefusal, indexShapeOf, fullIndexShapeOf, body, compactionWords, PastNeeded, lengths, Compacting, inside-full-shape, full-shape-fits, compact-accepted, Lendable, KeysUpdated, nextGeneration, Compaction, length-live, live-one, live-skip, later-row, close-one, entries-one, rebuild-one, Words, words-begin, words-next, words-number, compaction, none-compaction}
 use Rattle.lists.specs.Lists.{splice, filter, rowAt, rowsOf, flatten}
-use Rattle.lists.specs.inner.Searching.{mapFront}
-use Rattle.lists.specs.Laws.Parts.{splice-nil, getD-splice-in}
-use Rattle.lists.specs.Laws.Filter.{length-filter}
-use Rattle.lists.specs.Laws.Rows.{row-in}
 use Rattle.cells.specs.Cells.{isDead}
-use Rattle.constraints.specs.Constraints.{isLive}
-use Rattle.constraints.specs.Laws.Rows.{live-first}
 use Rattle.sort_entries.specs.Entries.{Entry, entryWords, rebuiltFrom, rebuilt}
-use Rattle.sort_entries.specs.inner.Append.{Append}
-use Rattle.sort_entries.specs.Laws.Push.{push, push-few}
 use Rattle.row_buffer.specs.Ranks.{liveAt, liveWord, bitmapWord, newNumber}
 use Rattle.bitmap.specs.inner.Marking.{Spaced, otherAt}
-use Rattle.bitmap.specs.Laws.Lowest.{bitmapWord-same, onward, onward-all, Next, next-bit, no-more}
-use Rattle.key_index.specs.declared.IndexShape.{IndexShape}
-use Rattle.key_index.specs.Slots.{slots}
-use Rattle.key_index.specs.inner.Index.{Fits}
-use Rattle.key_index.specs.Laws.Index.{rows-in}
-use Rattle.key_index.specs.Laws.Places.{Inside, row-inside, fits-stores}
-use Rattle.key_index.specs.Laws.SizeClasses.{sizeClass-most, fits-fewer}
-use Rattle.key_rebuild.specs.inner.Rebuilding.{Rebuilt}
-use Rattle.key_renumber.specs.inner.Renumbering.{renumbered, Ranked}
-use Rattle.key_renumber.specs.Laws.Renumbering.{below-number, live-among}
-use Rattle.refusals.specs.Laws.Replies.{outcome-refused, outcome-accepted}
-use Rattle.table.specs.declared.Header.{Header}
 use Rattle.table.specs.declared.TableAnswer.the-variants.{Refused as TableRefused, Table}
-use Rattle.table_compact.specs.declared.KeptCounts.{KeptCounts}
 use Rattle.table.specs.Numbers.{tableView}
-use Rattle.plain_table.specs.Refusing.{Lengths}
-use Rattle.table.specs.Refusing.{compactRefusal}
-use Rattle.table.specs.Sound.{indexShapeOf}
-use Rattle.table.specs.inner.FullIndexShape.{fullIndexShapeOf}
-use Rattle.table.specs.Contracts.{body, compactionWords, PastNeeded, lengths, Compacting}
-use Rattle.table.specs.Laws.Refusals.{inside-full-shape, full-shape-fits, compact-accepted}
-use Rattle.table_compact.specs.inner.Compaction.{Lendable, KeysUpdated, nextGeneration, Compaction}
 use Rattle.table_compact.specs.inner.ClosingUp.{Movable, Closable, Keepable, RowKept, Closing, blockWord, Block, BlockKept, Closed, liveStored, entriesFor, closedHeader}
-use Rattle.table_compact.specs.Laws.Compaction.{length-live, live-one, live-skip, later-row, close-one, entries-one, rebuild-one, Words, words-begin, words-next, words-number, compaction}
-use Rattle.table_compact.specs.Laws.NoneDead.{none-compaction}
 
 -- ---- a row is kept
 

@@ -1,19 +1,5 @@
 -- The contents of a table depend on the words in use alone. Assumes nothing.
-use Prim.Native.Nat.{ℕ, _+_, _*_, _≤_, _<_}
-use mathlib.Core.Path.{_≡_, sym, ap, _∙_}
-use mathlib.Core.Bool.{true, not}
-use mathlib.Core.List.{List, []}
-use native.Mathlib.Omega.{arith}
-use lib.ListN.{length, take, drop, getD}
-use Rattle.lists.specs.Lists.{splice, count, rowAt, rowsOf}
-use Rattle.lists.specs.Laws.Rows.{getD-rowsOf, rowsOf-same}
-use Rattle.constraints.specs.Constraints.{isLive}
-use Rattle.sort_entries.specs.Entries.{Entry, entriesOf, entriesSound, valueAt}
-use Rattle.sort_entries.specs.Laws.Stores.{entriesOf-same}
-use Rattle.plain_table.specs.Staged.{Staged, wordsAll}
-use Rattle.table.specs.declared.Header.{Header}
-use Rattle.table.specs.Numbers.{openingOf, largestView}
-use Rattle.table.specs.Sound.{SoundContents}
+use Rattle.archive.specs.Laws.Prelude.{ℕ, _+_, _*_, _≤_, _<_, _≡_, sym, ap, _∙_, true, not, List, [], arith, length, take, drop, getD, splice, count, rowAt, rowsOf, getD-rowsOf, rowsOf-same, isLive, Entry, entriesOf, entriesSound, valueAt, entriesOf-same, Staged, wordsAll, Header, openingOf, largestView, SoundContents}
 
 -- the words in use are the same in other stores
 pub record SameInUse (h : Header) (rows sorts pending rows′ sorts′ pending′ : List ℕ) : Type 0 where

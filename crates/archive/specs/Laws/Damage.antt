@@ -1,25 +1,10 @@
 -- An image changed within four neighbouring bytes is no image. Assumes nothing.
-use Prim.Native.Nat.{ℕ, zero, suc, _+_, _<_}
-use mathlib.Core.Path.{_≡_, refl, sym, ap, _∙_}
-use mathlib.Core.Bool.{true}
-use mathlib.Core.List.{List, [], _∷_, _++_}
-use mathlib.Core.Logic.{_⊎_, inl, inr}
-use mathlib.Core.Option.{Option, none, some}
-use native.Mathlib.Omega.{arith}
-use lib.ListN.{length, getD}
+use Rattle.archive.specs.Laws.Prelude.{ℕ, zero, suc, _+_, _<_, _≡_, refl, sym, ap, _∙_, true, List, [], _∷_, _++_, _⊎_, inl, inr, Option, none, some, arith, length, getD, Below, bytes-of-append, bytes-of-below, bytes-of-cons, damage-shows, residue-of-crc, Header, TableAnswer, Table, tableView, Damaged, damaged, RefusedAsImage}
 use Rattle.lists.specs.Lists.{flatten}
 use Rattle.refusals.specs.Refusals.{Reply, refused, accepted, reply, outcome}
 use Rattle.crc32.specs.Crc.{register, crc32, bytesOf, wordBytes}
-use Rattle.crc32.specs.Bytes.{Below}
-use Rattle.crc32.specs.Laws.Bytes.{bytes-of-append, bytes-of-below, bytes-of-cons}
-use Rattle.crc32.specs.Laws.Damage.{damage-shows, residue-of-crc}
-use Rattle.table.specs.declared.Header.{Header}
-use Rattle.table.specs.declared.TableAnswer.{TableAnswer}
-use Rattle.table.specs.declared.TableAnswer.the-variants.{Table}
-use Rattle.table.specs.Numbers.{tableView}
 use Rattle.image_spec.specs.Image.{Image, imageBody, imageWords, isImage, Reads, reads, reads-none}
 use Rattle.image_spec.specs.Contracts.{lengthView, checkReply, readRefusal, textRefusal, textOf, ImageChecked, ImageRead, TextRead}
-use Rattle.archive.specs.Archive.{Damaged, damaged, RefusedAsImage}
 
 -- ---- bytes
 

@@ -1,40 +1,12 @@
 -- Reading an image after writing it. Assumes nothing.
-use Prim.Native.Nat.{ℕ, zero, suc, _+_, _*_, _≤_, _<_}
-use mathlib.Core.Path.{_≡_, refl, sym, ap, _∙_}
-use mathlib.Core.Bool.{Bool, true, false, cond, not, _||_}
-use mathlib.Core.List.{List, [], _∷_, _++_, map}
-use mathlib.Core.Logic.{⊎-elim}
-use mathlib.Core.Option.{Option, none, some}
-use native.Mathlib.Nat.{mul-le-mul-right}
-use native.Mathlib.Omega.{arith}
-use lib.ListN.{length, take, drop, getD}
-use lib.Seq.{take-at}
-use lib.Dec.{ltb, eqb}
-use borrow.Author.Tests.{ltb-false, le-leb}
+use Rattle.archive.specs.Laws.Prelude.{ℕ, zero, suc, _+_, _*_, _≤_, _<_, _≡_, refl, sym, ap, _∙_, Bool, true, false, cond, not, _||_, List, [], _∷_, _++_, map, ⊎-elim, Option, none, some, mul-le-mul-right, arith, length, take, drop, getD, take-at, ltb, eqb, ltb-false, le-leb, split, length-splice, or-no-left, or-no-right, Opening, openable, wordsAll, rowOf, firstRefusal-no, firstRefusal-rest, bounds-openable, Header, TableAnswer, Table, outside, Stores, Body, joined, lengths, Represents, LongEnough, stores-long, Inside, outside-inside, Image, SoundImage, reads-unique, Saved, resized, ReadAfterWrite}
 use Rattle.lists.specs.Lists.{splice, rowAt, all}
-use Rattle.lists.specs.Laws.Filter.{split}
-use Rattle.lists.specs.Laws.Parts.{length-splice}
-use Rattle.lists.specs.Laws.All.{or-no-left, or-no-right}
 use Rattle.refusals.specs.Refusals.{check, firstRefusal, Reply, refused, accepted, reply, outcome}
-use Rattle.plain_table.specs.Staged.{Opening, openable, wordsAll}
 use Rattle.plain_table.specs.Refusing.{storesShort}
 use Rattle.plain_table.specs.Plain.{Plain, dead}
-use Rattle.plain_table.specs.Proper.{rowOf}
-use Rattle.plain_table.specs.Laws.Calls.{firstRefusal-no, firstRefusal-rest}
-use Rattle.plain_table.specs.Laws.Proper.{bounds-openable}
-use Rattle.table.specs.declared.Header.{Header}
-use Rattle.table.specs.declared.TableAnswer.{TableAnswer}
-use Rattle.table.specs.declared.TableAnswer.the-variants.{Table}
 use Rattle.table.specs.Numbers.{openingOf, tableView}
-use Rattle.table.specs.Refusing.{outside}
 use Rattle.table.specs.Stores.{entries, headerOf, RowShown}
-use Rattle.table.specs.Contracts.{Stores, Body, joined, lengths, Represents}
-use Rattle.table.specs.Laws.Shown.{LongEnough, stores-long}
-use Rattle.table.specs.Laws.Refusals.{Inside, outside-inside}
-use Rattle.image_spec.specs.Image.{Image, SoundImage}
 use Rattle.image_spec.specs.Contracts.{withCapacity, readRefusal, Loaded, ImageRead}
-use Rattle.image_spec.specs.Laws.Unique.{reads-unique}
-use Rattle.archive.specs.Archive.{Saved, resized, ReadAfterWrite}
 use Rattle.archive.specs.Laws.Contents.{SameInUse, row-same, entries-same}
 use Rattle.archive.specs.Laws.Resized.{SameShape, all-words-same, all-widths-same}
 use Rattle.archive.specs.Laws.Saved.{savedImage, saved-parts, saved-reads, saved-sound}

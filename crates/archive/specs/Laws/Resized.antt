@@ -1,13 +1,8 @@
 -- A plain table with another capacity. Assumes nothing.
-use Prim.Native.Nat.{ℕ, zero, suc, _+_}
-use mathlib.Core.Path.{_≡_, refl, ap, ap₂, _∙_}
-use mathlib.Core.Bool.{Bool, not, _&&_}
-use mathlib.Core.List.{List, [], _∷_}
+use Rattle.archive.specs.Laws.Prelude.{ℕ, zero, suc, _+_, _≡_, refl, ap, ap₂, _∙_, Bool, not, _&&_, List, [], _∷_, Plain, resized}
 use Rattle.lists.specs.Lists.{all}
 use Rattle.plain_table.specs.Staged.{Opening, Staged, insert, removeKey, removeRow, wordsOf, wordsAll}
 use Rattle.plain_table.specs.Refusing.{wrongWidth}
-use Rattle.plain_table.specs.Plain.{Plain}
-use Rattle.archive.specs.Archive.{resized}
 
 -- two openings with the same columns and keys
 pub record SameShape (o o′ : Opening) : Type 0 where

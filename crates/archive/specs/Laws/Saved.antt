@@ -1,32 +1,9 @@
 -- The words that `write_image` leaves are an image of the table, of a sound one if the table is. Assumes nothing.
-use Prim.Native.Nat.{ℕ, zero, suc, _+_, _*_, _/_, _≤_}
-use mathlib.Core.Path.{_≡_, refl, sym, ap, _∙_}
-use mathlib.Core.Bool.{true, false}
-use mathlib.Core.List.{List, [], _∷_, _++_}
-use mathlib.Core.Option.{Option, none, some}
-use native.Mathlib.Nat.{le-refl, mul-le-mul-right}
-use native.Mathlib.Omega.{arith}
-use lib.ListN.{length, take, drop, length-append}
-use lib.Seq.{length-take-le, take-take, take-at}
-use borrow.Author.Tests.{ltb-false, le-leb, eq-eqb}
+use Rattle.archive.specs.Laws.Prelude.{ℕ, zero, suc, _+_, _*_, _/_, _≤_, _≡_, refl, sym, ap, _∙_, true, false, List, [], _∷_, _++_, Option, none, some, le-refl, mul-le-mul-right, arith, length, take, drop, length-append, length-take-le, take-take, take-at, ltb-false, le-leb, eq-eqb, crc32, bytesOf, firstRefusal-no, firstRefusal-rest, Plain, Header, openingOf, SoundContents, Stores, Represents, represents-long, represents-inside, Inside, outside-inside, holds-fits, represents-sound, encodeHeader, Parts, image-parts, parts-image, length-encoded, length-packed, Saved}
 use Rattle.lists.specs.Lists.{splice}
 use Rattle.refusals.specs.Refusals.{Reply, refused, accepted, reply}
-use Rattle.crc32.specs.Crc.{crc32, bytesOf}
-use Rattle.plain_table.specs.Laws.Calls.{firstRefusal-no, firstRefusal-rest}
-use Rattle.plain_table.specs.Plain.{Plain}
-use Rattle.table.specs.declared.Header.{Header}
-use Rattle.table.specs.Numbers.{openingOf}
-use Rattle.table.specs.Sound.{SoundContents}
-use Rattle.table.specs.Contracts.{Stores, Represents}
-use Rattle.table.specs.Laws.Shown.{represents-long, represents-inside}
-use Rattle.table.specs.Laws.Refusals.{Inside, outside-inside}
-use Rattle.table.specs.Laws.Pending.{holds-fits}
-use Rattle.table.specs.Laws.Sound.{represents-sound}
-use Rattle.abi.specs.Encoding.{encodeHeader}
 use Rattle.image_spec.specs.Image.{Image, packed, imageBody, imageWords, isImage, Reads, reads, SoundImage, imageOf, imageLength}
 use Rattle.image_spec.specs.Contracts.{lengthView, writeRefusal}
-use Rattle.image_spec.specs.Laws.Unique.{Parts, image-parts, parts-image, length-encoded, length-packed}
-use Rattle.archive.specs.Archive.{Saved}
 use Rattle.archive.specs.Laws.Contents.{SameInUse, contents-same}
 
 -- ---- lengths

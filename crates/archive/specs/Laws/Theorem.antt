@@ -1,49 +1,10 @@
 -- What archives guarantee. Assumes nothing but the contracts that the definitions cite.
-use Prim.Native.Nat.{ℕ, zero, suc, _*_, _≤_}
-use mathlib.Core.Path.{_≡_, refl, sym, ap, _∙_}
-use mathlib.Core.Bool.{Bool, true, false, not, _||_}
-use mathlib.Core.List.{List, [], _∷_, _++_}
-use mathlib.Core.Logic.{inl, inr}
-use mathlib.Core.Option.{Option, none, some}
-use native.Mathlib.Nat.{mul-le-mul-right}
-use native.Mathlib.Omega.{arith}
-use lib.ListN.{length, take}
-use mathlib.Core.List.{append-nil}
-use lib.Dec.{ltb, eqb}
-use lib.Seq.{take-all}
-use borrow.Author.Tests.{ltb-false, ne-eqb, not-false, le-ltb}
-use Rattle.lists.specs.Lists.{splice}
-use Rattle.lists.specs.Laws.All.{or-no-left, or-no-right}
-use Rattle.lists.specs.Laws.Parts.{length-splice}
+use Rattle.archive.specs.Laws.Prelude.{ℕ, zero, suc, _*_, _≤_, _≡_, refl, sym, ap, _∙_, Bool, true, false, not, _||_, List, [], _∷_, _++_, inl, inr, Option, none, some, mul-le-mul-right, arith, length, take, append-nil, ltb, eqb, take-all, ltb-false, ne-eqb, not-false, le-ltb, splice, or-no-left, or-no-right, length-splice, Opening, storesShort, Plain, opened, LentCall, after, afterAll, firstRefusal-no, firstRefusal-rest, Header, TableAnswer, Table, Sound, Stores, stores, Body, body, bodyOf, joined, lengths, Represents, LongEnough, stores-long, Inside, outside-inside, sound-represents, live-shown, long-header, pending-part, pending-more, body-part, body-more, Length, LengthAnswer, Image, imageWords, SoundImage, imageOf, Parts, image-parts, reads-unique, behind, Step, step-represents, history-represents, narrowed-wanted, narrowed-rising, run-narrows, Saved, resized, ReadAfterWrite, TextAfterWrite, ImageOfLoaded, Reloaded, reloaded, Archived, made, loads, goes-on, Archives}
 use Rattle.refusals.specs.Refusals.{check, firstRefusal, Reply, refused, accepted, reply, outcome}
-use Rattle.plain_table.specs.Staged.{Opening}
-use Rattle.plain_table.specs.Refusing.{storesShort}
-use Rattle.plain_table.specs.Plain.{Plain, opened}
-use Rattle.plain_table.specs.Calls.{LentCall, after, afterAll}
-use Rattle.plain_table.specs.Laws.Calls.{firstRefusal-no, firstRefusal-rest}
-use Rattle.table.specs.declared.Header.{Header}
-use Rattle.table.specs.declared.TableAnswer.{TableAnswer}
-use Rattle.table.specs.declared.TableAnswer.the-variants.{Table}
 use Rattle.table.specs.Numbers.{openingOf, tableView}
 use Rattle.table.specs.Refusing.{outside, pendingOutside, rowsShort, pairsShort, soundRefusal}
-use Rattle.table.specs.Sound.{Sound}
-use Rattle.table.specs.Contracts.{Stores, stores, Body, body, bodyOf, joined, lengths, Represents}
-use Rattle.table.specs.Laws.Shown.{LongEnough, stores-long}
-use Rattle.table.specs.Laws.Refusals.{Inside, outside-inside}
-use Rattle.table.specs.Laws.Sound.{sound-represents}
-use Rattle.table.specs.Laws.Live.{live-shown}
-use Rattle.table.specs.Laws.Fronts.{long-header, pending-part, pending-more, body-part, body-more}
-use Rattle.image_spec.specs.declared.LengthAnswer.the-variants.{Length}
-use Rattle.image_spec.specs.declared.LengthAnswer.{LengthAnswer}
-use Rattle.image_spec.specs.Image.{Image, imageWords, SoundImage, imageOf}
 use Rattle.image_spec.specs.Contracts.{lengthView, writeRefusal, withCapacity, readRefusal, Loaded, ImageRead, textRefusal, textOf, TextRead}
-use Rattle.image_spec.specs.Laws.Unique.{Parts, image-parts, reads-unique}
-use Rattle.history.specs.Histories.{behind, Step}
 use Rattle.history.specs.Claim.{liveIn, Claimed}
-use Rattle.history.specs.Laws.Calls.{step-represents, history-represents}
-use Rattle.history.specs.Laws.Narrowing.{narrowed-wanted, narrowed-rising}
-use Rattle.history.specs.Laws.Theorem.{run-narrows}
-use Rattle.archive.specs.Archive.{Saved, resized, ReadAfterWrite, TextAfterWrite, ImageOfLoaded, Reloaded, reloaded, Archived, made, loads, goes-on, Archives}
 use Rattle.archive.specs.Laws.Contents.{SameInUse, contents-same}
 use Rattle.archive.specs.Laws.Resized.{SameShape, all-words-same, all-widths-same}
 use Rattle.archive.specs.Laws.Saved.{accepted-number, savedImage, saved-reads}

@@ -1,6 +1,5 @@
 -- `bitmap::mark` meets its contract. Assumes nothing.
-use lib.ListN.{length-set}
-use borrow.Author.Needs.{needs}
+use Rattle.bitmap.proofs.Prelude.{length-set, needs}
 use Rattle.bitmap.proofs.Marking.{marked-new, marked-already}
 use Rattle.bitmap.proofs.mark.Statement.{statement}
 use Rattle.bitmap.proofs.mark.Tie as tie

@@ -1,20 +1,6 @@
 -- Laws of bitmaps: all words of 64 bits are one; the empty bitmap; setting one bit; passes that set one bit after another. Assumes
 -- nothing.
-use Prim.Native.Nat.{ℕ, zero, suc, _+_, _*_, _/_, _%_, _^_, _≤_, _<_}
-use mathlib.Core.Path.{_≡_, refl, sym, ap, _∙_}
-use mathlib.Core.Logic.{inl, inr}
-use mathlib.Core.Bool.{Bool, true, false, cond, _||_, false≢true}
-use mathlib.Core.List.{List}
-use native.Mathlib.Nat.{add-zero, add-assoc, mod-eq-of-lt}
-use native.Mathlib.Decide.{decLt}
-use native.Mathlib.Numerals.{one-add}
-use native.Mathlib.Omega.{arith}
-use lib.Dec.{eqb}
-use lib.ListN.{length, getD, replicate, length-replicate, getD-replicate}
-use lib.Pow.{mod-pow-add}
-use borrow.Author.Tests.{eq-eqb, ne-eqb, eqb-true}
-use Rattle.lists.specs.Laws.Filter.{split}
-use Rattle.lists.specs.Laws.All.{or-right, or-second}
+use Rattle.bitmap.specs.Laws.Prelude.{ℕ, zero, suc, _+_, _*_, _/_, _%_, _^_, _≤_, _<_, _≡_, refl, sym, ap, _∙_, inl, inr, Bool, true, false, cond, _||_, false≢true, List, add-zero, add-assoc, mod-eq-of-lt, decLt, one-add, arith, eqb, length, getD, replicate, length-replicate, getD-replicate, mod-pow-add, eq-eqb, ne-eqb, eqb-true, split, or-right, or-second}
 use Rattle.bitmap.specs.Laws.Lowest.{bitmapWord-same}
 use Rattle.row_buffer.specs.Ranks.{bitmapWord, countTo}
 use Rattle.bitmap.specs.inner.Bitmaps.{Bitmap, bitOf, Summarised, MarkedOne, Marked}

@@ -1,17 +1,6 @@
 -- Laws of a bitmap word read from its lowest set bit up: its position, and the word without it. Assumes nothing.
-use Prim.Native.Nat.{ℕ, zero, suc, _+_, _-_, _*_, _/_, _%_, _^_, _≤_, _<_, min}
-use mathlib.Core.Path.{_≡_, refl, sym, _∙_}
-use mathlib.Core.Logic.{inl, inr}
-use mathlib.Core.Bool.{Bool, true, false, cond, _&&_, false≢true}
-use native.Mathlib.Nat.{pow-suc}
-use native.Mathlib.Decide.{decLt}
-use native.Mathlib.Omega.{arith}
-use lib.Bits.{bitAnd, and-step, and-self}
+use Rattle.bitmap.specs.Laws.Prelude.{ℕ, zero, suc, _+_, _-_, _*_, _/_, _%_, _^_, _≤_, _<_, min, _≡_, refl, sym, _∙_, inl, inr, Bool, true, false, cond, _&&_, false≢true, pow-suc, decLt, arith, bitAnd, and-step, and-self, leb, pow-pos, le-leb, lt-leb, split}
 use lib.Count.{trailingZeros}
-use lib.Dec.{leb}
-use lib.Pow.{pow-pos}
-use borrow.Author.Tests.{le-leb, lt-leb}
-use Rattle.lists.specs.Laws.Filter.{split}
 use Rattle.row_buffer.specs.Ranks.{bitmapWord}
 
 -- the bitmap words of two tests that agree

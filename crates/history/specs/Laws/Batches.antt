@@ -1,28 +1,10 @@
 -- A batch of inserts may be cut anywhere. Assumes nothing but the contracts that batches consist of.
-use Prim.Native.Nat.{ℕ}
-use mathlib.Core.Path.{_≡_, sym, ap, _∙_}
-use mathlib.Core.List.{List, map}
-use native.Mathlib.Omega.{arith}
-use lib.ListN.{length}
+use Rattle.history.specs.Laws.Prelude.{ℕ, _≡_, sym, ap, _∙_, List, map, arith, length, insert, Header, Merge, Merged, Table, stageRefusal, mergeRefusal, accepted-number, stage-accepted, merge-accepted, staging-done, merging-done, pending-part, pending-more, body-part, body-more, sound-represents, live-shown, behind}
 use Rattle.refusals.specs.Refusals.{Reply, accepted, outcome}
-use Rattle.plain_table.specs.Staged.{insert}
 use Rattle.plain_table.specs.Plain.{Plain, Numbered, merged as mergedPlain, stage as stagePlain}
 use Rattle.plain_table.specs.Laws.Batches.{batch, liveCells, cut-anywhere}
-use Rattle.table.specs.declared.Header.{Header}
-use Rattle.table.specs.declared.Merge.{Merge}
-use Rattle.table.specs.declared.MergeAnswer.the-variants.{Merged}
-use Rattle.table.specs.declared.TableAnswer.the-variants.{Table}
 use Rattle.table.specs.Numbers.{tableView, mergeView}
-use Rattle.table.specs.Refusing.{stageRefusal, mergeRefusal}
 use Rattle.table.specs.Contracts.{Stores, Body, bodyOf, joined, CompactionWords, lengthsLent, Represents, headerAfter, headerMerged, mergeOf, Staging, Merging}
-use Rattle.table.specs.Laws.Replies.{accepted-number}
-use Rattle.table.specs.Laws.Staging.{stage-accepted}
-use Rattle.table.specs.Laws.Refusals.{merge-accepted}
-use Rattle.table.specs.Laws.Keeps.{staging-done, merging-done}
-use Rattle.table.specs.Laws.Fronts.{pending-part, pending-more, body-part, body-more}
-use Rattle.table.specs.Laws.Sound.{sound-represents}
-use Rattle.table.specs.Laws.Live.{live-shown}
-use Rattle.history.specs.Histories.{behind}
 use Rattle.history.specs.Claim.{liveIn}
 use Rattle.history.specs.Batches.{Batch, merge, stage, liveCellsIn, CutAnywhere}
 

@@ -1,36 +1,11 @@
 -- Every call takes stores that show a plain table to stores that show the plain table after the same call. So does a history.
 -- Assumes nothing.
-use Prim.Native.Nat.{ℕ, _*_, _≤_, _<_}
-use mathlib.Core.Path.{_≡_, refl, sym, _∙_}
-use mathlib.Core.Logic.{inl, inr}
-use mathlib.Core.List.{List, [], append-nil}
-use native.Mathlib.Omega.{arith}
-use lib.ListN.{length}
+use Rattle.history.specs.Laws.Prelude.{ℕ, _*_, _≤_, _<_, _≡_, refl, sym, _∙_, inl, inr, List, [], append-nil, arith, length, some-number, Opening, Staged, Plain, opened, Refresh, refused-nothing, accepted-done, whole-right, TableAnswer, MergeAnswer, stageRefusal, mergeRefusal, compactRefusal, clearRefusal, Stores, Represents, headerAfter, headerMerged, Staging, Merging, Compacting, Clearing, Body, body, bodyOf, joined, CompactionWords, lengthsLent, stage-checks, merge-checks, compact-checks, clear-checks, stage-accepted, merge-accepted, compact-accepted, clear-accepted, opening-done, staging-done, staging-refused, merging-done, merging-refused, compacting-done, compacting-refused, clearing-done, clearing-refused, pending-part, pending-more, rows-part, rows-more, keys-part, keys-more, body-part, body-more, RefreshAnswer, IndexSound, refreshView, recordsStaged, headerRefreshed, Refreshing, refresh-checks, records-all, records-whole, number, found-records, passed, refreshing-done, refreshing-refused, fed-accepted, fed-refused, lentCall, Called, stages, merges, compacts, clears, refreshes, refreshes-unsound, behind, Step, called, Steps, end, next, History}
 use Rattle.lists.specs.Lists.{any}
 use Rattle.refusals.specs.Refusals.{firstRefusal}
-use Rattle.refusals.specs.Laws.Replies.{some-number}
-use Rattle.plain_table.specs.Staged.{Opening, Staged}
-use Rattle.plain_table.specs.Plain.{Plain, opened}
 use Rattle.plain_table.specs.Refusing.{Lengths, storesShort, wordsShort, compactChecks}
-use Rattle.plain_table.specs.Refreshing.{Refresh}
 use Rattle.plain_table.specs.Calls.{Call, staging, merging, compacting, clearing, refreshing, feeding, recordsOf, stageAll, refusal, done, after, LentCall, afterAll}
-use Rattle.plain_table.specs.Laws.Calls.{refused-nothing, accepted-done}
-use Rattle.plain_table.specs.Laws.Refreshing.{whole-right}
-use Rattle.table.specs.declared.TableAnswer.{TableAnswer}
-use Rattle.table.specs.declared.MergeAnswer.{MergeAnswer}
 use Rattle.table.specs.Numbers.{tableView, mergeView}
-use Rattle.table.specs.Refusing.{stageRefusal, mergeRefusal, compactRefusal, clearRefusal}
-use Rattle.table.specs.Contracts.{Stores, Represents, headerAfter, headerMerged, Staging, Merging, Compacting, Clearing, Body, body, bodyOf, joined, CompactionWords, lengthsLent}
-use Rattle.table.specs.Laws.Checks.{stage-checks, merge-checks, compact-checks, clear-checks}
-use Rattle.table.specs.Laws.Staging.{stage-accepted}
-use Rattle.table.specs.Laws.Refusals.{merge-accepted, compact-accepted, clear-accepted}
-use Rattle.table.specs.Laws.Keeps.{opening-done, staging-done, staging-refused, merging-done, merging-refused, compacting-done, compacting-refused, clearing-done, clearing-refused}
-use Rattle.table.specs.Laws.Fronts.{pending-part, pending-more, rows-part, rows-more, keys-part, keys-more, body-part, body-more}
-use Rattle.refresh_spec.specs.declared.RefreshAnswer.{RefreshAnswer}
-use Rattle.refresh_spec.specs.Index.{IndexSound}
-use Rattle.refresh_spec.specs.Refreshes.{refreshView, recordsStaged, headerRefreshed, Refreshing}
-use Rattle.refresh_spec.specs.Laws.Keeps.{refresh-checks, records-all, records-whole, number, found-records, passed, refreshing-done, refreshing-refused, fed-accepted, fed-refused}
-use Rattle.history.specs.Histories.{lentCall, Called, stages, merges, compacts, clears, refreshes, refreshes-unsound, behind, Step, called, Steps, end, next, History}
 
 -- ---- the calls
 

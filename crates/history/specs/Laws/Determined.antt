@@ -1,27 +1,8 @@
 -- The outcome of calls is determined by the table and the cells before them, whatever each call chose for the key store: the same
 -- calls on two tables that differ only in the key store leave two tables that differ only there. Assumes nothing.
-use Prim.Native.Nat.{ℕ, zero, suc, _<_}
-use mathlib.Core.Path.{_≡_, refl, sym, ap, _∙_}
-use mathlib.Core.Bool.{cond}
-use mathlib.Core.List.{List, [], _∷_, _++_, map}
-use native.Mathlib.Omega.{arith}
-use lib.Dec.{eqb}
-use lib.ListN.{length, take, drop}
-use borrow.Author.Tests.{ne-eqb}
-use Rattle.lists.specs.Lists.{splice, rowsOf, flatten}
-use Rattle.plain_table.specs.Plain.{Plain, applied, merged, compacted}
+use Rattle.history.specs.Laws.Prelude.{ℕ, zero, suc, _<_, _≡_, refl, sym, ap, _∙_, cond, List, [], _∷_, _++_, map, arith, eqb, length, take, drop, ne-eqb, splice, rowsOf, flatten, Plain, applied, merged, compacted, Header, compactRefusal, rowStore, sortStore, recordWords, Stores, Body, bodyOf, joined, lengthsLent, Represents, mergedStore, MergedTable, CompactedTable, stage-checks, merge-checks, compact-checks, merge-accepted, compact-accepted, pending-part, body-part, refreshView, recordsStaged, found-records, passed, fed-written, lentCall, Called, stages, merges, compacts, clears, refreshes, refreshes-unsound, behind, Step, called, Steps, end, next}
 use Rattle.plain_table.specs.Refusing.{storesShort, wordsShort, compactChecks}
 use Rattle.plain_table.specs.Calls.{Call, staging, merging, compacting, clearing, refreshing, feeding, recordsOf, refusal, LentCall}
-use Rattle.table.specs.declared.Header.{Header}
-use Rattle.table.specs.Refusing.{compactRefusal}
-use Rattle.table.specs.Stores.{rowStore, sortStore, recordWords}
-use Rattle.table.specs.Contracts.{Stores, Body, bodyOf, joined, lengthsLent, Represents, mergedStore, MergedTable, CompactedTable}
-use Rattle.table.specs.Laws.Checks.{stage-checks, merge-checks, compact-checks}
-use Rattle.table.specs.Laws.Refusals.{merge-accepted, compact-accepted}
-use Rattle.table.specs.Laws.Fronts.{pending-part, body-part}
-use Rattle.refresh_spec.specs.Refreshes.{refreshView, recordsStaged}
-use Rattle.refresh_spec.specs.Laws.Keeps.{found-records, passed, fed-written}
-use Rattle.history.specs.Histories.{lentCall, Called, stages, merges, compacts, clears, refreshes, refreshes-unsound, behind, Step, called, Steps, end, next}
 use Rattle.history.specs.Laws.Calls.{own-records, refresh-same, fed-right, step-represents}
 
 -- equal in everything but the key store

@@ -1,12 +1,5 @@
 -- Calls that are lent the whole stores, and histories that continue: calls after calls, and calls after a history. Assumes nothing.
-use Prim.Native.Nat.{ℕ}
-use mathlib.Core.Path.{_≡_}
-use mathlib.Core.List.{List, [], _++_, append-nil}
-use Rattle.plain_table.specs.Staged.{Opening}
-use Rattle.plain_table.specs.Calls.{LentCall}
-use Rattle.table.specs.declared.TableAnswer.the-variants.{Table}
-use Rattle.table.specs.Contracts.{Stores, stores, body, Opened}
-use Rattle.history.specs.Histories.{Called, behind, Step, called, Steps, end, next, History}
+use Rattle.history.specs.Laws.Prelude.{ℕ, _≡_, List, [], _++_, append-nil, Opening, LentCall, Table, Stores, stores, body, Opened, Called, behind, Step, called, Steps, end, next, History}
 
 -- no cells are behind the lent part
 pub behind-nothing : (s : Stores) → behind s (body [] [] []) [] ≡ s

@@ -1,11 +1,6 @@
 -- An example: store lengths differ from call to call. A table of 3 columns and capacity 4 is opened, a compaction is lent 11 of its
 -- 12 row cells and therefore refused, and a merge that is lent all of them is accepted. Assumes nothing.
-use Prim.Native.Nat.{ℕ}
-use mathlib.Core.Path.{_≡_, refl, sym, ap}
-use mathlib.Core.List.{List, [], _∷_}
-use mathlib.Core.Option.{Option, none, some}
-use native.Mathlib.Omega.{arith}
-use lib.ListN.{length}
+use Rattle.history.specs.Laws.Prelude.{ℕ, _≡_, refl, sym, ap, List, [], _∷_, Option, none, some, arith, length, merging, compacting, Header, Merge, Merged, emptyHeader, empty-represents, opened-done}
 use Rattle.lists.specs.Lists.{splice, count, rowsOf, flatten}
 use Rattle.refusals.specs.Refusals.{firstRefusal, reply, outcome}
 use Rattle.sort_entries.specs.Entries.{entryWords, rebuiltFrom, rebuilt}
@@ -13,17 +8,12 @@ use Rattle.key_index.specs.Slots.{sizeClass, sizeClassFor}
 use Rattle.plain_table.specs.Staged.{Opening, openable, Staged, insert, removeKey, removeRow, wordsOf, wordsAll, inserts, compactionDue}
 use Rattle.plain_table.specs.Refusing.{Lengths, storesShort, wordsShort, openRefusal, compactChecks, mergeChecks}
 use Rattle.plain_table.specs.Plain.{Plain, Row, dead, opened, removed, insertAll, applied, unstaged, compactsAfter, merged}
-use Rattle.plain_table.specs.Calls.{merging, compacting}
 use Rattle.table.specs.declared.Largest.the-variants.{None as NoLargest}
-use Rattle.table.specs.declared.Header.{Header}
 use Rattle.table.specs.declared.TableAnswer.the-variants.{Refused as TableRefused, Table}
-use Rattle.table.specs.declared.Merge.{Merge}
-use Rattle.table.specs.declared.MergeAnswer.the-variants.{Merged}
 use Rattle.table.specs.Numbers.{openingOf, largestOf, tableView, mergeView}
 use Rattle.table.specs.Refusing.{outside, pendingOutside, mergeRefusal, compactRefusal}
 use Rattle.table.specs.Stores.{entries, stored, rowStore, sortStore}
 use Rattle.table.specs.Contracts.{Stores, stores, Represents, body, CompactionWords, compactionWords, headerAfter, headerMerged, mergeOf, mergedStore, Opened, Merging, MergedTable, Compacting}
-use Rattle.table.specs.Laws.Opening.{emptyHeader, empty-represents, opened-done}
 use Rattle.history.specs.Histories.{merges as merge-called, compacts as compact-called, called, end, next, History}
 
 -- ---- a table that was just opened

@@ -1,35 +1,20 @@
 -- Store lengths differ from query to query: a refine that is lent exactly capacity × columns cells of a longer row store, one that
 -- is lent one cell less, which is refused with 2 and counts for nothing, and one that is lent as many as the first. The claim holds
 -- for them in every history; and an example. Assumes nothing.
-use Prim.Native.Nat.{ℕ, _-_, _*_, _<_}
-use mathlib.Core.Path.{_≡_, refl, sym, ap, _∙_}
-use mathlib.Core.Bool.{true}
-use mathlib.Core.List.{List, [], _∷_}
-use native.Mathlib.Nat.{mul-le-mul-right}
-use native.Mathlib.Omega.{arith}
-use lib.ListN.{length, take, length-take}
-use borrow.Author.Tests.{lt-ltb}
+use Rattle.history.specs.Laws.Prelude.{ℕ, _-_, _*_, _<_, _≡_, refl, sym, ap, _∙_, true, List, [], _∷_, mul-le-mul-right, arith, length, take, length-take, lt-ltb, Constraint, Plain, LentCall, Stores, stores, Represents, body, emptyHeader, opened-done, outside-inside, represents-inside, wanted}
 use Rattle.lists.specs.Lists.{splice, filter, all, any, rising}
 use Rattle.refusals.specs.Refusals.{firstRefusal, Reply, refused, accepted, reply}
 use Rattle.offsets.specs.Subsets.{Subset, range, members, retain}
 use Rattle.offsets.specs.Laws.Subsets.{members-retain}
 use Rattle.offsets.specs.Laws.Forms.{size-range, end-range, formed-range, length-range}
-use Rattle.constraints.specs.declared.Constraint.{Constraint}
 use Rattle.constraints.specs.Constraints.{known}
 use Rattle.key_index.specs.Slots.{sizeClass, sizeClassFor}
 use Rattle.plain_table.specs.Staged.{Opening, openable}
 use Rattle.plain_table.specs.Refusing.{storesShort, openRefusal}
-use Rattle.plain_table.specs.Plain.{Plain}
-use Rattle.plain_table.specs.Calls.{LentCall}
 use Rattle.table.specs.Refusing.{outside, rowsShort}
-use Rattle.table.specs.Contracts.{Stores, stores, Represents, body}
-use Rattle.table.specs.Laws.Opening.{emptyHeader, opened-done}
-use Rattle.table.specs.Laws.Refusals.{outside-inside}
-use Rattle.table.specs.Laws.Shown.{represents-inside}
 use Rattle.query_spec.specs.Queries.{matches, pastRows, queryChecks, refineRefusal, refineOneReply}
 use Rattle.history.specs.Histories.{end as no-calls, History}
 use Rattle.history.specs.Runs.{refineOne, refines, byReply, Queried, one-refined, Run, end, next}
-use Rattle.history.specs.Claim.{wanted}
 use Rattle.history.specs.Laws.Calls.{history-represents}
 use Rattle.history.specs.Laws.Queries.{by-reply}
 use Rattle.history.specs.Laws.Theorem.{term-three}

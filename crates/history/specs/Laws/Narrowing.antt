@@ -1,19 +1,7 @@
 -- The ids that accepted queries leave: how they start, how each query changes them, and that they end as the wanted ids. Assumes
 -- nothing.
-use Prim.Native.Nat.{ℕ, _<_}
-use mathlib.Core.Path.{_≡_, refl, sym, ap, _∙_}
-use mathlib.Core.Logic.{inl, inr}
-use mathlib.Core.Bool.{Bool, true, false, _&&_, _||_, and-true, and-false, false≢true}
-use mathlib.Core.List.{List, [], _∷_, _++_}
-use lib.Dec.{ltb}
-use borrow.Author.Tests.{ltb-true, lt-ltb}
+use Rattle.history.specs.Laws.Prelude.{ℕ, _<_, _≡_, refl, sym, ap, _∙_, inl, inr, Bool, true, false, _&&_, _||_, and-true, and-false, false≢true, List, [], _∷_, _++_, ltb, ltb-true, lt-ltb, split, and-left, and-right, or-second, rising-filter, rising-ext, elem-filter, isLive, Stores, Query, refines}
 use Rattle.lists.specs.Lists.{filter, all, any, rising, elem, rowAt}
-use Rattle.lists.specs.Laws.Filter.{split, and-left, and-right}
-use Rattle.lists.specs.Laws.All.{or-second}
-use Rattle.lists.specs.Laws.Rising.{rising-filter, rising-ext, elem-filter}
-use Rattle.constraints.specs.Constraints.{isLive}
-use Rattle.table.specs.Contracts.{Stores}
-use Rattle.history.specs.Runs.{Query, refines}
 use Rattle.history.specs.Claim.{satisfies, wanted}
 
 -- ---- tests of an id

@@ -1,32 +1,10 @@
 -- An accepted note guarantees what its copy holds. Assumes nothing but the contracts that histories consist of, and that of the
 -- rows since a noted version.
-use Prim.Native.Nat.{ℕ, _+_, _-_, _≤_, _<_}
-use mathlib.Core.Path.{_≡_, sym, ap, _∙_}
-use mathlib.Core.Bool.{true, false}
-use mathlib.Core.Logic.{_⊎_, inl, inr}
-use mathlib.Core.List.{_++_}
-use mathlib.Core.Option.{some}
-use native.Mathlib.Nat.{zero-add}
-use native.Mathlib.Omega.{arith}
-use lib.ListN.{length, drop}
-use Rattle.lists.specs.Lists.{filter, elem}
-use Rattle.lists.specs.Laws.Filter.{split}
-use Rattle.lists.specs.Laws.Rising.{within-of, within-below}
+use Rattle.history.specs.Laws.Prelude.{ℕ, _+_, _-_, _≤_, _<_, _≡_, sym, ap, _∙_, true, false, _⊎_, inl, inr, _++_, some, zero-add, arith, length, drop, filter, elem, split, within-of, within-below, isLive, rowOf, afterAll, Follows, onward-all, follows-at, follows-length, follows-live, live-behind, Header, Stores, Represents, row-shown, rows-counted, noted-accepted, storedRow, Guaranteed, OldNote, accepted-number, accepted-same, live-shown}
 use Rattle.offsets.specs.Subsets.{Subset, range, members}
 use Rattle.offsets.specs.Laws.Forms.{elem-range}
-use Rattle.constraints.specs.Constraints.{isLive}
 use Rattle.plain_table.specs.Plain.{Row, Plain, liveFrom, liveRows, opened}
-use Rattle.plain_table.specs.Proper.{rowOf}
-use Rattle.plain_table.specs.Calls.{afterAll}
-use Rattle.plain_table.specs.Laws.Notes.{Follows, onward-all, follows-at, follows-length, follows-live, live-behind}
-use Rattle.table.specs.declared.Header.{Header}
-use Rattle.table.specs.Contracts.{Stores, Represents}
-use Rattle.table.specs.Laws.Shown.{row-shown, rows-counted}
-use Rattle.table.specs.Laws.Refusals.{noted-accepted}
 use Rattle.history.specs.Claim.{liveIn}
-use Rattle.history.specs.Notes.{storedRow, Guaranteed, OldNote}
-use Rattle.table.specs.Laws.Replies.{accepted-number, accepted-same}
-use Rattle.table.specs.Laws.Live.{live-shown}
 use Rattle.history.specs.Laws.Calls.{history-represents, steps-represents}
 
 pub generation-shown : {p : Plain} {s : Stores} → Represents p s → s .header .generation ≡ p .generation

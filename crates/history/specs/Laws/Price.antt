@@ -1,32 +1,9 @@
 -- The price of compaction for every history, from the contracts alone. Assumes nothing.
-use Prim.Native.Nat.{ℕ, _+_, _≤_, _<_}
-use mathlib.Core.Path.{_≡_, refl, sym, ap, _∙_}
-use mathlib.Core.Logic.{inl, inr}
-use mathlib.Core.List.{List, [], _++_}
-use native.Mathlib.Omega.{arith}
-use lib.ListN.{length}
-use borrow.Author.Tests.{eq-eqb, ne-eqb}
-use Rattle.refusals.specs.Refusals.{Reply, refused, accepted}
-use Rattle.refusals.specs.Laws.Replies.{some-number, ruled-refused}
+use Rattle.history.specs.Laws.Prelude.{ℕ, _+_, _≤_, _<_, _≡_, refl, sym, ap, _∙_, inl, inr, List, [], _++_, arith, length, eq-eqb, ne-eqb, Reply, refused, accepted, some-number, ruled-refused, refused-nothing, accepted-done, live-dead, compacted-live, merged-rows, merged-price, Header, Merge, TableAnswer, MergeAnswer, tableView, mergeView, mergeRefusal, compactRefusal, clearRefusal, Stores, Represents, mergeOf, Merging, Compacting, Clearing, Body, bodyOf, joined, CompactionWords, lengthsLent, merge-checks, compact-checks, clear-checks, merge-accepted, compact-accepted, clear-accepted, pending-part, keys-part, body-part, cleared-rows, rows-counted, lentCall, Called, stages, merges, compacts, clears, refreshes, refreshes-unsound, behind, called, Steps, end, next}
 use Rattle.plain_table.specs.Plain.{Plain, opened, stage, dead, mergeKeeps, mergeDrops}
 use Rattle.plain_table.specs.Refusing.{storesShort, wordsShort, compactChecks}
 use Rattle.plain_table.specs.Calls.{merging, compacting, clearing, stageAll, refusal, done, after, LentCall, afterAll}
 use Rattle.plain_table.specs.Appending.{mergeOrClear, byCall, mergeCount, sumOverMerges, mergeAdds}
-use Rattle.plain_table.specs.Laws.Calls.{refused-nothing, accepted-done}
-use Rattle.plain_table.specs.Laws.Price.{live-dead, compacted-live, merged-rows, merged-price}
-use Rattle.table.specs.declared.Header.{Header}
-use Rattle.table.specs.declared.Merge.{Merge}
-use Rattle.table.specs.declared.TableAnswer.{TableAnswer}
-use Rattle.table.specs.declared.MergeAnswer.{MergeAnswer}
-use Rattle.table.specs.Numbers.{tableView, mergeView}
-use Rattle.table.specs.Refusing.{mergeRefusal, compactRefusal, clearRefusal}
-use Rattle.table.specs.Contracts.{Stores, Represents, mergeOf, Merging, Compacting, Clearing, Body, bodyOf, joined, CompactionWords, lengthsLent}
-use Rattle.table.specs.Laws.Checks.{merge-checks, compact-checks, clear-checks}
-use Rattle.table.specs.Laws.Refusals.{merge-accepted, compact-accepted, clear-accepted}
-use Rattle.table.specs.Laws.Fronts.{pending-part, keys-part, body-part}
-use Rattle.table.specs.Laws.Opening.{cleared-rows}
-use Rattle.table.specs.Laws.Shown.{rows-counted}
-use Rattle.history.specs.Histories.{lentCall, Called, stages, merges, compacts, clears, refreshes, refreshes-unsound, behind, called, Steps, end, next}
 use Rattle.history.specs.Price.{Wear, wear, counted, wearOfCall, wearOfSteps, PriceOfCompaction}
 use Rattle.history.specs.Laws.Calls.{step-represents, opened-represents, history-represents}
 

@@ -1,41 +1,13 @@
 -- Each query, accepted or refused, narrows the ids that it is given by its own condition or subset, if it counts. Assumes nothing.
-use Prim.Native.Nat.{ℕ, _+_, _*_, _≤_, _<_}
-use mathlib.Core.Path.{_≡_, refl, sym, ap, _∙_}
-use mathlib.Core.Logic.{inl, inr}
-use mathlib.Core.Bool.{Bool, true, not, _||_, and-true, false≢true}
-use mathlib.Core.Option.{Option, some}
-use mathlib.Core.List.{List, [], _∷_}
-use native.Mathlib.Nat.{mul-le-mul-right}
-use native.Mathlib.Omega.{arith}
-use lib.ListN.{length, take, getD, length-take}
-use lib.Seq.{take-take}
-use lib.Dec.{eqb}
-use borrow.Author.Tests.{ltb-false, leb-true, eqb-true, eqb-false, ne-eqb, not-false}
+use Rattle.history.specs.Laws.Prelude.{ℕ, _+_, _*_, _≤_, _<_, _≡_, refl, sym, ap, _∙_, inl, inr, Bool, true, not, _||_, and-true, false≢true, Option, some, List, [], _∷_, mul-le-mul-right, arith, length, take, getD, length-take, take-take, eqb, ltb-false, leb-true, eqb-true, eqb-false, ne-eqb, not-false, split, and-left, length-filter, count-le, elem-at, filter-elem-comm, or-no-left, or-no-right, getD-rowsOf, rowsOf-same, Reply, refused, accepted, Constraint, Entry, entriesOf, fastRange, fast-range, entriesOf-same, Plain, firstRefusal-no, firstRefusal-rest, Header, RangeAnswer, rangeView, represents-sound, outside-inside, rows-long-of, fast-accepted, outcome-accepted, accepted-number, accepted-same}
 use Rattle.lists.specs.Lists.{filter, all, elem, rowAt, rising}
-use Rattle.lists.specs.Laws.Filter.{split, and-left, length-filter, count-le}
-use Rattle.lists.specs.Laws.Rising.{elem-at, filter-elem-comm}
-use Rattle.lists.specs.Laws.All.{or-no-left, or-no-right}
-use Rattle.lists.specs.Laws.Rows.{getD-rowsOf, rowsOf-same}
-use Rattle.refusals.specs.Refusals.{Reply, refused, accepted}
 use Rattle.offsets.specs.declared.SubsetAnswer.{SubsetAnswer}
 use Rattle.offsets.specs.Subsets.{Subset, wellFormed, members, size, endOf, retain, narrowed}
 use Rattle.offsets.specs.Answers.{Answered, subsetView, written}
 use Rattle.offsets.specs.Laws.Answers.{written-members, answer-to, intersect-accepted}
 use Rattle.offsets.specs.Laws.Subsets.{rising-members, length-members, members-below, members-retain, members-narrowed}
-use Rattle.constraints.specs.declared.Constraint.{Constraint}
 use Rattle.constraints.specs.Constraints.{known, compares, met, meets}
-use Rattle.sort_entries.specs.Entries.{Entry, entriesOf, fastRange}
-use Rattle.sort_entries.specs.Laws.Ranges.{fast-range}
-use Rattle.sort_entries.specs.Laws.Stores.{entriesOf-same}
-use Rattle.plain_table.specs.Plain.{Plain}
-use Rattle.plain_table.specs.Laws.Calls.{firstRefusal-no, firstRefusal-rest}
-use Rattle.table.specs.declared.Header.{Header}
-use Rattle.table.specs.declared.RangeAnswer.{RangeAnswer}
-use Rattle.table.specs.Numbers.{rangeView}
 use Rattle.table.specs.Contracts.{Stores, Represents, fastSubset, RangeRead}
-use Rattle.table.specs.Laws.Sound.{represents-sound}
-use Rattle.table.specs.Laws.Refusals.{outside-inside, rows-long-of, fast-accepted}
-use Rattle.table.specs.Laws.Replies.{outcome-accepted, accepted-number, accepted-same}
 use Rattle.query_spec.specs.Queries.{matches, pastRows, queryChecks, refineRefusal, refineOneReply, refineListReply}
 use Rattle.history.specs.Runs.{Query, refines, Outcome, byReply, Intersected, Queried, one-refined, list-refined, intersected, range-intersected, range-nothing}
 use Rattle.history.specs.Claim.{satisfies}

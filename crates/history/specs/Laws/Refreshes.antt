@@ -1,37 +1,10 @@
 -- Index stores remain sound along every history, and refreshes over them have the effect of the plain table's, from the contracts
 -- alone. Assumes nothing.
-use Prim.Native.Nat.{ℕ, _+_, _*_, _≤_, _<_}
-use mathlib.Core.Path.{_≡_, refl, sym, ap, _∙_}
-use mathlib.Core.Logic.{inl, inr}
-use mathlib.Core.Bool.{true, false, false≢true}
-use mathlib.Core.List.{List, [], _∷_, _++_}
-use native.Mathlib.Nat.{mul-le-mul-right}
-use native.Mathlib.Omega.{arith}
-use lib.ListN.{length, drop, length-drop}
-use lib.Seq.{take-append-le, drop-append-le}
-use borrow.Author.Tests.{ltb-false}
+use Rattle.history.specs.Laws.Prelude.{ℕ, _+_, _*_, _≤_, _<_, _≡_, refl, sym, ap, _∙_, inl, inr, true, false, false≢true, List, [], _∷_, _++_, mul-le-mul-right, arith, length, drop, length-drop, take-append-le, drop-append-le, ltb-false, row-in, some-number, isLive, Opening, Plain, openable-bounds, onward-all, follows-length, Header, Stores, Body, bodyOf, joined, Represents, reply-refused, rows-counted, rows-part, RefreshAnswer, isNew, generationSeen, lookedUp, IndexOf, IndexSound, Current, number, found-records, view-accepted, view-refused, passed, index-more, index-front, new-front, generation-front, continues, named-count, names-of, lookup-holding, refreshes, behind, Step, called, end, next, History}
 use Rattle.lists.specs.Lists.{rowAt}
-use Rattle.lists.specs.Laws.Rows.{row-in}
-use Rattle.refusals.specs.Laws.Replies.{some-number}
-use Rattle.constraints.specs.Constraints.{isLive}
-use Rattle.plain_table.specs.Staged.{Opening}
-use Rattle.plain_table.specs.Plain.{Plain}
 use Rattle.plain_table.specs.Refreshing.{Refresh, indexShort}
 use Rattle.plain_table.specs.Calls.{recordsOf, LentCall, after, afterAll}
-use Rattle.plain_table.specs.Laws.Proper.{openable-bounds}
-use Rattle.plain_table.specs.Laws.Notes.{onward-all, follows-length}
-use Rattle.table.specs.declared.Header.{Header}
-use Rattle.table.specs.Contracts.{Stores, Body, bodyOf, joined, Represents}
-use Rattle.table.specs.Laws.Replies.{reply-refused}
-use Rattle.table.specs.Laws.Shown.{rows-counted}
-use Rattle.table.specs.Laws.Fronts.{rows-part}
-use Rattle.refresh_spec.specs.declared.RefreshAnswer.{RefreshAnswer}
-use Rattle.refresh_spec.specs.Index.{isNew, generationSeen, lookedUp, IndexOf, IndexSound, Current}
 use Rattle.refresh_spec.specs.Refreshes.{refreshView, answered, headerRefreshed, Refreshing}
-use Rattle.refresh_spec.specs.Laws.Keeps.{number, found-records, view-accepted, view-refused, passed}
-use Rattle.refresh_spec.specs.Laws.Fronts.{index-more, index-front, new-front, generation-front, continues, named-count}
-use Rattle.refresh_spec.specs.Laws.Lookup.{names-of, lookup-holding}
-use Rattle.history.specs.Histories.{refreshes, behind, Step, called, end, next, History}
 use Rattle.history.specs.Refreshes.{ownRefresh, OwnIndex, adopted, other-call, refreshes as refreshes-kept, holding, ownRefusal, RefreshesOwn, OwnIndexesSound}
 use Rattle.history.specs.Laws.Calls.{own-records, refresh-same, step-represents, history-represents}
 use Rattle.history.specs.Laws.Further.{history-then}

@@ -1,9 +1,6 @@
 -- Every outcome that meets the contract of its entry point is a call of a history. Only a refresh needs a case distinction: its
 -- index store is sound or it is not. Assumes nothing.
-use mathlib.Core.Logic.{inl, inr}
-use Rattle.refresh_spec.specs.Laws.Decided.{index-decided}
-use Rattle.history.specs.Histories.{stages, merges, compacts, clears, refreshes, refreshes-unsound}
-use Rattle.history.specs.Total.{EveryOutcomeIsACall}
+use Rattle.history.specs.Laws.Prelude.{inl, inr, index-decided, stages, merges, compacts, clears, refreshes, refreshes-unsound, EveryOutcomeIsACall}
 
 pub every-outcome-is-a-call : EveryOutcomeIsACall
 every-outcome-is-a-call =

@@ -1,9 +1,6 @@
 -- `key_check::count_live` meets its contract. Assumes nothing.
-use Prim.Native.Nat.{ℕ, _+_, _-_, _≤_}
-use mathlib.Core.Path.{_≡_, refl, sym, ap, _∙_}
-use native.Mathlib.Omega.{arith}
+use Rattle.key_check.proofs.Prelude.{ℕ, _+_, _-_, _≤_, _≡_, refl, sym, ap, _∙_, arith, tally-yes, tally-no, tally-le}
 use Rattle.key_check.specs.inner.Check.{isLiveRow, tally}
-use Rattle.key_check.specs.Laws.Check.{tally-yes, tally-no, tally-le}
 use Rattle.key_check.proofs.count_live.Statement.{statement}
 use Rattle.key_check.proofs.count_live.Tie as tie
 

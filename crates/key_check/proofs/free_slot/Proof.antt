@@ -1,9 +1,5 @@
 -- `key_check::free_slot` meets its contract. Assumes nothing.
-use Prim.Native.Nat.{ℕ, _-_, _≤_, _<_}
-use mathlib.Core.Path.{_≡_}
-use native.Mathlib.Omega.{arith}
-use lib.ListN.{getD}
-use borrow.Author.Count.{below-more}
+use Rattle.key_check.proofs.Prelude.{ℕ, _-_, _≤_, _<_, _≡_, arith, getD, below-more}
 use Rattle.key_check.proofs.free_slot.Statement.{statement}
 use Rattle.key_check.proofs.free_slot.Tie as tie
 

@@ -1,8 +1,5 @@
 -- `key_check::is_reachable` meets its contract. Assumes nothing.
-use mathlib.Core.Path.{sym, _∙_}
-use native.Mathlib.Omega.{arith}
-use borrow.Author.Needs.{needs}
-use borrow.Author.Tests.{not-true, not-false}
+use Rattle.key_check.proofs.Prelude.{sym, _∙_, arith, needs, not-true, not-false}
 use Rattle.key_check.proofs.CheckSteps.{reachable-zero, reachable-past, reachable-dead, reachable-bits, reachable-by}
 use Rattle.key_check.proofs.is_reachable.Statement.{statement}
 use Rattle.key_check.proofs.is_reachable.Tie as tie

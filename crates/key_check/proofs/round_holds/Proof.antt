@@ -1,9 +1,5 @@
 -- `key_check::round_holds` meets its contract. Assumes nothing.
-use Prim.Native.Nat.{_-_}
-use native.Mathlib.Omega.{arith}
-use borrow.Author.Tests.{not-true, not-false}
-use Rattle.key_index.specs.Slots.{slots}
-use Rattle.key_index.specs.Laws.Index.{rows-in}
+use Rattle.key_check.proofs.Prelude.{_-_, arith, not-true, not-false, slots, rows-in}
 use Rattle.key_check.proofs.CheckSteps.{RoundInvariant, Few, round-begin, counted, round-end, turn-free, turn-wrong, turn-taken}
 use Rattle.key_check.proofs.round_holds.Statement.{statement}
 use Rattle.key_check.proofs.round_holds.Tie as tie

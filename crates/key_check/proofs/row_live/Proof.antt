@@ -1,8 +1,5 @@
 -- `key_check::row_live` meets its contract. Assumes nothing.
-use mathlib.Core.Path.{_∙_}
-use native.Mathlib.Omega.{arith}
-use borrow.Author.Needs.{needs}
-use Rattle.key_index.specs.Laws.Places.{Inside, row-inside}
+use Rattle.key_check.proofs.Prelude.{_∙_, arith, needs, Inside, row-inside}
 use Rattle.key_check.proofs.CheckSteps.{row-part}
 use Rattle.key_check.proofs.row_live.Statement.{statement}
 use Rattle.key_check.proofs.row_live.Tie as tie

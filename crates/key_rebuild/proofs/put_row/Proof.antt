@@ -1,9 +1,5 @@
 -- `key_rebuild::put_row` meets its contract. Assumes nothing.
-use mathlib.Core.Path.{sym, _∙_}
-use native.Mathlib.Omega.{arith}
-use borrow.Author.Needs.{needs}
-use Rattle.key_index.specs.Laws.Index.{rows-in}
-use Rattle.key_index.specs.Laws.Places.{Inside, row-inside}
+use Rattle.key_rebuild.proofs.Prelude.{sym, _∙_, arith, needs, rows-in, Inside, row-inside}
 use Rattle.key_rebuild.proofs.RebuildSteps.{row-dead, row-live}
 use Rattle.key_rebuild.proofs.put_row.Statement.{statement}
 use Rattle.key_rebuild.proofs.put_row.Tie as tie

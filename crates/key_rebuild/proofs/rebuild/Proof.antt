@@ -1,9 +1,5 @@
 -- `key_rebuild::rebuild` meets its contract. Assumes nothing.
-use Prim.Native.Nat.{_-_}
-use mathlib.Core.Path.{refl, _∙_}
-use native.Mathlib.Omega.{arith}
-use borrow.Author.Needs.{needs}
-use Rattle.key_index.specs.Laws.Places.{fits-stores}
+use Rattle.key_rebuild.proofs.Prelude.{_-_, refl, _∙_, arith, needs, fits-stores}
 use Rattle.key_rebuild.proofs.RebuildSteps.{RebuildInvariant, turn-begin, turn-on, turn-end}
 use Rattle.key_rebuild.proofs.rebuild.Statement.{statement}
 use Rattle.key_rebuild.proofs.rebuild.Tie as tie

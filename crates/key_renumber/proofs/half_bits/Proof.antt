@@ -1,8 +1,5 @@
 -- `key_renumber::half_bits` meets its contract. Assumes nothing.
-use Prim.Native.Nat.{_-_}
-use mathlib.Core.Path.{refl}
-use native.Mathlib.Omega.{arith}
-use borrow.Author.Needs.{needs}
+use Rattle.key_renumber.proofs.Prelude.{_-_, refl, arith, needs}
 use Rattle.key_renumber.proofs.RenumberSteps.{Half, half-begin, half-free, half-taken, half-fits, half-end}
 use Rattle.key_renumber.proofs.half_bits.Statement.{statement}
 use Rattle.key_renumber.proofs.half_bits.Tie as tie

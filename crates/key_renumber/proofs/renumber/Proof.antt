@@ -1,8 +1,5 @@
 -- `key_renumber::renumber` meets its contract. Assumes nothing.
-use Prim.Native.Nat.{_-_}
-use native.Mathlib.Omega.{arith}
-use borrow.Author.Needs.{needs}
-use Rattle.key_index.specs.Slots.{slots}
+use Rattle.key_renumber.proofs.Prelude.{_-_, arith, needs, slots}
 use Rattle.key_renumber.proofs.RenumberSteps.{Pass, pass-begin, pass-block, pass-step, pass-end}
 use Rattle.key_renumber.proofs.renumber.Statement.{statement}
 use Rattle.key_renumber.proofs.renumber.Tie as tie

@@ -1,8 +1,5 @@
 -- `key_renumber::renumber_block` meets its contract. Assumes nothing.
-use Prim.Native.Nat.{_+_, _-_, _<_}
-use native.Mathlib.Omega.{arith}
-use lib.Bits.{and-le-r}
-use lib.Count.{trailingZeros}
+use Rattle.key_renumber.proofs.Prelude.{_+_, _-_, _<_, arith, and-le-r, trailingZeros}
 use Rattle.key_renumber.proofs.RenumberSteps.{Left, left-begin, left-end, left-in, left-step}
 use Rattle.key_renumber.proofs.renumber_block.Statement.{statement}
 use Rattle.key_renumber.proofs.renumber_block.Tie as tie

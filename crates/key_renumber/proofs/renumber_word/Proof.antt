@@ -1,13 +1,5 @@
 -- `key_renumber::renumber_word` meets its contract. Assumes nothing.
-use Prim.Native.Nat.{_-_, _/_, _%_, _^_, _≤_, _<_}
-use mathlib.Core.Path.{_≡_, sym, _∙_}
-use mathlib.Core.Bool.{true}
-use native.Mathlib.Omega.{arith}
-use lib.ListN.{length, getD}
-use borrow.Author.Needs.{needs}
-use borrow.Author.Tests.{not-true, not-false}
-use Rattle.row_buffer.specs.Laws.Rows.{setBelow-le}
-use Rattle.key_index.specs.inner.Ring.{namesRow}
+use Rattle.key_renumber.proofs.Prelude.{_-_, _/_, _%_, _^_, _≤_, _<_, _≡_, sym, _∙_, true, arith, length, getD, needs, not-true, not-false, setBelow-le, namesRow}
 use Rattle.key_renumber.proofs.RenumberSteps.{stays, too-large, has-new, in-words}
 use Rattle.key_renumber.proofs.renumber_word.Statement.{statement}
 use Rattle.key_renumber.proofs.renumber_word.Tie as tie

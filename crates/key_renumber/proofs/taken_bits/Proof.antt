@@ -1,9 +1,5 @@
 -- `key_renumber::taken_bits` meets its contract. Assumes nothing.
-use mathlib.Core.Path.{_≡_, sym, ap, _∙_}
-use native.Mathlib.Omega.{arith}
-use borrow.Author.Needs.{needs}
-use Rattle.row_buffer.specs.Ranks.{bitmapWord}
-use Rattle.bitmap.specs.inner.Marking.{otherAt}
+use Rattle.key_renumber.proofs.Prelude.{_≡_, sym, ap, _∙_, arith, needs, bitmapWord, otherAt}
 use Rattle.key_renumber.proofs.RenumberSteps.{word-halves}
 use Rattle.key_renumber.proofs.taken_bits.Statement.{statement}
 use Rattle.key_renumber.proofs.taken_bits.Tie as tie

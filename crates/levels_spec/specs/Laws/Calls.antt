@@ -1,25 +1,10 @@
 -- The contract of each call implies the contract of its line, for any table that the stores hold. Assumes nothing.
-use Prim.Native.Nat.{ℕ, zero, suc}
-use mathlib.Core.Path.{_≡_, refl, _∙_}
-use mathlib.Core.Bool.{true}
-use mathlib.Core.List.{List, []}
-use lib.ListN.{length}
+use Rattle.levels_spec.specs.Laws.Prelude.{ℕ, zero, suc, _≡_, refl, _∙_, true, List, [], length, Staged, Plain, Header, TableAnswer, MergeAnswer, tableView, mergeView, stores, body, compactionWords, lengths, headerAfter, headerMerged, mergeOf, Staging, Merging, Compacting, Clearing, stage-checks, merge-checks, compact-checks, clear-checks, staging-done, staging-refused, merging-done, merging-refused, compacting-done, compacting-refused, clearing-done, clearing-refused, Served, lent}
 use Rattle.refusals.specs.Refusals.{reply, firstRefusal, outcome}
-use Rattle.plain_table.specs.Staged.{Staged}
 use Rattle.plain_table.specs.Refusing.{Lengths, stageChecks, mergeChecks, compactChecks, clearChecks, storesShort, wordsShort}
-use Rattle.plain_table.specs.Plain.{Plain}
 use Rattle.plain_table.specs.Calls.{staging, merging, compacting, clearing, refusal, done}
-use Rattle.table.specs.declared.Header.{Header}
-use Rattle.table.specs.declared.TableAnswer.{TableAnswer}
-use Rattle.table.specs.declared.MergeAnswer.{MergeAnswer}
-use Rattle.table.specs.Numbers.{tableView, mergeView}
 use Rattle.table.specs.Refusing.{outside, pendingOutside, stageRefusal, mergeRefusal, compactRefusal, clearRefusal}
-use Rattle.table.specs.Contracts.{stores, body, compactionWords, lengths, headerAfter, headerMerged, mergeOf, Staging, Merging, Compacting, Clearing}
-use Rattle.table.specs.Laws.Checks.{stage-checks, merge-checks, compact-checks, clear-checks}
-use Rattle.table.specs.Laws.Keeps.{staging-done, staging-refused, merging-done, merging-refused, compacting-done, compacting-refused, clearing-done, clearing-refused}
-use Rattle.levels_spec.specs.declared.Served.{Served}
 use Rattle.levels_spec.specs.Response.{calls, mergeText}
-use Rattle.levels_spec.specs.Answers.{lent}
 use Rattle.levels_spec.specs.inner.Responses.{textOf, responseOf, nothingResponse, mergeResponse, ServedWith}
 use Rattle.levels_spec.specs.Laws.Results.{responseOf-refused, responseOf-accepted, nothing-response, responds-table, Does, calls-refused, calls-done}
 

@@ -1,27 +1,12 @@
 -- Along the calls that lines of `levels` make, every cell of a live row is a u32 if every cell staged for insertion is. Assumes
 -- nothing.
-use Prim.Native.Nat.{ℕ}
-use mathlib.Core.Path.{_≡_, refl, ap}
-use mathlib.Core.Logic.{inl, inr}
-use mathlib.Core.Bool.{Bool, true, false, cond, not}
-use mathlib.Core.List.{List, [], _∷_, _++_}
-use lib.Dec.{leb, ltb, eqb}
-use lib.ListN.{length, take}
-use lib.Signed.{ltZ}
+use Rattle.levels_spec.specs.Laws.Prelude.{ℕ, _≡_, refl, ap, inl, inr, Bool, true, false, cond, not, List, [], _∷_, _++_, leb, ltb, eqb, length, take, ltZ, all-head, all-tail, all-cons, all-append, all-snoc, or-second, split, and-left, all-getD, Lengths, rowOf, lookup-at, noRow, Thinned, killIf-thinned, dies-thinned, filter-thinned, thinned-all, Appended, new, again, removed-keeps, insertAll-keeps, liveFits}
 use Rattle.lists.specs.Lists.{all}
-use Rattle.lists.specs.Laws.All.{all-head, all-tail, all-cons, all-append, all-snoc, or-second}
-use Rattle.lists.specs.Laws.Filter.{split, and-left, all-getD}
 use Rattle.merge_rules.specs.Rules.{ruledColumn, signed, smaller, larger, taken, madeCell, madeFrom}
 use Rattle.plain_table.specs.Staged.{Staged, insert, removeKey, removeRow, inserts, hasKey}
-use Rattle.plain_table.specs.Refusing.{Lengths}
 use Rattle.plain_table.specs.Plain.{Row, Plain, opened, stage, liveWithKey, removed, applied, compacted, unstaged, compactsAfter, merged, cleared}
 use Rattle.plain_table.specs.Calls.{Call, refusal, done, after}
-use Rattle.plain_table.specs.Proper.{rowOf}
-use Rattle.plain_table.specs.Laws.Lookup.{lookup-at}
-use Rattle.plain_table.specs.Laws.Rows.{noRow, Thinned, killIf-thinned, dies-thinned, filter-thinned, thinned-all}
-use Rattle.plain_table.specs.Laws.Counts.{Appended, new, again, removed-keeps, insertAll-keeps}
 use Rattle.listing_spec.specs.Listings.{areNumbers}
-use Rattle.listing_write.specs.Laws.Listed.{liveFits}
 
 -- every cell of a live row and of a staged insert is a u32
 pub record Fits (p : Plain) : Type 0 where

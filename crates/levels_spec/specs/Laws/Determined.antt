@@ -1,14 +1,6 @@
 -- The answer is determined: two programs that answer a line on the same table print the same bytes, and both leave stores that hold
 -- the same table. Assumes nothing.
-use Prim.Native.Nat.{ℕ}
-use mathlib.Core.Path.{_≡_, sym, _∙_}
-use mathlib.Core.List.{List}
-use mathlib.Core.Option.{Option}
-use lib.ListN.{take}
-use Rattle.plain_table.specs.Plain.{Plain}
-use Rattle.table.specs.Contracts.{Stores}
-use Rattle.levels_spec.specs.Response.{LineResult, lineResult}
-use Rattle.levels_spec.specs.Answers.{Held, lent, Answering}
+use Rattle.levels_spec.specs.Laws.Prelude.{ℕ, _≡_, sym, _∙_, List, Option, take, Plain, Stores, LineResult, lineResult, Held, lent, Answering}
 
 pub record SameResult (result : LineResult) (s₁ s₂ : Stores) (text₁ text₂ : List ℕ) (used₁ used₂ : ℕ) : Type 0 where
   pub text : take used₁ text₁ ≡ take used₂ text₂

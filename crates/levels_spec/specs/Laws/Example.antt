@@ -1,7 +1,5 @@
 -- The paper's example of a session: the bytes of its lines, in ASCII, and the bytes that they print. Assumes nothing.
-use Prim.Native.Nat.{ℕ}
-use mathlib.Core.Path.{_≡_, refl}
-use mathlib.Core.List.{List, [], _∷_}
+use Rattle.levels_spec.specs.Laws.Prelude.{ℕ, _≡_, refl, List, [], _∷_}
 use Rattle.lists.specs.Lists.{flatten, all, same, count, filter, iota, find}
 use Rattle.refusals.specs.Refusals.{firstRefusal, reply}
 use Rattle.cells.specs.Cells.{isDead}

@@ -1,16 +1,5 @@
 -- The result of a line of each letter. Assumes nothing.
-use Prim.Native.Nat.{ℕ}
-use mathlib.Core.Path.{_≡_}
-use mathlib.Core.Bool.{cond}
-use mathlib.Core.List.{List, []}
-use mathlib.Core.Option.{Option}
-use lib.ListN.{drop, getD}
-use Rattle.constraints.specs.Constraints.{known}
-use Rattle.constraints.specs.Encoding.{conditionIn}
-use Rattle.plain_table.specs.Staged.{insert, removeKey, removeRow}
-use Rattle.plain_table.specs.Refusing.{Lengths}
-use Rattle.plain_table.specs.Plain.{Plain}
-use Rattle.plain_table.specs.Calls.{staging, merging, compacting, clearing}
+use Rattle.levels_spec.specs.Laws.Prelude.{ℕ, _≡_, cond, List, [], Option, drop, getD, known, conditionIn, insert, removeKey, removeRow, Lengths, Plain, staging, merging, compacting, clearing}
 use Rattle.levels_spec.specs.Response.{opens, calls, queries, mergeText, fastSubsetOf, rangeText, versionText, listText, numberedText, openingIn, served, onTable, result}
 
 module _ (l : Lengths) (t : Option Plain) {letter : ℕ} (ns : List ℕ) where

@@ -1,15 +1,6 @@
 -- L and U print the text of a listing, in the old form and in the new (document 02, change 11). This holds for every proper table
 -- in whose live rows every cell is a u32. Every table of a session is such a table: Laws/Printed. Assumes nothing.
-use mathlib.Core.Path.{_≡_}
-use mathlib.Core.Bool.{Bool, true, false}
-use mathlib.Core.Option.{some}
-use Rattle.lists.specs.Lists.{all}
-use Rattle.plain_table.specs.Plain.{Plain}
-use Rattle.plain_table.specs.Proper.{Proper}
-use Rattle.plain_table.specs.Laws.Proper.{openable-bounds}
-use Rattle.listing_spec.specs.Listings.{Listing, listingText, ParsesAs}
-use Rattle.listing_write.specs.Writing.{tableListing}
-use Rattle.listing_write.specs.Laws.Listed.{liveFits, table-listed}
+use Rattle.levels_spec.specs.Laws.Prelude.{_≡_, Bool, true, false, some, all, Plain, Proper, openable-bounds, Listing, listingText, ParsesAs, tableListing, liveFits, table-listed}
 use Rattle.levels_spec.specs.Response.{listText, numberedText}
 
 -- the listing of a table

@@ -1,28 +1,7 @@
 -- The contract of an opening implies the contract of O, for any table that the stores hold. Assumes nothing.
-use Prim.Native.Nat.{ℕ, _≤_, _<_}
-use mathlib.Core.Path.{_≡_, refl, _∙_}
-use mathlib.Core.Logic.{inl, inr}
-use mathlib.Core.List.{List, []}
-use mathlib.Core.Option.{Option, some}
-use native.Mathlib.Omega.{arith}
-use borrow.Author.Tests.{eq-eqb, ne-eqb, lt-ltb, le-ltb}
-use Rattle.refusals.specs.Refusals.{accepted, reply, outcome}
-use Rattle.refusals.specs.Laws.Replies.{some-number, ruled-refused}
-use Rattle.plain_table.specs.Staged.{Opening}
+use Rattle.levels_spec.specs.Laws.Prelude.{ℕ, _≤_, _<_, _≡_, refl, _∙_, inl, inr, List, [], Option, some, arith, eq-eqb, ne-eqb, lt-ltb, le-ltb, accepted, reply, outcome, some-number, ruled-refused, Opening, Plain, opened, Header, TableAnswer, tableView, headerOf, Stores, stores, body, lengths, headerAfter, Opened, reply-accepted, after-refused, after-accepted, opening-done, Refused, Served, Held, lent, responseOf, nothingResponse, ServedWith, Responds}
 use Rattle.plain_table.specs.Refusing.{Lengths, openRefusal, storesShort}
-use Rattle.plain_table.specs.Plain.{Plain, opened}
-use Rattle.table.specs.declared.Header.{Header}
-use Rattle.table.specs.declared.TableAnswer.{TableAnswer}
-use Rattle.table.specs.Numbers.{tableView}
-use Rattle.table.specs.Stores.{headerOf}
-use Rattle.table.specs.Contracts.{Stores, stores, body, lengths, headerAfter, Opened}
-use Rattle.table.specs.Laws.Replies.{reply-accepted}
-use Rattle.table.specs.Laws.Keeps.{after-refused, after-accepted, opening-done}
-use Rattle.levels_spec.specs.declared.Response.the-variants.{Refused}
-use Rattle.levels_spec.specs.declared.Served.{Served}
 use Rattle.levels_spec.specs.Response.{printing, replied, openNumber, opens}
-use Rattle.levels_spec.specs.Answers.{Held, lent}
-use Rattle.levels_spec.specs.inner.Responses.{responseOf, nothingResponse, ServedWith, Responds}
 use Rattle.levels_spec.specs.Laws.Results.{responseOf-refused, nothing-response, responds-refused, responds-table}
 use Rattle.levels_spec.specs.Laws.Calls.{reply-ruled}
 

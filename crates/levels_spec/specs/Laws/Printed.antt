@@ -1,30 +1,13 @@
 -- In a session on any input, a line U after an accepted O prints a listing in the new form, and a line L prints one in the old form
 -- (document 02, change 11). Assumes nothing.
-use Prim.Native.Nat.{ℕ, _≤_}
-use mathlib.Core.Path.{_≡_, refl, sym, ap, _∙_}
-use mathlib.Core.Logic.{inl, inr}
-use mathlib.Core.Bool.{Bool, true, false, cond, not, _&&_, false≢true}
-use mathlib.Core.List.{List, [], _∷_, _++_, append-assoc}
-use mathlib.Core.Option.{Option, none, some}
-use native.Mathlib.Decide.{decLt}
-use native.Mathlib.Omega.{arith}
-use lib.Dec.{leb, ltb, eqb}
-use lib.ListN.{length, drop, getD, List·getD-eq-default}
-use borrow.Author.Tests.{eqb-true, leb-true, not-false}
+use Rattle.levels_spec.specs.Laws.Prelude.{ℕ, _≤_, _≡_, refl, sym, ap, _∙_, inl, inr, Bool, true, false, cond, not, _&&_, false≢true, List, [], _∷_, _++_, append-assoc, Option, none, some, decLt, arith, leb, ltb, eqb, length, drop, getD, List·getD-eq-default, eqb-true, leb-true, not-false, or-second, split, and-left, and-right, all-getD, check, Proper, firstRefusal-no, opened-proper, after-proper, line-numbers}
 use Rattle.lists.specs.Lists.{all, any}
-use Rattle.lists.specs.Laws.All.{or-second}
-use Rattle.lists.specs.Laws.Filter.{split, and-left, and-right, all-getD}
-use Rattle.refusals.specs.Refusals.{check}
 use Rattle.plain_table.specs.Staged.{Opening, openable, insert, removeKey, removeRow, inserts}
 use Rattle.plain_table.specs.Refusing.{Lengths, storesShort, openRefusal}
 use Rattle.plain_table.specs.Plain.{Plain, opened}
 use Rattle.plain_table.specs.Calls.{Call, staging, merging, compacting, clearing, done, after}
-use Rattle.plain_table.specs.Proper.{Proper}
-use Rattle.plain_table.specs.Laws.Calls.{firstRefusal-no}
-use Rattle.plain_table.specs.Laws.Proper.{opened-proper, after-proper}
 use Rattle.levels_text.specs.Lines.{fields, isDecimal, isLine, letter, numbers, isBare, isForm, ofForms}
 use Rattle.listing_spec.specs.Listings.{Listing, areNumbers, ParsesAs}
-use Rattle.listing_spec.specs.Laws.Lines.{line-numbers}
 use Rattle.levels_spec.specs.Response.{LineResult, printing, replied, openNumber, opens, calls, queries, listText, numberedText, openingIn, served, onTable, result, lineResult}
 use Rattle.levels_spec.specs.Session.{programLengths, linesIn, session, printed, tableAfter}
 use Rattle.levels_spec.specs.Laws.Listings.{listingOf, plain-listed, numbered-listed}

@@ -1,33 +1,10 @@
 -- The contracts of a fast range and of a version imply those of F, V, L and U, for any table that the stores hold. Assumes nothing.
-use Prim.Native.Nat.{ℕ, _*_, _≤_}
-use mathlib.Core.Path.{_≡_, refl, ap, _∙_}
-use mathlib.Core.Logic.{inl, inr}
-use mathlib.Core.Bool.{Bool, true, false, cond}
-use mathlib.Core.List.{List}
-use mathlib.Core.Option.{Option, none, some}
-use native.Mathlib.Omega.{arith}
-use lib.ListN.{length}
-use borrow.Author.Tests.{le-ltb}
-use Rattle.lists.specs.Laws.Filter.{split}
+use Rattle.levels_spec.specs.Laws.Prelude.{ℕ, _*_, _≤_, _≡_, refl, ap, _∙_, inl, inr, Bool, true, false, cond, List, Option, none, some, arith, length, le-ltb, split, Constraint, known, Plain, Header, Version, RangeAnswer, VersionAnswer, rangeView, versionView, represents-inside, represents-long, rows-counted, represents-sound, reply-accepted, listingText, stored-plain, Response}
 use Rattle.refusals.specs.Refusals.{firstRefusal}
 use Rattle.offsets.specs.Subsets.{Subset, range, list}
-use Rattle.constraints.specs.declared.Constraint.{Constraint}
-use Rattle.constraints.specs.Constraints.{known}
-use Rattle.plain_table.specs.Plain.{Plain}
-use Rattle.table.specs.declared.Header.{Header}
-use Rattle.table.specs.declared.Version.{Version}
-use Rattle.table.specs.declared.RangeAnswer.{RangeAnswer}
-use Rattle.table.specs.declared.VersionAnswer.{VersionAnswer}
-use Rattle.table.specs.Numbers.{rangeView, versionView}
 use Rattle.table.specs.Refusing.{outside, pairsShort, fastRefusal, versionRefusal}
 use Rattle.table.specs.Contracts.{Stores, Represents, fastSubset, RangeRead, VersionRead}
-use Rattle.table.specs.Laws.Shown.{represents-inside, represents-long, rows-counted}
-use Rattle.table.specs.Laws.Sound.{represents-sound}
-use Rattle.table.specs.Laws.Replies.{reply-accepted}
-use Rattle.listing_spec.specs.Listings.{listingText}
 use Rattle.listing_write.specs.Writing.{storedText}
-use Rattle.listing_write.specs.Laws.Represented.{stored-plain}
-use Rattle.levels_spec.specs.declared.Response.{Response}
 use Rattle.levels_spec.specs.declared.Response.the-variants.{Listing}
 use Rattle.levels_spec.specs.Response.{queries, fastSubsetOf, rangeText, versionText, listText, numberedText}
 use Rattle.levels_spec.specs.inner.Responses.{textOf, responseOf, rangeResponse, versionResponse, listingResponse}

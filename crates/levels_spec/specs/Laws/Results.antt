@@ -1,27 +1,7 @@
 -- Laws that hold for every line on a table: the line is refused and nothing changes, or it is done. Assumes nothing.
-use Prim.Native.Nat.{ℕ, _<_}
-use mathlib.Core.Path.{_≡_, refl, sym, _∙_}
-use mathlib.Core.Logic.{inl, inr}
-use mathlib.Core.Bool.{true}
-use mathlib.Core.List.{List, [], _∷_}
-use mathlib.Core.Option.{Option, none, some}
-use native.Mathlib.Omega.{arith}
-use borrow.Author.Tests.{eq-eqb, ne-eqb}
+use Rattle.levels_spec.specs.Laws.Prelude.{ℕ, _<_, _≡_, refl, sym, _∙_, inl, inr, true, List, [], _∷_, Option, none, some, arith, eq-eqb, ne-eqb, some-number, ruled-refused, Lengths, Plain, Call, refusal, done, refused-nothing, accepted-done, Header, outside, Stores, Represents, represents-inside, textLine, Response, Refused, Held, no-table, table}
 use Rattle.refusals.specs.Refusals.{Reply, refused, accepted, reply, outcome}
-use Rattle.refusals.specs.Laws.Replies.{some-number, ruled-refused}
-use Rattle.plain_table.specs.Refusing.{Lengths}
-use Rattle.plain_table.specs.Plain.{Plain}
-use Rattle.plain_table.specs.Calls.{Call, refusal, done}
-use Rattle.plain_table.specs.Laws.Calls.{refused-nothing, accepted-done}
-use Rattle.table.specs.declared.Header.{Header}
-use Rattle.table.specs.Refusing.{outside}
-use Rattle.table.specs.Contracts.{Stores, Represents}
-use Rattle.table.specs.Laws.Shown.{represents-inside}
-use Rattle.levels_text.specs.Written.{textLine}
-use Rattle.levels_spec.specs.declared.Response.{Response}
-use Rattle.levels_spec.specs.declared.Response.the-variants.{Refused}
 use Rattle.levels_spec.specs.Response.{LineResult, printing, replied, calls, queries, onTable}
-use Rattle.levels_spec.specs.Answers.{Held, no-table, table}
 use Rattle.levels_spec.specs.inner.Responses.{textOf, responseOf, nothingResponse, Responds}
 
 -- ---- the response

@@ -1,16 +1,6 @@
 -- The lines of an input, one by one. Assumes nothing.
-use Prim.Native.Nat.{ℕ, _<_}
-use mathlib.Core.Path.{_≡_, refl, sym}
-use mathlib.Core.Bool.{false}
-use mathlib.Core.List.{List, [], _∷_, _++_}
-use mathlib.Core.Logic.{inl, inr}
-use native.Mathlib.Omega.{arith}
-use lib.ListN.{length}
-use lib.Dec.{eqb}
-use borrow.Author.Tests.{ne-eqb, eqb-false}
+use Rattle.levels_spec.specs.Laws.Prelude.{ℕ, _<_, _≡_, refl, sym, false, List, [], _∷_, _++_, inl, inr, arith, length, eqb, ne-eqb, eqb-false, split, false≢true}
 use Rattle.lists.specs.Lists.{elem}
-use Rattle.lists.specs.Laws.Filter.{split}
-use mathlib.Core.Bool.{false≢true}
 use Rattle.levels_spec.specs.Session.{prependToFirst, linesIn}
 
 -- a byte that is not a newline, and the bytes after it

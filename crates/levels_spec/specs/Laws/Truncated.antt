@@ -1,20 +1,5 @@
 -- A line that is cut after its first 121 bytes has the same answer as the whole line: both are too long. Assumes nothing.
-use Prim.Native.Nat.{ℕ, _<_}
-use mathlib.Core.Path.{_≡_}
-use mathlib.Core.Logic.{inl, inr}
-use mathlib.Core.Bool.{false}
-use mathlib.Core.List.{List}
-use mathlib.Core.Option.{Option}
-use native.Mathlib.Omega.{arith}
-use lib.Dec.{leb}
-use lib.ListN.{length, take, length-take}
-use lib.Seq.{take-all}
-use borrow.Author.Tests.{leb-true, leb-false}
-use Rattle.lists.specs.Laws.Filter.{split}
-use Rattle.plain_table.specs.Refusing.{Lengths}
-use Rattle.plain_table.specs.Plain.{Plain}
-use Rattle.levels_text.specs.Lines.{ofForms}
-use Rattle.levels_text.specs.Laws.Lines.{too-long, no-forms}
+use Rattle.levels_spec.specs.Laws.Prelude.{ℕ, _<_, _≡_, inl, inr, false, List, Option, arith, leb, length, take, length-take, take-all, leb-true, leb-false, split, Lengths, Plain, ofForms, too-long, no-forms}
 use Rattle.levels_spec.specs.Response.{lineResult}
 
 same-refused : (l : Lengths) (t : Option Plain) (a b : List ℕ) → ofForms a ≡ false → ofForms b ≡ false → lineResult l t a ≡ lineResult l t b

@@ -1,21 +1,6 @@
 -- Conversion from one form to the other and back loses nothing. Assumes nothing.
-use Prim.Native.Nat.{ℕ, suc, _+_, _-_, _≤_, _<_}
-use mathlib.Core.Path.{_≡_, refl, sym, ap, ap₂, _∙_}
-use mathlib.Core.Logic.{inl, inr}
-use mathlib.Core.Bool.{Bool, true, false, false≢true}
-use mathlib.Core.List.{List, [], _∷_, _++_, map}
-use native.Mathlib.Nat.{zero-add}
-use native.Mathlib.Omega.{arith}
-use lib.Dec.{ltb}
-use lib.ListN.{length, take, drop, getD, length-append}
-use lib.Seq.{take-suc, take-all, take-at}
-use borrow.Author.Tests.{ltb-true}
+use Rattle.listing_spec.specs.Laws.Prelude.{ℕ, suc, _+_, _-_, _≤_, _<_, _≡_, refl, sym, ap, ap₂, _∙_, inl, inr, Bool, true, false, false≢true, List, [], _∷_, _++_, map, zero-add, arith, ltb, length, take, drop, getD, length-append, take-suc, take-all, take-at, ltb-true, all-head, all-tail, split, all-getD, all-of, bool-ext, within-of, within-high, length-iota, getD-iota, rising-iota, elem-at, elem-of, elem-iota, rising-ext, rising-gap, field, textLine, fields-more, length-line}
 use Rattle.lists.specs.Lists.{all, flatten, iota, rising, elem}
-use Rattle.lists.specs.Laws.All.{all-head, all-tail}
-use Rattle.lists.specs.Laws.Filter.{split, all-getD, all-of}
-use Rattle.lists.specs.Laws.Rising.{bool-ext, within-of, within-high, length-iota, getD-iota, rising-iota, elem-at, elem-of, elem-iota, rising-ext, rising-gap}
-use Rattle.levels_text.specs.Written.{field, textLine}
-use Rattle.levels_text.specs.Laws.Decimals.{fields-more, length-line}
 use Rattle.listing_spec.specs.Listings.{Listing, headLetter, headWidth, listingText, prefixWidth, isRow, rowNumbers, isListing, numberedFrom, toNumbered, fromNumbered, lacksRow}
 use Rattle.listing_spec.specs.Laws.Texts.{rising-from, Bounded, listing-parts, head-wide, row-parts}
 

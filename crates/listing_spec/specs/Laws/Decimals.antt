@@ -1,19 +1,8 @@
 -- A decimal that `levels` reads is the written form of its value. Assumes nothing.
-use Prim.Native.Nat.{ℕ, zero, suc, _+_, _-_, _*_, _/_, _%_, _^_, _≤_, _<_}
-use mathlib.Core.Path.{_≡_, refl, sym, ap, _∙_}
-use mathlib.Core.Bool.{true, not, _&&_, _||_, false≢true}
-use mathlib.Core.List.{List, [], _∷_, _++_, append-nil, append-assoc}
-use native.Mathlib.Nat.{zero-add, pow-succ'}
-use native.Mathlib.Omega.{arith}
-use lib.Dec.{leb, ltb, eqb}
-use lib.ListN.{length, getD}
-use borrow.Author.Tests.{ne-eqb, le-ltb, lt-ltb, leb-true}
+use Rattle.listing_spec.specs.Laws.Prelude.{ℕ, zero, suc, _+_, _-_, _*_, _/_, _%_, _^_, _≤_, _<_, _≡_, refl, sym, ap, _∙_, true, not, _&&_, _||_, false≢true, List, [], _∷_, _++_, append-nil, append-assoc, zero-add, pow-succ', arith, leb, ltb, eqb, length, getD, ne-eqb, le-ltb, lt-ltb, leb-true, all-head, all-tail, and-left, and-right, digit}
 use Rattle.lists.specs.Lists.{all}
-use Rattle.lists.specs.Laws.All.{all-head, all-tail}
-use Rattle.lists.specs.Laws.Filter.{and-left, and-right}
 use Rattle.levels_text.specs.Lines.{valueFrom, isDecimal}
 use Rattle.levels_text.specs.Written.{digitsIn, decimal}
-use Rattle.levels_text.specs.Laws.Lines.{digit}
 
 module _ (d : ℕ) (h : digit d ≡ true) where
   digit-low : 48 ≤ d

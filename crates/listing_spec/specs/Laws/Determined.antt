@@ -1,20 +1,7 @@
 -- Each contract determines the outcome. Assumes nothing.
-use Prim.Native.Nat.{ℕ}
-use mathlib.Core.Path.{_≡_, sym, ap, _∙_}
-use mathlib.Core.Logic.{⊎-elim}
-use mathlib.Core.Bool.{Bool, true, false}
-use mathlib.Core.List.{List, [], _∷_}
-use native.Mathlib.Omega.{arith}
-use lib.ListN.{length, getD}
-use Rattle.refusals.specs.Refusals.{Reply}
-use Rattle.refusals.specs.Laws.Replies.{some-number}
-use Rattle.refusals.specs.Laws.Determined.{Same}
-use Rattle.listing_spec.specs.declared.ListingAnswer.{ListingAnswer}
+use Rattle.listing_spec.specs.Laws.Prelude.{ℕ, _≡_, sym, ap, _∙_, ⊎-elim, Bool, true, false, List, [], _∷_, arith, length, getD, Reply, some-number, Same, ListingAnswer, NumberedAnswer, TextAnswer, Refused, Written}
 use Rattle.listing_spec.specs.declared.ListingAnswer.the-variants.{Refused as ReadRefused, Listing as Read}
-use Rattle.listing_spec.specs.declared.NumberedAnswer.{NumberedAnswer}
 use Rattle.listing_spec.specs.declared.NumberedAnswer.the-variants.{Refused as NumberedRefused, Listing as NumberedRead}
-use Rattle.listing_spec.specs.declared.TextAnswer.{TextAnswer}
-use Rattle.listing_spec.specs.declared.TextAnswer.the-variants.{Refused, Written}
 use Rattle.listing_spec.specs.Listings.{listingView, numberedView, textView, readRefusal, convertRefusal, ListingRead, ListingConverted}
 use Rattle.listing_spec.specs.Laws.Texts.{parses-determined}
 

@@ -1,23 +1,10 @@
 -- A line that `levels` reads is the written form of its letter and numbers, and a line that is written is read back. Assumes
 -- nothing.
-use Prim.Native.Nat.{ℕ, suc, _+_, _≤_}
-use mathlib.Core.Path.{_≡_, refl, sym, ap, _∙_}
-use mathlib.Core.Logic.{inl, inr}
-use mathlib.Core.Bool.{true, false, _&&_, false≢true}
-use mathlib.Core.List.{List, [], _∷_, _++_, map, append-nil}
-use native.Mathlib.Omega.{arith}
-use lib.Dec.{leb, eqb}
-use lib.ListN.{length, getD, drop}
-use borrow.Author.Tests.{eqb-true, eqb-false, ne-eqb, le-leb, leb-true}
+use Rattle.listing_spec.specs.Laws.Prelude.{ℕ, suc, _+_, _≤_, _≡_, refl, sym, ap, _∙_, inl, inr, true, false, _&&_, false≢true, List, [], _∷_, _++_, map, append-nil, arith, leb, eqb, length, getD, drop, eqb-true, eqb-false, ne-eqb, le-leb, leb-true, all-head, all-tail, elem-append, split, and-left, and-right, length-fields, decimal-value, decimal-read}
 use Rattle.lists.specs.Lists.{all, flatten, elem}
-use Rattle.lists.specs.Laws.All.{all-head, all-tail}
-use Rattle.lists.specs.Laws.Rising.{elem-append}
-use Rattle.lists.specs.Laws.Filter.{split, and-left, and-right}
 use Rattle.levels_text.specs.Lines.{valueFrom, isDecimal, isLine, letter, numbers, fields}
 use Rattle.levels_text.specs.Written.{decimal, field, textLine}
 use Rattle.levels_text.specs.Laws.Lines.{first, others, first-comma, first-more, others-comma, others-more, digit, is-line}
-use Rattle.levels_text.specs.Laws.Decimals.{length-fields}
-use Rattle.levels_text.specs.Laws.Reads.{decimal-value, decimal-read}
 use Rattle.listing_spec.specs.Listings.{areNumbers}
 use Rattle.listing_spec.specs.Laws.Decimals.{decimal-back, decimal-parts}
 

@@ -1,13 +1,6 @@
 -- A text and its lines. Assumes nothing.
-use Prim.Native.Nat.{ℕ}
-use mathlib.Core.Path.{_≡_, refl, sym, _∙_}
-use mathlib.Core.Logic.{inl, inr}
-use mathlib.Core.Bool.{false, cond, false≢true}
-use mathlib.Core.List.{List, [], _∷_, _++_}
-use lib.Dec.{eqb}
-use borrow.Author.Tests.{eqb-true, eqb-false, ne-eqb}
+use Rattle.listing_spec.specs.Laws.Prelude.{ℕ, _≡_, refl, sym, _∙_, inl, inr, false, cond, false≢true, List, [], _∷_, _++_, eqb, eqb-true, eqb-false, ne-eqb, split}
 use Rattle.lists.specs.Lists.{elem}
-use Rattle.lists.specs.Laws.Filter.{split}
 use Rattle.listing_spec.specs.inner.Checking.{longer, pieces, isNil}
 
 longer-nil : (byte : ℕ) (ps : List (List ℕ)) → isNil (longer byte ps) ≡ isNil ps

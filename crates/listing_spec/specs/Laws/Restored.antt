@@ -1,23 +1,7 @@
 -- A listing converted to the other form is of that form, and converting it back restores the text. Assumes nothing.
-use Prim.Native.Nat.{ℕ, zero, suc, _+_, _-_, _≤_, _<_}
-use mathlib.Core.Path.{_≡_, refl, sym, ap, ap₂, _∙_}
-use mathlib.Core.Logic.{inl, inr}
-use mathlib.Core.Bool.{Bool, true, false, _&&_, false≢true}
-use mathlib.Core.List.{List, [], _∷_, _++_, map}
-use mathlib.Core.Option.{Option, none, some}
-use native.Mathlib.Decide.{decLt}
-use native.Mathlib.Omega.{arith}
-use lib.Dec.{leb, ltb}
-use lib.ListN.{length, take, drop, getD, length-append, List·getD-append}
-use lib.Seq.{getD-take, length-take-le, getD-at}
-use borrow.Author.Tests.{eq-eqb, le-leb, lt-ltb, le-ltb}
+use Rattle.listing_spec.specs.Laws.Prelude.{ℕ, zero, suc, _+_, _-_, _≤_, _<_, _≡_, refl, sym, ap, ap₂, _∙_, inl, inr, Bool, true, false, _&&_, false≢true, List, [], _∷_, _++_, map, Option, none, some, decLt, arith, leb, ltb, length, take, drop, getD, length-append, List·getD-append, getD-take, length-take-le, getD-at, eq-eqb, le-leb, lt-ltb, le-ltb, all-head, all-tail, all-cons, all-snoc, split, all-getD, all-of, take-put, TextAnswer, Written}
 use Rattle.lists.specs.Lists.{all}
-use Rattle.lists.specs.Laws.All.{all-head, all-tail, all-cons, all-snoc}
-use Rattle.lists.specs.Laws.Filter.{split, all-getD, all-of}
-use Rattle.lists.specs.Laws.Search.{take-put}
 use Rattle.refusals.specs.Refusals.{check, firstRefusal, accepted, reply}
-use Rattle.listing_spec.specs.declared.TextAnswer.{TextAnswer}
-use Rattle.listing_spec.specs.declared.TextAnswer.the-variants.{Written}
 use Rattle.listing_spec.specs.Listings.{Listing, headWidth, prefixWidth, listingText, areNumbers, isHead, isRow, isListing, ParsesAs, parses, numberedFrom, toNumbered, fromNumbered, lacksRow, convertedText, convertRefusal, textView, ListingConverted, Restored, RestoresText}
 use Rattle.listing_spec.specs.Laws.Texts.{RowsFit, Bounded, listing-parts, listing-of, head-wide, head-bounds, row-parts, row-of, fit-none, fit-more, fit-rest, shown-listing, shown-text, parses-determined}
 use Rattle.listing_spec.specs.Laws.Conversions.{length-numberedFrom, lacks-none, to-from, from-to}

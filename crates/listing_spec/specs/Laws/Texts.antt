@@ -1,18 +1,6 @@
 -- Which texts are of a form, checked line by line; a text determines its listing. Assumes nothing.
-use Prim.Native.Nat.{ℕ, suc, _+_, _-_, _≤_, _<_}
-use mathlib.Core.Path.{_≡_, refl, sym, ap, subst, _∙_}
-use mathlib.Core.Logic.{inl, inr}
-use mathlib.Core.Bool.{Bool, true, false, cond, not, _&&_, and-false, false≢true}
-use mathlib.Core.List.{List, [], _∷_, _++_, map, append-assoc}
-use mathlib.Core.Option.{Option, none, some}
-use native.Mathlib.Omega.{arith}
-use lib.Dec.{leb, ltb, eqb}
-use lib.ListN.{length, getD}
-use borrow.Author.Tests.{eqb-true, eq-eqb, ne-eqb, leb-true, le-leb, ltb-true, lt-ltb}
+use Rattle.listing_spec.specs.Laws.Prelude.{ℕ, suc, _+_, _-_, _≤_, _<_, _≡_, refl, sym, ap, subst, _∙_, inl, inr, Bool, true, false, cond, not, _&&_, and-false, false≢true, List, [], _∷_, _++_, map, append-assoc, Option, none, some, arith, leb, ltb, eqb, length, getD, eqb-true, eq-eqb, ne-eqb, leb-true, le-leb, ltb-true, lt-ltb, all-head, all-tail, all-cons, split, and-left, and-right, isLine, letter, numbers}
 use Rattle.lists.specs.Lists.{all, flatten, above, rising}
-use Rattle.lists.specs.Laws.All.{all-head, all-tail, all-cons}
-use Rattle.lists.specs.Laws.Filter.{split, and-left, and-right}
-use Rattle.levels_text.specs.Lines.{isLine, letter, numbers}
 use Rattle.levels_text.specs.Written.{textLine}
 use Rattle.listing_spec.specs.Listings.{Listing, headLetter, headWidth, prefixWidth, listingText, areNumbers, keepsBounds, isHead, isRow, rowNumbers, areNumbered, isListing, ParsesAs, parses, parses-none}
 use Rattle.listing_spec.specs.inner.Checking.{pieces, isNil, begins, rowFits, rowsGood, linesToRows, piecesGood, listingOf, textGood, listingIn}

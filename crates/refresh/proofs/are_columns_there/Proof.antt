@@ -1,10 +1,5 @@
 -- `refresh::are_columns_there` meets its contract. The loop's invariant: the columns before this one are there. Assumes nothing.
-use Prim.Native.Nat.{_-_, _≤_}
-use mathlib.Core.Path.{_≡_, sym, _∙_}
-use mathlib.Core.Bool.{true}
-use native.Mathlib.Omega.{arith}
-use lib.ListN.{length}
-use borrow.Author.Needs.{needs}
+use Rattle.refresh.proofs.Prelude.{_-_, _≤_, _≡_, sym, _∙_, true, arith, length, needs}
 use Rattle.refresh.proofs.TestSteps.{there, there-begin, there-not, there-more, there-end}
 use Rattle.refresh.proofs.are_columns_there.Statement.{statement}
 use Rattle.refresh.proofs.are_columns_there.Tie as tie

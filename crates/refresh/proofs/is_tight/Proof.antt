@@ -1,6 +1,5 @@
 -- `refresh::is_tight` meets its contract. Assumes nothing.
-use native.Mathlib.Omega.{arith}
-use borrow.Author.Needs.{needs}
+use Rattle.refresh.proofs.Prelude.{arith, needs}
 use Rattle.refresh.proofs.RefreshSteps.{all-words-few}
 use Rattle.refresh.proofs.is_tight.Statement.{statement}
 use Rattle.refresh.proofs.is_tight.Tie as tie

@@ -1,12 +1,6 @@
 -- `refresh::mark_mentioning` meets its contract. Assumes nothing.
-use mathlib.Core.Path.{_≡_, sym, _∙_}
-use mathlib.Core.Bool.{true}
-use native.Mathlib.Omega.{arith}
-use borrow.Author.Tests.{not-false}
+use Rattle.refresh.proofs.Prelude.{_≡_, sym, _∙_, true, arith, not-false, usable, usable-is, needs}
 use Rattle.refresh_spec.specs.Index.{rowsSeen}
-use Rattle.refresh_spec.specs.inner.Finding.{usable}
-use Rattle.refresh_index.specs.Laws.Using.{usable-is}
-use borrow.Author.Needs.{needs}
 use Rattle.refresh.proofs.FindSteps.{scannable, listed-long, found-restarted, found-both, both-few}
 use Rattle.refresh.proofs.mark_mentioning.Statement.{statement}
 use Rattle.refresh.proofs.mark_mentioning.Tie as tie

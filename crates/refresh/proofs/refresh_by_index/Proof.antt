@@ -1,8 +1,5 @@
 -- `refresh::refresh_by_index` meets its contract. Assumes nothing.
-use lib.ListN.{length}
-use Rattle.bitmap.specs.Laws.Bitmaps.{bitmap-none}
-use Rattle.refresh_spec.specs.inner.Finding.{Lendable}
-use borrow.Author.Needs.{needs}
+use Rattle.refresh.proofs.Prelude.{length, bitmap-none, Lendable, needs}
 use Rattle.refresh.proofs.TestSteps.{Passed, passed, lendable}
 use Rattle.refresh.proofs.FindSteps.{found-caught, lendable-caught}
 use Rattle.refresh.proofs.RefreshSteps.{found-fit, stageable, done}

@@ -1,10 +1,5 @@
 -- `refresh::refresh_by_scan` meets its contract. Assumes nothing.
-use mathlib.Core.Path.{sym, _∙_}
-use native.Mathlib.Omega.{arith}
-use lib.ListN.{length}
-use Rattle.bitmap.specs.Laws.Bitmaps.{bitmap-none}
-use Rattle.refresh_spec.specs.inner.Finding.{Lendable}
-use borrow.Author.Needs.{needs}
+use Rattle.refresh.proofs.Prelude.{sym, _∙_, arith, length, bitmap-none, Lendable, needs}
 use Rattle.refresh.proofs.TestSteps.{Passed, passed, lendable}
 use Rattle.refresh.proofs.RefreshSteps.{WordsFew, words-few, refused-full, stageable, done}
 use Rattle.refresh.proofs.refresh_by_scan.Statement.{statement}

@@ -1,17 +1,8 @@
 -- `refresh::refresh_refusal` meets its contract. Assumes nothing.
-use mathlib.Core.Path.{_≡_, sym, _∙_}
-use mathlib.Core.Bool.{true, false}
-use lib.Dec.{ltb}
-use lib.ListN.{length}
-use borrow.Author.Tests.{lt-ltb, le-ltb, not-true, not-false}
-use Rattle.lists.specs.Lists.{all}
-use Rattle.lists.specs.Laws.All.{or-no-left}
+use Rattle.refresh.proofs.Prelude.{_≡_, sym, _∙_, true, false, ltb, length, lt-ltb, le-ltb, not-true, not-false, all, or-no-left, indexShort, openingOf, needs}
 use Rattle.refusals.specs.Refusals.{firstRefusal}
-use Rattle.plain_table.specs.Refreshing.{indexShort}
-use Rattle.table.specs.Numbers.{openingOf}
 use Rattle.table.specs.Refusing.{outside, pendingOutside, rowsShort}
 use Rattle.refresh.specs.inner.Testing.{earlyRefusal}
-use borrow.Author.Needs.{needs}
 use Rattle.refresh.proofs.refresh_refusal.Statement.{statement}
 use Rattle.refresh.proofs.refresh_refusal.Tie as tie
 

@@ -1,8 +1,5 @@
 -- `refresh::refresh_rows_for_values` meets its contract. Assumes nothing.
-use mathlib.Core.Path.{sym, _∙_}
-use lib.ListN.{length}
-use Rattle.refresh_spec.specs.inner.Finding.{Lendable}
-use borrow.Author.Needs.{needs}
+use Rattle.refresh.proofs.Prelude.{sym, _∙_, length, Lendable, needs}
 use Rattle.refresh.proofs.TestSteps.{Passed, passed, lendable}
 use Rattle.refresh.proofs.RefreshSteps.{refused-early}
 use Rattle.refresh.proofs.refresh_rows_for_values.Statement.{statement}

@@ -1,8 +1,5 @@
 -- `refresh::write_block` meets its contract. Assumes nothing.
-use Prim.Native.Nat.{_+_, _-_, _≤_}
-use native.Mathlib.Omega.{arith}
-use lib.Bits.{and-le-r}
-use Rattle.refresh.specs.inner.Staging.{Block, rowWords}
+use Rattle.refresh.proofs.Prelude.{_+_, _-_, _≤_, arith, and-le-r, Block, rowWords}
 use Rattle.refresh.proofs.StageSteps.{Going, going-begin, going-length, going-end, row-below, going-row, used-few, going-on}
 use Rattle.refresh.proofs.write_block.Statement.{statement}
 use Rattle.refresh.proofs.write_block.Tie as tie

@@ -1,9 +1,5 @@
 -- `refresh::write_group` meets its contract. Assumes nothing.
-use Prim.Native.Nat.{_+_, _-_, _*_, _<_}
-use native.Mathlib.Omega.{arith}
-use lib.Bits.{and-le-r}
-use lib.Count.{trailingZeros}
-use Rattle.refresh.specs.inner.Staging.{Group}
+use Rattle.refresh.proofs.Prelude.{_+_, _-_, _*_, _<_, arith, and-le-r, trailingZeros, Group}
 use Rattle.refresh.proofs.StageSteps.{Grouped, grouped-begin, grouped-length, grouped-end, at-below, grouped-block, grouped-on}
 use Rattle.refresh.proofs.write_group.Statement.{statement}
 use Rattle.refresh.proofs.write_group.Tie as tie

@@ -1,7 +1,5 @@
 -- `refresh::write_marked` meets its contract. Assumes nothing.
-use Prim.Native.Nat.{_-_}
-use native.Mathlib.Omega.{arith}
-use Rattle.refresh.specs.inner.Staging.{Stageable}
+use Rattle.refresh.proofs.Prelude.{_-_, arith, Stageable}
 use Rattle.refresh.proofs.StageSteps.{written-none, Iteration, iteration-begin, iteration-length, iteration-end, iteration-group, iteration-on}
 use Rattle.refresh.proofs.write_marked.Statement.{statement}
 use Rattle.refresh.proofs.write_marked.Tie as tie

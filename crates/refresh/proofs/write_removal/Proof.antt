@@ -1,10 +1,5 @@
 -- `refresh::write_removal` meets its contract. Assumes nothing.
-use Prim.Native.Nat.{ℕ}
-use mathlib.Core.Path.{ap, _∙_}
-use mathlib.Core.List.{List}
-use native.Mathlib.Omega.{arith}
-use Rattle.lists.specs.Lists.{splice}
-use borrow.Author.Needs.{needs}
+use Rattle.refresh.proofs.Prelude.{ℕ, ap, _∙_, List, arith, splice, needs}
 use Rattle.refresh.proofs.WriteSteps.{within, removal-words}
 use Rattle.refresh.proofs.write_removal.Statement.{statement}
 use Rattle.refresh.proofs.write_removal.Tie as tie

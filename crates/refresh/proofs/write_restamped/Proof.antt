@@ -1,11 +1,5 @@
 -- `refresh::write_restamped` meets its contract. Assumes nothing.
-use Prim.Native.Nat.{ℕ}
-use mathlib.Core.Path.{refl, sym, ap, _∙_}
-use mathlib.Core.List.{List}
-use native.Mathlib.Omega.{arith}
-use lib.Seq.{length-take-le}
-use Rattle.lists.specs.Lists.{splice}
-use borrow.Author.Needs.{needs}
+use Rattle.refresh.proofs.Prelude.{ℕ, refl, sym, ap, _∙_, List, arith, length-take-le, splice, needs}
 use Rattle.refresh.proofs.WriteSteps.{within, part-fits, cells-fit, key-fits, restamped-words}
 use Rattle.refresh.proofs.write_restamped.Statement.{statement}
 use Rattle.refresh.proofs.write_restamped.Tie as tie

@@ -1,13 +1,5 @@
 -- `refresh::write_row` meets its contract. Assumes nothing.
-use Prim.Native.Nat.{ℕ, _+_}
-use mathlib.Core.Path.{ap, _∙_}
-use mathlib.Core.List.{List}
-use native.Mathlib.Omega.{arith}
-use lib.ListN.{set}
-use Rattle.lists.specs.Lists.{splice, rowAt}
-use Rattle.plain_table.specs.Staged.{insert}
-use Rattle.table.specs.Stores.{recordWords}
-use borrow.Author.Needs.{needs}
+use Rattle.refresh.proofs.Prelude.{ℕ, _+_, ap, _∙_, List, arith, set, splice, rowAt, insert, recordWords, needs}
 use Rattle.refresh.proofs.WriteSteps.{within, both-words}
 use Rattle.refresh.proofs.write_row.Statement.{statement}
 use Rattle.refresh.proofs.write_row.Tie as tie

@@ -1,10 +1,5 @@
 -- `refresh_index::catch_up` meets its contract. Assumes nothing.
-use mathlib.Core.Path.{_≡_, sym, _∙_}
-use mathlib.Core.Bool.{true}
-use native.Mathlib.Omega.{arith}
-use lib.ListN.{length}
-use borrow.Author.Needs.{needs}
-use Rattle.refresh_spec.specs.inner.Finding.{usable}
+use Rattle.refresh_index.proofs.Prelude.{_≡_, sym, _∙_, true, arith, length, needs, usable}
 use Rattle.refresh_index.proofs.Sizes.{Small, small, fillable-same}
 use Rattle.refresh_index.proofs.Catches.{goes-on, caught-on, fresh-room, caught-restarted}
 use Rattle.refresh_index.proofs.catch_up.Statement.{statement}

@@ -1,11 +1,5 @@
 -- `refresh_index::cell_named` meets its contract. Assumes nothing.
-use Prim.Native.Nat.{_<_}
-use mathlib.Core.Path.{sym}
-use native.Mathlib.Omega.{arith}
-use lib.ListN.{getD}
-use borrow.Author.Needs.{needs}
-use Rattle.lists.specs.Laws.Rows.{getD-rowAt}
-use Rattle.key_index.specs.Laws.Places.{Inside}
+use Rattle.refresh_index.proofs.Prelude.{_<_, sym, arith, getD, needs, getD-rowAt, Inside}
 use Rattle.refresh_index.specs.inner.Entries.{cellNamed}
 use Rattle.refresh_index.proofs.Sizes.{cell-in}
 use Rattle.refresh_index.proofs.cell_named.Statement.{statement}

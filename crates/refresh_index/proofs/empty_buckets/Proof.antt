@@ -1,10 +1,5 @@
 -- `refresh_index::empty_buckets` meets its contract. The loop's invariant: the buckets passed are empty. Assumes nothing.
-use Prim.Native.Nat.{_-_, _≤_}
-use mathlib.Core.Path.{_≡_, refl}
-use native.Mathlib.Omega.{arith}
-use lib.ListN.{length}
-use borrow.Author.Needs.{needs}
-use Rattle.refresh_index.specs.inner.Entries.{Emptied}
+use Rattle.refresh_index.proofs.Prelude.{_-_, _≤_, _≡_, refl, arith, length, needs, Emptied}
 use Rattle.refresh_index.proofs.Fills.{empty-one}
 use Rattle.refresh_index.proofs.empty_buckets.Statement.{statement}
 use Rattle.refresh_index.proofs.empty_buckets.Tie as tie

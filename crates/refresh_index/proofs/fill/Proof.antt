@@ -1,12 +1,5 @@
 -- `refresh_index::fill` meets its contract. The loop's invariant: the rows passed are pushed. Assumes nothing.
-use Prim.Native.Nat.{_*_, _-_, _≤_}
-use mathlib.Core.Path.{_≡_, refl, _∙_}
-use native.Mathlib.Nat.{suc-mul}
-use native.Mathlib.Numerals.{add-one}
-use native.Mathlib.Omega.{arith}
-use lib.ListN.{length}
-use borrow.Author.Needs.{needs}
-use Rattle.refresh_index.specs.inner.Entries.{Pushed}
+use Rattle.refresh_index.proofs.Prelude.{_*_, _-_, _≤_, _≡_, refl, _∙_, suc-mul, add-one, arith, length, needs, Pushed}
 use Rattle.refresh_index.proofs.Sizes.{fillable-same}
 use Rattle.refresh_index.proofs.Fills.{push-none, push-then}
 use Rattle.refresh_index.proofs.Fronts.{filled}

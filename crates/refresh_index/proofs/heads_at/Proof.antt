@@ -1,6 +1,5 @@
 -- `refresh_index::heads_at` meets its contract. Assumes nothing.
-use native.Mathlib.Omega.{arith}
-use borrow.Author.Needs.{needs}
+use Rattle.refresh_index.proofs.Prelude.{arith, needs}
 use Rattle.refresh_index.proofs.Sizes.{Small, small}
 use Rattle.refresh_index.proofs.heads_at.Statement.{statement}
 use Rattle.refresh_index.proofs.heads_at.Tie as tie

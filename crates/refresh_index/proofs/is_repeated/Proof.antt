@@ -1,6 +1,5 @@
 -- `refresh_index::is_repeated` meets its contract. Assumes nothing.
-use mathlib.Core.Path.{refl}
-use borrow.Author.Needs.{needs}
+use Rattle.refresh_index.proofs.Prelude.{refl, needs}
 use Rattle.refresh_index.proofs.is_repeated.Statement.{statement}
 use Rattle.refresh_index.proofs.is_repeated.Tie as tie
 

@@ -1,9 +1,5 @@
 -- `refresh_index::is_usable` meets its contract. Assumes nothing.
-use mathlib.Core.Path.{sym, _∙_}
-use native.Mathlib.Omega.{arith}
-use lib.ListN.{length}
-use borrow.Author.Needs.{needs}
-use borrow.Author.Tests.{le-leb, lt-leb, eq-eqb, ne-eqb, not-true, not-false}
+use Rattle.refresh_index.proofs.Prelude.{sym, _∙_, arith, length, needs, le-leb, lt-leb, eq-eqb, ne-eqb, not-true, not-false}
 use Rattle.refresh_spec.specs.Index.{generationSeen, rowsSeen, columnsNamed}
 use Rattle.refresh_spec.specs.inner.Finding.{usable}
 use Rattle.refresh_index.proofs.Sizes.{Small, small}

@@ -1,12 +1,6 @@
 -- `refresh_index::mark_values` meets its contract. The loop's invariant: the rows that the store leads to from the values before this one
 -- are marked, and a value in its slot of the recent values is one of those. Assumes nothing.
-use Prim.Native.Nat.{_-_, _≤_}
-use mathlib.Core.Path.{_≡_, refl, sym, _∙_}
-use native.Mathlib.Omega.{arith}
-use lib.ListN.{length}
-use borrow.Author.Needs.{needs}
-use borrow.Author.Tests.{not-false}
-use Rattle.refresh_index.specs.inner.Marking.{Noted}
+use Rattle.refresh_index.proofs.Prelude.{_-_, _≤_, _≡_, refl, sym, _∙_, arith, length, needs, not-false, Noted}
 use Rattle.refresh_index.proofs.Goings.{marks-few}
 use Rattle.refresh_index.proofs.ValueSteps.{Listing, listing-begin, value-new, value-repeated, values-end, noted-on, noted-before}
 use Rattle.refresh_index.proofs.mark_values.Statement.{statement}

@@ -1,11 +1,5 @@
 -- `refresh_index::push_live` meets its contract. Assumes nothing.
-use mathlib.Core.Path.{sym, ap, _∙_}
-use mathlib.Core.Bool.{not}
-use native.Mathlib.Omega.{arith}
-use lib.ListN.{length}
-use borrow.Author.Needs.{needs}
-use Rattle.constraints.specs.Laws.Rows.{live-first}
-use Rattle.key_index.specs.Laws.Places.{Inside}
+use Rattle.refresh_index.proofs.Prelude.{sym, ap, _∙_, not, arith, length, needs, live-first, Inside}
 use Rattle.refresh_index.proofs.Sizes.{Small, small, readable, row-inside}
 use Rattle.refresh_index.proofs.Fills.{push-dead}
 use Rattle.refresh_index.proofs.push_live.Statement.{statement}

@@ -1,12 +1,5 @@
 -- `refresh_index::push_row` meets its contract. The loop's invariant: the entries of the places passed are pushed. Assumes nothing.
-use Prim.Native.Nat.{_+_, _*_, _-_, _≤_}
-use mathlib.Core.Path.{_≡_, refl, _∙_}
-use native.Mathlib.Nat.{add-zero}
-use native.Mathlib.Omega.{arith}
-use lib.ListN.{length}
-use borrow.Author.Needs.{needs}
-use Rattle.lists.specs.Laws.Rows.{row-in}
-use Rattle.refresh_index.specs.inner.Entries.{Pushed}
+use Rattle.refresh_index.proofs.Prelude.{_+_, _*_, _-_, _≤_, _≡_, refl, _∙_, add-zero, arith, length, needs, row-in, Pushed}
 use Rattle.refresh_index.proofs.Sizes.{small, readable}
 use Rattle.refresh_index.proofs.Fills.{push-none, push-then, push-one, Pushable, pushable}
 use Rattle.refresh_index.proofs.push_row.Statement.{statement}

@@ -1,10 +1,5 @@
 -- `refresh_index::write_front` meets its contract. Assumes nothing.
-use mathlib.Core.Path.{_∙_, ap}
-use mathlib.Core.List.{List}
-use Prim.Native.Nat.{ℕ}
-use lib.ListN.{set, length-set}
-use borrow.Author.Needs.{needs}
-use Rattle.lists.specs.Lists.{splice}
+use Rattle.refresh_index.proofs.Prelude.{_∙_, ap, List, ℕ, set, length-set, needs, splice}
 use Rattle.refresh_index.specs.inner.Entries.{fronted}
 use Rattle.refresh_index.proofs.write_front.Statement.{statement}
 use Rattle.refresh_index.proofs.write_front.Tie as tie

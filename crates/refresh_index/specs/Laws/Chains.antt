@@ -1,20 +1,7 @@
 -- Laws of the entries that a link refers to, and of an entry pushed. Assumes nothing.
-use Prim.Native.Nat.{ℕ, zero, suc, _+_, _-_, _≤_, _<_}
-use mathlib.Core.Path.{_≡_, refl, ap, _∙_}
-use mathlib.Core.Logic.{_≢_}
-use mathlib.Core.Bool.{true, false≢true}
-use mathlib.Core.List.{List, [], _∷_}
-use native.Mathlib.Nat.{add-zero}
-use native.Mathlib.Decide.{ℕ-discrete}
-use native.Mathlib.Numerals.{add-one}
-use native.Mathlib.Omega.{arith}
-use lib.ListN.{length, getD, set}
-use lib.Seq.{getD-set-same, getD-set-other, lt-length-set}
+use Rattle.refresh_index.specs.Laws.Prelude.{ℕ, zero, suc, _+_, _-_, _≤_, _<_, _≡_, refl, ap, _∙_, _≢_, true, false≢true, List, [], _∷_, add-zero, ℕ-discrete, add-one, arith, length, getD, set, getD-set-same, getD-set-other, lt-length-set, elem-here, elem-there, chain-here, chain-below, chain-same}
 use Rattle.lists.specs.Lists.{elem}
-use Rattle.lists.specs.Laws.Rising.{elem-here, elem-there}
 use Rattle.refresh_spec.specs.Index.{chain}
-use Rattle.refresh_spec.specs.Laws.Chains.{chain-here, chain-below}
-use Rattle.refresh_spec.specs.Laws.Fronts.{chain-same}
 use Rattle.refresh_index.specs.inner.Entries.{pushed}
 
 -- a link that is too high

@@ -1,22 +1,7 @@
 -- The rows that a store refers to are live, were seen and mention a value; and an index refers to all of those. Assumes nothing.
-use Prim.Native.Nat.{ℕ, _≤_}
-use mathlib.Core.Path.{_≡_, refl}
-use mathlib.Core.Bool.{true, _&&_}
-use mathlib.Core.List.{List}
-use native.Mathlib.Omega.{arith}
-use lib.Dec.{ltb}
-use lib.ListN.{getD}
-use borrow.Author.Tests.{ltb-true, lt-ltb}
-use Rattle.lists.specs.Lists.{rowAt, elem}
-use Rattle.lists.specs.Laws.Filter.{and-left, and-right}
-use Rattle.lists.specs.Laws.All.{any-at, any-of}
-use Rattle.lists.specs.Laws.Rising.{elem-at, elem-of}
-use Rattle.constraints.specs.Constraints.{isLive}
+use Rattle.refresh_index.specs.Laws.Prelude.{ℕ, _≤_, _≡_, refl, true, _&&_, List, arith, ltb, getD, ltb-true, lt-ltb, rowAt, elem, and-left, and-right, any-at, any-of, elem-at, elem-of, isLive, Header, rowsSeen, entriesUnder, leads, IndexOf, Names, RowHolds, leads-holds, holds-leads}
 use Rattle.plain_table.specs.Refreshing.{mentions}
-use Rattle.table.specs.declared.Header.{Header}
-use Rattle.refresh_spec.specs.Index.{rowsSeen, entriesUnder, leads, IndexOf}
 use Rattle.refresh_spec.specs.inner.Finding.{mentionsAt, mentionsBelow}
-use Rattle.refresh_spec.specs.Laws.Lookup.{Names, RowHolds, leads-holds, holds-leads}
 use Rattle.refresh_index.specs.inner.Marking.{found}
 
 module _ (h : Header) (rows columns : List ℕ) where

@@ -1,19 +1,8 @@
 -- What is known of an index store that a refresh continues with. Assumes nothing.
-use Prim.Native.Nat.{ℕ, _*_, _≤_}
-use mathlib.Core.Path.{_≡_}
-use mathlib.Core.Bool.{true, _&&_}
-use mathlib.Core.List.{List}
-use lib.Dec.{leb, eqb}
-use lib.ListN.{length, take, drop, getD}
-use borrow.Author.Tests.{leb-true, eqb-true, eq-eqb, le-leb, le-ltb}
-use Rattle.lists.specs.Lists.{same}
-use Rattle.lists.specs.Laws.Filter.{and-left, and-right}
-use Rattle.lists.specs.Laws.Rising.{same-eq, same-refl}
+use Rattle.refresh_index.specs.Laws.Prelude.{ℕ, _*_, _≤_, _≡_, true, _&&_, List, leb, eqb, length, take, drop, getD, leb-true, eqb-true, eq-eqb, le-leb, le-ltb, same, and-left, and-right, same-eq, same-refl, Header, Names}
 use Rattle.plain_table.specs.Refreshing.{indexShort}
-use Rattle.table.specs.declared.Header.{Header}
 use Rattle.refresh_spec.specs.Index.{isNew, generationSeen, rowsSeen, columnsNamed, namedIn, startsAfresh, IndexOf, IndexSound}
 use Rattle.refresh_spec.specs.inner.Finding.{Lendable, usable}
-use Rattle.refresh_spec.specs.Laws.Lookup.{Names}
 
 pub record Usable (h : Header) (columns index : List ℕ) : Type 0 where
   pub first : getD index 0 0 ≡ 1

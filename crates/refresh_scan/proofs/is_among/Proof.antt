@@ -1,7 +1,5 @@
 -- `refresh_scan::is_among` meets its contract. Assumes nothing.
-use Prim.Native.Nat.{_-_}
-use borrow.Author.Needs.{needs}
-use native.Mathlib.Omega.{arith}
+use Rattle.refresh_scan.proofs.Prelude.{_-_, needs, arith}
 use Rattle.refresh_scan.proofs.Links.{LinkScan, link-scan-begin, link-scan-end, link-scan-found, link-scan-less, link-scan-on}
 use Rattle.refresh_scan.proofs.is_among.Statement.{statement}
 use Rattle.refresh_scan.proofs.is_among.Tie as tie

@@ -1,10 +1,5 @@
 -- `refresh_scan::link_values` meets its contract. Assumes nothing.
-use Prim.Native.Nat.{_-_, _≤_}
-use mathlib.Core.Path.{_≡_}
-use borrow.Author.Needs.{needs}
-use native.Mathlib.Omega.{arith}
-use lib.ListN.{length}
-use Rattle.refresh_scan.specs.inner.Scanning.{Linked}
+use Rattle.refresh_scan.proofs.Prelude.{_-_, _≤_, _≡_, needs, arith, length, Linked}
 use Rattle.refresh_scan.proofs.Links.{linked-on}
 use Rattle.refresh_scan.proofs.link_values.Statement.{statement}
 use Rattle.refresh_scan.proofs.link_values.Tie as tie

@@ -1,8 +1,5 @@
 -- `refresh_scan::mark_row` meets its contract. Assumes nothing.
-use mathlib.Core.Path.{_∙_}
-use borrow.Author.Needs.{needs}
-use borrow.Author.Tests.{not-true, not-false}
-use native.Mathlib.Omega.{arith}
+use Rattle.refresh_scan.proofs.Prelude.{_∙_, needs, not-true, not-false, arith}
 use Rattle.refresh_scan.proofs.BitmapSteps.{RowInStore, row-in-store, columns-in, dead-mentions, live-mentions, row-passed, row-marked}
 use Rattle.refresh_scan.proofs.mark_row.Statement.{statement}
 use Rattle.refresh_scan.proofs.mark_row.Tie as tie

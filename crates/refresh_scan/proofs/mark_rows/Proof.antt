@@ -1,11 +1,5 @@
 -- `refresh_scan::mark_rows` meets its contract. The loop's invariant: the rows wanted below this one are marked. Assumes nothing.
-use Prim.Native.Nat.{_-_, _≤_}
-use mathlib.Core.Path.{sym, _∙_}
-use borrow.Author.Needs.{needs}
-use native.Mathlib.Omega.{arith}
-use Rattle.bitmap.specs.inner.Bitmaps.{Marked}
-use Rattle.bitmap.specs.Laws.Bitmaps.{bitmap-of, marked-few}
-use Rattle.refresh_spec.specs.inner.Finding.{mentionsFrom}
+use Rattle.refresh_scan.proofs.Prelude.{_-_, _≤_, sym, _∙_, needs, arith, Marked, bitmap-of, marked-few, mentionsFrom}
 use Rattle.refresh_scan.proofs.BitmapSteps.{scan-on, upTo, rows-begin, rows-on, rows-end}
 use Rattle.refresh_scan.proofs.mark_rows.Statement.{statement}
 use Rattle.refresh_scan.proofs.mark_rows.Tie as tie

@@ -1,13 +1,6 @@
 -- `refresh_scan::mark_unlisted` meets its contract. The loop's invariant: the rows wanted by the values of the parts taken are marked.
 -- Assumes nothing.
-use Prim.Native.Nat.{_-_, _≤_}
-use mathlib.Core.Path.{sym, _∙_}
-use borrow.Author.Needs.{needs}
-use native.Mathlib.Omega.{arith}
-use lib.ListN.{length, take}
-use Rattle.bitmap.specs.inner.Bitmaps.{Marked}
-use Rattle.bitmap.specs.Laws.Bitmaps.{bitmap-of, marked-few}
-use Rattle.refresh_spec.specs.inner.Finding.{mentionsFrom}
+use Rattle.refresh_scan.proofs.Prelude.{_-_, _≤_, sym, _∙_, needs, arith, length, take, Marked, bitmap-of, marked-few, mentionsFrom}
 use Rattle.refresh_scan.proofs.BitmapSteps.{scan-on, no-rows, part-few, parts-begin, parts-on, parts-end}
 use Rattle.refresh_scan.proofs.mark_unlisted.Statement.{statement}
 use Rattle.refresh_scan.proofs.mark_unlisted.Tie as tie

@@ -1,12 +1,5 @@
 -- `refresh_scan::mentions_one` meets its contract. The loop's invariant: the columns from i on decide. Assumes nothing.
-use Prim.Native.Nat.{_-_, _≤_}
-use mathlib.Core.Path.{_≡_, refl, sym, _∙_}
-use borrow.Author.Needs.{needs}
-use borrow.Author.Tests.{ltb-true}
-use native.Mathlib.Omega.{arith}
-use lib.ListN.{length, drop}
-use Rattle.lists.specs.Laws.Filter.{all-getD}
-use Rattle.plain_table.specs.Refreshing.{mentions}
+use Rattle.refresh_scan.proofs.Prelude.{_-_, _≤_, _≡_, refl, sym, _∙_, needs, ltb-true, arith, length, drop, all-getD, mentions}
 use Rattle.refresh_scan.proofs.Mentions.{mentions-here, mentions-on, mentions-end}
 use Rattle.refresh_scan.proofs.mentions_one.Statement.{statement}
 use Rattle.refresh_scan.proofs.mentions_one.Tie as tie

@@ -1,14 +1,6 @@
 -- The entries that a link leads to: the first of them, and that all are below the limit. Assumes nothing.
-use Prim.Native.Nat.{ℕ, zero, suc, _+_, _*_, _<_}
-use mathlib.Core.Path.{_≡_, sym, _∙_}
-use mathlib.Core.Bool.{true, false≢true}
-use mathlib.Core.List.{List, _∷_}
-use native.Mathlib.Decide.{ℕ-discrete}
-use native.Mathlib.Omega.{arith}
-use lib.ListN.{getD}
-use borrow.Author.Tests.{eq-eqb, ne-eqb}
+use Rattle.refresh_spec.specs.Laws.Prelude.{ℕ, zero, suc, _+_, _*_, _<_, _≡_, sym, _∙_, true, false≢true, List, _∷_, ℕ-discrete, arith, getD, eq-eqb, ne-eqb, elem-there}
 use Rattle.lists.specs.Lists.{elem}
-use Rattle.lists.specs.Laws.Rising.{elem-there}
 use Rattle.refresh_spec.specs.Index.{rowsSeen, columnsNamed, chain, entriesUnder}
 
 -- a link to the highest entry below the limit, and to another

@@ -1,18 +1,6 @@
 -- Whether an index store is sound is decidable: every quantifier of `IndexSound` is bounded. So each refresh has one of the two
 -- kinds that a history has (`history` Laws/Total). Assumes nothing.
-use Prim.Native.Nat.{ℕ, zero, suc, _+_, _*_, _≤_, _<_}
-use mathlib.Core.Path.{_≡_, sym, _∙_}
-use mathlib.Core.Logic.{_⊎_, inl, inr}
-use mathlib.Core.Bool.{Bool, true, false, false≢true}
-use mathlib.Core.List.{List}
-use native.Mathlib.Decide.{ℕ-discrete, decLe}
-use native.Mathlib.Omega.{arith}
-use lib.ListN.{getD}
-use Rattle.lists.specs.Lists.{elem, rowAt}
-use Rattle.lists.specs.Laws.Filter.{split}
-use Rattle.constraints.specs.Constraints.{isLive}
-use Rattle.table.specs.declared.Header.{Header}
-use Rattle.refresh_spec.specs.Index.{rowsSeen, columnsNamed, columnNamed, entriesUnder, IndexOf, IndexSound}
+use Rattle.refresh_spec.specs.Laws.Prelude.{ℕ, zero, suc, _+_, _*_, _≤_, _<_, _≡_, sym, _∙_, _⊎_, inl, inr, Bool, true, false, false≢true, List, ℕ-discrete, decLe, arith, getD, elem, rowAt, split, isLive, Header, rowsSeen, columnsNamed, columnNamed, entriesUnder, IndexOf, IndexSound}
 
 -- ---- decisions
 

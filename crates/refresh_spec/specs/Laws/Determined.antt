@@ -1,19 +1,6 @@
 -- Over a sound index store the contract determines the outcome, except for the inside of that store, which is the program's choice.
 -- Over an unsound one, the choice of the staged rows among those that mention a value is open too. Assumes nothing.
-use Prim.Native.Nat.{ℕ}
-use mathlib.Core.Path.{_≡_, sym, ap, _∙_}
-use mathlib.Core.Logic.{⊎-elim}
-use mathlib.Core.List.{List}
-use Rattle.lists.specs.Laws.Filter.{filter-same}
-use Rattle.refusals.specs.Laws.Replies.{some-number}
-use Rattle.refusals.specs.Laws.Determined.{Same}
-use Rattle.plain_table.specs.Refreshing.{Refresh, mentioning, refreshed}
-use Rattle.table.specs.declared.Header.{Header}
-use Rattle.table.specs.Numbers.{openingOf}
-use Rattle.table.specs.Contracts.{ofRows}
-use Rattle.refresh_spec.specs.declared.RefreshAnswer.{RefreshAnswer}
-use Rattle.refresh_spec.specs.declared.RefreshAnswer.the-variants.{Refused, Refreshed}
-use Rattle.refresh_spec.specs.Index.{IndexSound}
+use Rattle.refresh_spec.specs.Laws.Prelude.{ℕ, _≡_, sym, ap, _∙_, ⊎-elim, List, filter-same, some-number, Same, Refresh, mentioning, refreshed, Header, openingOf, ofRows, RefreshAnswer, Refused, Refreshed, IndexSound}
 use Rattle.refresh_spec.specs.Refreshes.{refreshView, recordsFound, Refreshing}
 use Rattle.refresh_spec.specs.Laws.Keeps.{number, found-records}
 

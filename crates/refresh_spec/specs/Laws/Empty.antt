@@ -1,20 +1,9 @@
 -- "An empty value or column list, if nothing is refused, answers no": from the contract of a refresh alone, whatever the index
 -- store holds. Assumes nothing.
-use Prim.Native.Nat.{ℕ}
-use mathlib.Core.Path.{_≡_, refl, sym, ap, _∙_}
-use mathlib.Core.Logic.{_⊎_, inl, inr}
-use mathlib.Core.Bool.{Bool, false}
-use mathlib.Core.List.{List, [], _∷_}
-use native.Mathlib.Omega.{arith}
+use Rattle.refresh_spec.specs.Laws.Prelude.{ℕ, _≡_, refl, sym, ap, _∙_, _⊎_, inl, inr, Bool, false, List, [], _∷_, arith, accepted, some-number, Numbered, liveRows, Header, ofRows, RefreshAnswer}
 use Rattle.lists.specs.Lists.{filter, any, elem, flatten}
-use Rattle.refusals.specs.Refusals.{accepted}
-use Rattle.refusals.specs.Laws.Replies.{some-number}
-use Rattle.plain_table.specs.Plain.{Numbered, liveRows}
 use Rattle.plain_table.specs.Refreshing.{Refresh, mentions, mentioning, refreshed}
-use Rattle.table.specs.declared.Header.{Header}
-use Rattle.table.specs.Contracts.{ofRows}
 use Rattle.refresh_spec.specs.declared.Refreshed.{Refreshed}
-use Rattle.refresh_spec.specs.declared.RefreshAnswer.{RefreshAnswer}
 use Rattle.refresh_spec.specs.Refreshes.{refreshView, recordsFound, answered, Refreshing}
 use Rattle.refresh_spec.specs.Laws.Keeps.{number, view-accepted, view-refused}
 

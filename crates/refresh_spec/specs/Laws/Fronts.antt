@@ -1,21 +1,6 @@
 -- An index store and its first parts: a first part that is long enough for the entries is an index exactly if the whole store is.
 -- Assumes nothing.
-use Prim.Native.Nat.{ℕ, zero, suc, _+_, _*_, _%_, _^_, _≤_, _<_}
-use mathlib.Core.Path.{_≡_, refl, sym, ap}
-use mathlib.Core.Logic.{inl, inr}
-use mathlib.Core.Bool.{Bool, true, false, not, _||_}
-use mathlib.Core.List.{List, _++_}
-use native.Mathlib.Nat.{mod-lt, mul-le-mul-right, mul-lt-mul-of-pos-right}
-use native.Mathlib.Omega.{arith}
-use lib.Dec.{eqb}
-use lib.ListN.{length, take, drop, getD, length-take, length-drop, List·getD-append}
-use borrow.Author.Tests.{eqb-true}
-use Rattle.lists.specs.Lists.{rowAt}
-use Rattle.lists.specs.Laws.All.{or-no-left, or-no-right}
-use Rattle.lists.specs.Laws.Rising.{same-eq}
-use Rattle.lists.specs.Laws.Rows.{row-in}
-use Rattle.refusals.specs.Laws.Replies.{some-number}
-use Rattle.table.specs.declared.Header.{Header}
+use Rattle.refresh_spec.specs.Laws.Prelude.{ℕ, zero, suc, _+_, _*_, _%_, _^_, _≤_, _<_, _≡_, refl, sym, ap, inl, inr, Bool, true, false, not, _||_, List, _++_, mod-lt, mul-le-mul-right, mul-lt-mul-of-pos-right, arith, eqb, length, take, drop, getD, length-take, length-drop, List·getD-append, eqb-true, rowAt, or-no-left, or-no-right, same-eq, row-in, some-number, Header}
 use Rattle.refresh_spec.specs.Index.{isNew, generationSeen, rowsSeen, columnsNamed, columnNamed, namedIn, bucketOf, chain, entriesUnder, IndexOf, startsAfresh}
 
 -- equal links make equal chains

@@ -1,39 +1,13 @@
 -- The table after a refresh, from its contract alone. "The table stays sound whatever it holds", of the index store. Over a sound
 -- index store the refresh stages what the plain table stages. Assumes nothing.
-use Prim.Native.Nat.{ℕ, _+_, _*_, _≤_, _<_}
-use mathlib.Core.Path.{_≡_, sym, _∙_}
-use mathlib.Core.Logic.{inl, inr}
-use mathlib.Core.Bool.{Bool, true}
-use mathlib.Core.List.{List, [], map}
-use lib.Dec.{ltb, eqb}
-use lib.ListN.{length}
-use borrow.Author.Tests.{ltb-false}
+use Rattle.refresh_spec.specs.Laws.Prelude.{ℕ, _+_, _*_, _≤_, _<_, _≡_, sym, _∙_, inl, inr, Bool, true, List, [], map, ltb, eqb, length, ltb-false, or-no-left, or-no-right, splice-nil, split, filter-all, all-of, all-filter-of, some-number, Staged, wordsAll, firstRefusal-no, firstRefusal-rest, Whole, openable-bounds, live-wide, refreshed-whole, Header, openingOf, recordWords, Stores, stores, bodyOf, joined, Represents, ofRows, reply-refused, reply-accepted, header-inside, largestView-largestOf, live-shown, records-represent, SoundTable, sound-table, shows-plain, RefreshAnswer}
 use Rattle.lists.specs.Lists.{splice, flatten}
-use Rattle.lists.specs.Laws.All.{or-no-left, or-no-right}
-use Rattle.lists.specs.Laws.Parts.{splice-nil}
-use Rattle.lists.specs.Laws.Filter.{split, filter-all, all-of, all-filter-of}
 use Rattle.refusals.specs.Refusals.{refused, accepted, firstRefusal}
-use Rattle.refusals.specs.Laws.Replies.{some-number}
-use Rattle.plain_table.specs.Staged.{Staged, wordsAll}
 use Rattle.plain_table.specs.Plain.{Plain, liveRows}
 use Rattle.plain_table.specs.Refusing.{Lengths, overfull}
 use Rattle.plain_table.specs.Refreshing.{Refresh, mentions, mentioning, indexShort, refreshChecks}
 use Rattle.plain_table.specs.Calls.{refreshing, recordsOf, stageAll, refusal}
-use Rattle.plain_table.specs.Laws.Calls.{firstRefusal-no, firstRefusal-rest}
-use Rattle.plain_table.specs.Laws.Proper.{Whole, openable-bounds}
-use Rattle.plain_table.specs.Laws.Refreshing.{live-wide, refreshed-whole}
-use Rattle.table.specs.declared.Header.{Header}
-use Rattle.table.specs.Numbers.{openingOf}
 use Rattle.table.specs.Refusing.{outside, pendingOutside}
-use Rattle.table.specs.Stores.{recordWords}
-use Rattle.table.specs.Contracts.{Stores, stores, bodyOf, joined, Represents, ofRows}
-use Rattle.table.specs.Laws.Replies.{reply-refused, reply-accepted}
-use Rattle.table.specs.Laws.Shown.{header-inside}
-use Rattle.table.specs.Laws.Sound.{largestView-largestOf}
-use Rattle.table.specs.Laws.Live.{live-shown}
-use Rattle.table.specs.Laws.Staging.{records-represent}
-use Rattle.table.specs.Laws.Keeps.{SoundTable, sound-table, shows-plain}
-use Rattle.refresh_spec.specs.declared.RefreshAnswer.{RefreshAnswer}
 use Rattle.refresh_spec.specs.Refreshes.{refreshView, refreshRefusal, recordsFound, answered, recordsStaged, headerRefreshed, Refreshing}
 
 -- ---- its refusals

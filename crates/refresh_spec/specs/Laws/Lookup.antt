@@ -1,28 +1,9 @@
 -- "An index from value to rising row numbers": a lookup in an index of the current version returns the live rows that hold the
 -- value in a named column. Assumes nothing.
-use Prim.Native.Nat.{ℕ, suc, _+_, _*_, _/_, _%_, _≤_, _<_}
-use mathlib.Core.Path.{_≡_, refl, sym, ap, _∙_}
-use mathlib.Core.Logic.{inl, inr}
-use mathlib.Core.Bool.{Bool, true, _&&_, or-false}
-use mathlib.Core.List.{List, [], _∷_, map}
-use native.Mathlib.Nat.{add-zero}
-use native.Mathlib.Omega.{arith}
-use lib.Dec.{eqb}
-use lib.ListN.{length, take, drop, getD}
-use lib.Seq.{getD-take, getD-drop}
-use borrow.Author.Tests.{eqb-true, eq-eqb}
+use Rattle.refresh_spec.specs.Laws.Prelude.{ℕ, suc, _+_, _*_, _/_, _%_, _≤_, _<_, _≡_, refl, sym, ap, _∙_, inl, inr, Bool, true, _&&_, or-false, List, [], _∷_, map, add-zero, arith, eqb, length, take, drop, getD, getD-take, getD-drop, eqb-true, eq-eqb, split, and-left, and-right, and-both, any-at, any-of, bool-ext, elem-at, elem-of, isLive, noRow, Header, Stores, Represents, rowsIn, length-rowsIn, getD-rowsIn, live-shown}
 use Rattle.lists.specs.Lists.{filter, rowAt, iota, elem}
-use Rattle.lists.specs.Laws.Filter.{split, and-left, and-right}
-use Rattle.lists.specs.Laws.All.{and-both, any-at, any-of}
-use Rattle.lists.specs.Laws.Rising.{bool-ext, elem-at, elem-of}
-use Rattle.constraints.specs.Constraints.{isLive}
 use Rattle.plain_table.specs.Plain.{Row, Plain, liveFrom, liveRows}
 use Rattle.plain_table.specs.Refreshing.{mentions}
-use Rattle.plain_table.specs.Laws.Rows.{noRow}
-use Rattle.table.specs.declared.Header.{Header}
-use Rattle.table.specs.Contracts.{Stores, Represents}
-use Rattle.table.specs.Stores.{rowsIn}
-use Rattle.table.specs.Laws.Live.{length-rowsIn, getD-rowsIn, live-shown}
 use Rattle.refresh_spec.specs.Index.{rowsSeen, columnsNamed, columnNamed, namedIn, entriesUnder, leadsTo, leads, lookedUp, IndexOf}
 use Rattle.refresh_spec.specs.Laws.Places.{entry-in, entry-in-range}
 use Rattle.refresh_spec.specs.Laws.Chains.{under-limit}

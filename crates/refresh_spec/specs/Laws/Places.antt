@@ -1,9 +1,5 @@
 -- An entry's row and its place among the named columns. Assumes nothing.
-use Prim.Native.Nat.{ℕ, zero, suc, _+_, _*_, _/_, _%_, _<_}
-use mathlib.Core.Path.{_≡_, ap, _∙_}
-use native.Mathlib.Nat.{add-zero, mul-zero, mul-add-div-right, mul-add-mod-self-right, div-eq-of-lt, div-lt-iff-lt-mul, mod-eq-of-lt, mod-lt}
-use native.Mathlib.Omega.{arith}
-use Rattle.lists.specs.Laws.Rows.{row-in}
+use Rattle.refresh_spec.specs.Laws.Prelude.{ℕ, zero, suc, _+_, _*_, _/_, _%_, _<_, _≡_, ap, _∙_, add-zero, mul-zero, mul-add-div-right, mul-add-mod-self-right, div-eq-of-lt, div-lt-iff-lt-mul, mod-eq-of-lt, mod-lt, arith, row-in}
 
 -- the entry of a row and a place, if each row has `count` places
 pub record EntryIn (rows count row place : ℕ) : Type 0 where

@@ -1,9 +1,6 @@
 -- `table_check::dead_rows` meets its contract. Assumes nothing.
-use Prim.Native.Nat.{ℕ, _+_, _-_, _≤_, _<_}
-use mathlib.Core.Path.{_≡_, refl, sym, ap, _∙_}
-use native.Mathlib.Omega.{arith}
+use Rattle.table_check.proofs.Prelude.{ℕ, _+_, _-_, _≤_, _<_, _≡_, refl, sym, ap, _∙_, arith, Inside, inside}
 use Rattle.lists.specs.Lists.{count, rowsOf}
-use Rattle.key_index.specs.Laws.Places.{Inside, inside}
 use Rattle.table_check.proofs.CheckingSteps.{deadAmong, dead-more, dead-same, dead-few}
 use Rattle.table_check.proofs.dead_rows.Statement.{statement}
 use Rattle.table_check.proofs.dead_rows.Tie as tie

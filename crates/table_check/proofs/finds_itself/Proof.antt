@@ -1,9 +1,5 @@
 -- `table_check::finds_itself` meets its contract. Assumes nothing.
-use mathlib.Core.Path.{sym, _∙_}
-use native.Mathlib.Omega.{arith}
-use borrow.Author.Needs.{needs}
-use Rattle.key_index.specs.Laws.Index.{rows-in}
-use Rattle.key_index.specs.Laws.Places.{Inside, row-inside}
+use Rattle.table_check.proofs.Prelude.{sym, _∙_, arith, needs, rows-in, Inside, row-inside}
 use Rattle.table_check.proofs.CheckingSteps.{itself-dead, itself-none, itself-at}
 use Rattle.table_check.proofs.finds_itself.Statement.{statement}
 use Rattle.table_check.proofs.finds_itself.Tie as tie

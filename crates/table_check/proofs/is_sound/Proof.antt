@@ -1,6 +1,5 @@
 -- `table_check::is_sound` meets its contract. Assumes nothing.
-use mathlib.Core.Path.{sym, _∙_}
-use borrow.Author.Needs.{needs}
+use Rattle.table_check.proofs.Prelude.{sym, _∙_, needs}
 use Rattle.table_check.proofs.CheckingSteps.{checked-refused, checked-answered}
 use Rattle.table_check.proofs.is_sound.Statement.{statement}
 use Rattle.table_check.proofs.is_sound.Tie as tie

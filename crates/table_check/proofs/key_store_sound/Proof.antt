@@ -1,6 +1,5 @@
 -- `table_check::key_store_sound` meets its contract. Assumes nothing.
-use borrow.Author.Needs.{needs}
-use borrow.Author.Tests.{not-true, not-false}
+use Rattle.table_check.proofs.Prelude.{needs, not-true, not-false}
 use Rattle.table_check.proofs.CheckingSteps.{index-astray, key-store-decided}
 use Rattle.table_check.proofs.key_store_sound.Statement.{statement}
 use Rattle.table_check.proofs.key_store_sound.Tie as tie

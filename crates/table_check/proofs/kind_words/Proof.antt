@@ -1,6 +1,5 @@
 -- `table_check::kind_words` meets its contract. Assumes nothing.
-use borrow.Author.Needs.{needs}
-use borrow.Author.Tests.{eq-eqb, ne-eqb}
+use Rattle.table_check.proofs.Prelude.{needs, eq-eqb, ne-eqb}
 use Rattle.table_check.specs.inner.Checks.{kindWords}
 use Rattle.table_check.proofs.kind_words.Statement.{statement}
 use Rattle.table_check.proofs.kind_words.Tie as tie

@@ -1,8 +1,5 @@
 -- `table_check::pending_whole` meets its contract. The loop's invariant: records fill the words from `at` on exactly if they fill all. Assumes nothing.
-use Prim.Native.Nat.{_+_, _-_, _≤_}
-use native.Mathlib.Omega.{arith}
-use borrow.Author.Needs.{needs}
-use Rattle.table.specs.Numbers.{openingOf}
+use Rattle.table_check.proofs.Prelude.{_+_, _-_, _≤_, arith, needs, openingOf}
 use Rattle.table_check.proofs.CheckingSteps.{Reached, reach-start, reach-on, reach-broken, reach-end}
 use Rattle.table_check.proofs.pending_whole.Statement.{statement}
 use Rattle.table_check.proofs.pending_whole.Tie as tie

@@ -1,8 +1,5 @@
 -- `table_check::record_words` meets its contract. Assumes nothing.
-use native.Mathlib.Omega.{arith}
-use lib.ListN.{getD}
-use borrow.Author.Needs.{needs}
-use Rattle.table.specs.Numbers.{openingOf}
+use Rattle.table_check.proofs.Prelude.{arith, getD, needs, openingOf}
 use Rattle.table_check.proofs.CheckingSteps.{KeyInside, key-inside, read-no-kind, read-short, read-other-hash, read-whole}
 use Rattle.table_check.proofs.record_words.Statement.{statement}
 use Rattle.table_check.proofs.record_words.Tie as tie

@@ -1,11 +1,5 @@
 -- `table_check::rows_found` meets its contract. The loop's invariant: each live row passed is found by its key. Assumes nothing.
-use Prim.Native.Nat.{ℕ, _-_, _≤_, _<_}
-use mathlib.Core.Bool.{false≢true, true≢false}
-use native.Mathlib.Omega.{arith}
-use borrow.Author.Count.{below-more}
-use borrow.Author.Tests.{not-true, not-false}
-use Rattle.key_index.specs.Slots.{LiveAt}
-use Rattle.table_check.specs.inner.Checks.{Own}
+use Rattle.table_check.proofs.Prelude.{ℕ, _-_, _≤_, _<_, false≢true, true≢false, arith, below-more, not-true, not-false, LiveAt, Own}
 use Rattle.table_check.proofs.rows_found.Statement.{statement}
 use Rattle.table_check.proofs.rows_found.Tie as tie
 

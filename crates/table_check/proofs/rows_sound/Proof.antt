@@ -1,7 +1,5 @@
 -- `table_check::rows_sound` meets its contract. Assumes nothing.
-use mathlib.Core.Path.{sym, _∙_}
-use borrow.Author.Needs.{needs}
-use borrow.Author.Tests.{not-true, not-false}
+use Rattle.table_check.proofs.Prelude.{sym, _∙_, needs, not-true, not-false}
 use Rattle.table_check.proofs.CheckingSteps.{rows-miscounted, rows-unsorted, rows-exceeding, rows-decided}
 use Rattle.table_check.proofs.rows_sound.Statement.{statement}
 use Rattle.table_check.proofs.rows_sound.Tie as tie

@@ -1,7 +1,5 @@
 -- `table_check::stores_sound` meets its contract. Assumes nothing.
-use borrow.Author.Needs.{needs}
-use borrow.Author.Tests.{not-true, not-false}
-use Rattle.table_check.specs.Laws.Checks.{sound-fits, sound-cells, sound-held, sound-pending}
+use Rattle.table_check.proofs.Prelude.{needs, not-true, not-false, sound-fits, sound-cells, sound-held, sound-pending}
 use Rattle.table_check.proofs.CheckingSteps.{stores-rows, stores-index, stores-decided}
 use Rattle.table_check.proofs.stores_sound.Statement.{statement}
 use Rattle.table_check.proofs.stores_sound.Tie as tie

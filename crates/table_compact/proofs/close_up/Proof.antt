@@ -1,7 +1,5 @@
 -- `table_compact::close_up` meets its contract. Assumes nothing.
-use Prim.Native.Nat.{_-_}
-use native.Mathlib.Omega.{arith}
-use borrow.Author.Needs.{needs}
+use Rattle.table_compact.proofs.Prelude.{_-_, arith, needs}
 use Rattle.table_compact.proofs.CompactionSteps.{Iteration, iteration-begin, words-in, cells-in, spaced, the-block, iteration-on, close-end}
 use Rattle.table_compact.proofs.close_up.Statement.{statement}
 use Rattle.table_compact.proofs.close_up.Tie as tie

@@ -1,6 +1,5 @@
 -- `table_compact::compact` meets its contract. Assumes nothing.
-use native.Mathlib.Omega.{arith}
-use borrow.Author.Needs.{needs}
+use Rattle.table_compact.proofs.Prelude.{arith, needs}
 use Rattle.table_compact.proofs.CompactionSteps.{compact-next, compact-refused, compact-lendable, compact-none, compact-done}
 use Rattle.table_compact.proofs.compact.Statement.{statement}
 use Rattle.table_compact.proofs.compact.Tie as tie

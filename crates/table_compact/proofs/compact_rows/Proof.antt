@@ -1,7 +1,5 @@
 -- `table_compact::compact_rows` meets its contract. Assumes nothing.
-use native.Mathlib.Omega.{arith}
-use mathlib.Core.Path.{refl}
-use borrow.Author.Needs.{needs}
+use Rattle.table_compact.proofs.Prelude.{arith, refl, needs}
 use Rattle.table_compact.proofs.CompactionSteps.{closable, can-lead, compact-end}
 use Rattle.table_compact.proofs.compact_rows.Statement.{statement}
 use Rattle.table_compact.proofs.compact_rows.Tie as tie

@@ -1,8 +1,5 @@
 -- `table_compact::keep_block` meets its contract. Assumes nothing.
-use Prim.Native.Nat.{_-_}
-use native.Mathlib.Omega.{arith}
-use lib.Bits.{and-le-r}
-use Rattle.table_compact.specs.inner.ClosingUp.{Block}
+use Rattle.table_compact.proofs.Prelude.{_-_, arith, and-le-r, Block}
 use Rattle.table_compact.proofs.CompactionSteps.{Going, going-begin, going-lengths, going-end, row-in-block, going-keep, going-on}
 use Rattle.table_compact.proofs.keep_block.Statement.{statement}
 use Rattle.table_compact.proofs.keep_block.Tie as tie

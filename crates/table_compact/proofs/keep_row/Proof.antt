@@ -1,6 +1,5 @@
 -- `table_compact::keep_row` meets its contract. Assumes nothing.
-use native.Mathlib.Omega.{arith}
-use borrow.Author.Needs.{needs}
+use Rattle.table_compact.proofs.Prelude.{arith, needs}
 use Rattle.table_compact.proofs.CompactionSteps.{from-place, to-place, row-kept}
 use Rattle.table_compact.proofs.keep_row.Statement.{statement}
 use Rattle.table_compact.proofs.keep_row.Tie as tie

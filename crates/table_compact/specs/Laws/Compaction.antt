@@ -1,51 +1,12 @@
 -- Laws of a compaction: how the live rows of a store move down row by row, their sort entries and the words that number them; and
 -- that the resulting stores represent the compacted plain table. Assumes nothing.
-use Prim.Native.Nat.{ℕ, zero, suc, _+_, _-_, _*_, _/_, _%_, _≤_, _<_, min, suc-le-suc}
-use mathlib.Core.Path.{_≡_, refl, sym, ap, ap₂, _∙_}
-use mathlib.Core.Logic.{inl, inr}
-use mathlib.Core.Bool.{Bool, true, false, cond}
-use mathlib.Core.List.{List, [], _∷_, _++_, map, map-append, map-map, append-nil}
-use native.Mathlib.Nat.{add-zero, suc-mul, mul-le-mul-right}
-use native.Mathlib.Numerals.{add-one}
-use native.Mathlib.Decide.{ℕ-discrete}
-use native.Mathlib.Omega.{arith}
-use lib.ListN.{length, getD, set, length-map}
-use lib.Seq.{getD-set-same, getD-set-other}
-use lib.Dec.{ltb}
+use Rattle.table_compact.specs.Laws.Prelude.{ℕ, zero, suc, _+_, _-_, _*_, _/_, _%_, _≤_, _<_, min, suc-le-suc, _≡_, refl, sym, ap, ap₂, _∙_, inl, inr, Bool, true, false, cond, List, [], _∷_, _++_, map, map-append, map-map, append-nil, add-zero, suc-mul, mul-le-mul-right, add-one, ℕ-discrete, arith, length, getD, set, length-map, getD-set-same, getD-set-other, ltb, split, filter-append, length-filter, count-le, all-filter, length-splice, splice-then, part-after, widths, length-rowsOf, length-rowAt, rowsOf-snoc, rowsOf-widths, widths-filter, length-flatten, flatten-append, getD-rowsOf, rowsOf-put-flatten, isLive, Entry, entry, entriesOf, entryWords, rebuilt, Append, lastPasses, push, push-new, push-same, rebuilt-snoc, rebuilt-few, length-words, words-snoc, entriesOf-put, liveWord, newNumber, number-rank, filter-at, LiveAt, KeysSound, Fits, small, past-sizeClass, below-number, live-among, live-rises, Compacted, renumber-sound, slots-renumbered, noRow, compacted-proper, dead-compacted, Header, KeptCounts, indexShapeOf, stores, lengths, Represents, SlotsPast, full-shape-fits, Lendable, KeysUpdated, ClosedUp, Compaction, stored-live, Proper, stores-long, stored-rows, rows-counted, row-shown}
 use Rattle.lists.specs.Lists.{splice, filter, rowAt, rowsOf, flatten}
-use Rattle.lists.specs.Laws.Filter.{split, filter-append, length-filter, count-le, all-filter}
-use Rattle.lists.specs.Laws.Parts.{length-splice, splice-then, part-after}
-use Rattle.lists.specs.Laws.Rows.{widths, length-rowsOf, length-rowAt, rowsOf-snoc, rowsOf-widths, widths-filter, length-flatten, flatten-append, getD-rowsOf, rowsOf-put-flatten}
-use Rattle.constraints.specs.Constraints.{isLive}
-use Rattle.sort_entries.specs.Entries.{Entry, entry, entriesOf, entryWords, rebuilt}
-use Rattle.sort_entries.specs.inner.Append.{Append}
-use Rattle.sort_entries.specs.Laws.Push.{lastPasses, push, push-new, push-same, rebuilt-snoc}
-use Rattle.sort_entries.specs.Laws.Rebuilt.{rebuilt-few}
-use Rattle.sort_entries.specs.Laws.Stores.{length-words, words-snoc, entriesOf-put}
-use Rattle.row_buffer.specs.Ranks.{liveWord, newNumber}
-use Rattle.row_buffer.specs.Laws.Rows.{number-rank, filter-at}
-use Rattle.key_index.specs.Slots.{LiveAt, KeysSound}
-use Rattle.key_index.specs.inner.Index.{Fits}
-use Rattle.key_index.specs.Laws.Lines.{small}
-use Rattle.key_index.specs.Laws.SizeClasses.{past-sizeClass}
 use Rattle.key_renumber.specs.inner.Renumbering.{liveBelow, Renumbered, newRow}
-use Rattle.key_renumber.specs.Laws.Renumbering.{below-number, live-among, live-rises, Compacted, renumber-sound, slots-renumbered}
 use Rattle.plain_table.specs.Plain.{Row, Plain, compacted}
 use Rattle.plain_table.specs.Refusing.{storesShort}
-use Rattle.plain_table.specs.Laws.Rows.{noRow}
-use Rattle.plain_table.specs.Laws.Proper.{compacted-proper}
-use Rattle.plain_table.specs.Laws.Live.{dead-compacted}
-use Rattle.table.specs.declared.Header.{Header}
-use Rattle.table_compact.specs.declared.KeptCounts.{KeptCounts}
-use Rattle.table.specs.Sound.{indexShapeOf}
 use Rattle.table.specs.Stores.{entries, headerOf, stored, rowStore, sortStore, Shows, RowShown}
-use Rattle.table.specs.Contracts.{stores, lengths, Represents, SlotsPast}
-use Rattle.table.specs.Laws.Refusals.{full-shape-fits}
-use Rattle.table_compact.specs.inner.Compaction.{Lendable, KeysUpdated, ClosedUp, Compaction}
 use Rattle.table_compact.specs.inner.ClosingUp.{liveStored, entriesFor, closedRows, Closed, closedHeader}
-use Rattle.table.specs.Laws.Stored.{stored-live}
-use Rattle.plain_table.specs.Proper.{Proper}
-use Rattle.table.specs.Laws.Shown.{stores-long, stored-rows, rows-counted, row-shown}
 
 -- ---- the live rows move down
 

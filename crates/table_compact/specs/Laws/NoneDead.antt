@@ -1,25 +1,8 @@
 -- A compaction of a table without dead rows: only the generation rises. Assumes nothing.
-use Prim.Native.Nat.{ℕ, _*_, _≤_, _<_}
-use mathlib.Core.Path.{_≡_, refl, sym, ap, _∙_}
-use mathlib.Core.Logic.{inl, inr}
-use mathlib.Core.Bool.{true, not}
-use mathlib.Core.List.{List, [], _∷_}
-use native.Mathlib.Omega.{arith}
-use lib.ListN.{length}
+use Rattle.table_compact.specs.Laws.Prelude.{ℕ, _*_, _≤_, _<_, _≡_, refl, sym, ap, _∙_, inl, inr, true, not, List, [], _∷_, arith, length, all-cons, split, filter-all, splice-front, flatten-rowsOf, words-entriesOf, compacted-proper, Header, stores, Represents, stored-live, represents-long, entries-few, rows-in, rows-counted, rows-stored, nextGeneration, ClosedUp, Compaction}
 use Rattle.lists.specs.Lists.{count, all, rowsOf}
-use Rattle.lists.specs.Laws.All.{all-cons}
-use Rattle.lists.specs.Laws.Filter.{split, filter-all}
-use Rattle.lists.specs.Laws.Parts.{splice-front}
-use Rattle.lists.specs.Laws.Rows.{flatten-rowsOf}
-use Rattle.sort_entries.specs.Laws.Stores.{words-entriesOf}
 use Rattle.plain_table.specs.Plain.{Row, Plain, dead, compacted}
-use Rattle.plain_table.specs.Laws.Proper.{compacted-proper}
-use Rattle.table.specs.declared.Header.{Header}
 use Rattle.table.specs.Stores.{entries, headerOf, stored, rowStore, sortStore}
-use Rattle.table.specs.Contracts.{stores, Represents}
-use Rattle.table.specs.Laws.Stored.{stored-live}
-use Rattle.table.specs.Laws.Shown.{represents-long, entries-few, rows-in, rows-counted, rows-stored}
-use Rattle.table_compact.specs.inner.Compaction.{nextGeneration, ClosedUp, Compaction}
 
 -- if no row is dead, all are live
 all-live : (rows : List Row) → count (λ row. not (row .live)) rows ≡ 0 → all (λ row. row .live) rows ≡ true

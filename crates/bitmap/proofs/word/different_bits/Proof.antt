@@ -1,6 +1,5 @@
 -- `bitmap::word::different_bits` meets its contract. Assumes nothing.
-use Prim.Native.Nat.{_-_}
-use native.Mathlib.Omega.{arith}
+use Rattle.bitmap.proofs.Prelude.{_-_, arith}
 use Rattle.bitmap.proofs.MarkSteps.{Marked, marked-begin, word-below, place-in, marked-other, marked-same, marked-end}
 use Rattle.bitmap.proofs.word.different_bits.Statement.{statement}
 use Rattle.bitmap.proofs.word.different_bits.Tie as tie
