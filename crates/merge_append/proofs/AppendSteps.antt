@@ -1,31 +1,6 @@
 -- Steps of an append in the code's form: what an admission implies, by its answer, the key store with the row, and the combined
 -- answers of the parts. Assumes nothing.
-use Prim.Native.Nat.{ℕ, _+_, _*_, _≤_, _<_}
-use mathlib.Core.Path.{_≡_, refl, sym, ap, _∙_}
-use mathlib.Core.Bool.{Bool, true, false, false≢true}
-use mathlib.Core.List.{List}
-use native.Mathlib.Nat.{add-zero}
-use native.Mathlib.Omega.{arith}
-use lib.ListN.{length, getD, set}
-use Rattle.lists.specs.Lists.{splice}
-use Rattle.key_index.specs.declared.IndexShape.{IndexShape}
-use Rattle.key_index.specs.Slots.{slots}
-use Rattle.key_index.specs.inner.Ring.{tagged}
-use Rattle.key_index.specs.inner.Index.{Fits, PutIs}
-use Rattle.key_index.specs.Laws.Index.{replace-tail}
-use Rattle.key_index.specs.Laws.Places.{fits-stores}
-use Rattle.key_index.specs.Laws.SizeClasses.{past-sizeClass, fits-fewer}
-use Rattle.key_rebuild.specs.inner.Rebuilding.{Rebuilt}
-use Rattle.table.specs.declared.Header.{Header}
-use Rattle.merge_append.specs.declared.Insertion.{Insertion}
-use Rattle.merge_append.specs.declared.Admission.{Admission}
-use Rattle.merge_append.specs.declared.Admission.the-variants.{Stop, Entries}
-use Rattle.table.specs.Sound.{indexShapeOf}
-use Rattle.table.specs.Contracts.{SlotsPast}
-use Rattle.table.specs.Laws.Refusals.{full-shape-fits}
-use Rattle.table.specs.inner.FullIndexShape.{fullIndexShapeOf}
-use Rattle.merge_append.specs.Laws.Places.{Placed, placed}
-use Rattle.merge_append.specs.inner.Appending.{grownTo, Stops, Entered, AdmissionIs, outgrown, KeysGrown, Rebuildable, RebuiltGrown, Growable, Stayed, Grew, NewIs, Replaced, ReplaceIs}
+use Rattle.merge_append.proofs.Prelude.{ℕ, _+_, _*_, _≤_, _<_, _≡_, refl, sym, ap, _∙_, Bool, true, false, false≢true, List, add-zero, arith, length, getD, set, splice, IndexShape, slots, tagged, Fits, PutIs, replace-tail, fits-stores, past-sizeClass, fits-fewer, Rebuilt, Header, Insertion, Admission, Stop, Entries, indexShapeOf, SlotsPast, full-shape-fits, fullIndexShapeOf, Placed, placed, grownTo, Stops, Entered, AdmissionIs, outgrown, KeysGrown, Rebuildable, RebuiltGrown, Growable, Stayed, Grew, NewIs, Replaced, ReplaceIs}
 
 -- ---- admissions
 

@@ -1,4 +1,5 @@
 -- What follows from the definitions.
+mod Prelude
 pub mod Admission
 pub mod Growth
 pub mod Places

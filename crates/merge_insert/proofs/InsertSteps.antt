@@ -1,36 +1,9 @@
 -- Steps of an insert in the code's form: the row that the rule makes, and the answers of the parts put together. Assumes
 -- nothing.
-use Prim.Native.Nat.{ℕ, _+_, _-_, _*_, _≤_, _<_}
-use mathlib.Core.Path.{_≡_, refl, sym, ap, ap₂, _∙_}
-use mathlib.Core.Bool.{Bool, true, false, not, false≢true}
-use mathlib.Core.List.{List}
-use native.Mathlib.Nat.{add-zero}
-use native.Mathlib.Omega.{arith}
-use lib.ListN.{length, take, drop, getD, length-take, length-drop}
-use lib.Seq.{take-take, take-all, getD-take, getD-drop}
-use borrow.Author.Tests.{le-leb, lt-leb, not-true, not-false}
+use Rattle.merge_insert.proofs.Prelude.{ℕ, _+_, _-_, _*_, _≤_, _<_, _≡_, refl, sym, ap, ap₂, _∙_, Bool, true, false, not, false≢true, List, add-zero, arith, length, take, drop, getD, length-take, length-drop, take-take, take-all, getD-take, getD-drop, le-leb, lt-leb, not-true, not-false, part-width, part-splice, row-in, changesFrom, madeFrom, survivor, survivor-length, survivor-old, IndexShape, Found, None, At, slots, Fits, FoundIs, Header, Insertion, Unchanged, Appended, Stopped, indexShapeOf, full-shape-fits, Ready, Inserting, placed, Growable, NewIs, ReplaceIs, length-made, skip-inserts, new-inserts, known-inserts}
 use Rattle.lists.specs.Lists.{splice, rowAt, same}
-use Rattle.lists.specs.Laws.Parts.{part-width, part-splice}
-use Rattle.lists.specs.Laws.Rows.{row-in}
 use Rattle.cells.specs.Cells.{isDead}
-use Rattle.merge_rules.specs.Rules.{changesFrom, madeFrom, survivor}
-use Rattle.merge_rules.specs.Laws.Rules.{survivor-length, survivor-old}
-use Rattle.key_index.specs.declared.IndexShape.{IndexShape}
-use Rattle.key_index.specs.declared.Found.{Found}
-use Rattle.key_index.specs.declared.Found.the-variants.{None, At}
-use Rattle.key_index.specs.Slots.{slots}
-use Rattle.key_index.specs.inner.Index.{Fits, FoundIs}
-use Rattle.table.specs.declared.Header.{Header}
-use Rattle.merge_append.specs.declared.Insertion.{Insertion}
-use Rattle.merge_append.specs.declared.Insertion.the-variants.{Unchanged, Appended, Stopped}
-use Rattle.table.specs.Sound.{indexShapeOf}
-use Rattle.table.specs.Laws.Refusals.{full-shape-fits}
-use Rattle.merge_pending.specs.inner.Becoming.{Ready}
-use Rattle.merge_insert.specs.inner.Inserting.{Inserting}
-use Rattle.merge_append.specs.Laws.Places.{placed}
-use Rattle.merge_append.specs.inner.Appending.{Growable, NewIs, ReplaceIs}
 use Rattle.merge_insert.specs.inner.Ruling.{Changes, rowMade, Makeable, MadeIs, UnchangedOld, KnownIs}
-use Rattle.merge_insert.specs.Laws.Inserts.{length-made, skip-inserts, new-inserts, known-inserts}
 
 -- ---- the row made
 

@@ -1,2 +1,3 @@
+mod Prelude
 pub mod InsertSteps
 pub mod PassInserts

@@ -1,27 +1,10 @@
 -- The inserts of a merge: one record's turn, by what the insert answers, and what holds at each turn of the loop over the
 -- pending records. Assumes nothing.
-use Prim.Native.Nat.{ℕ, _+_, _≤_}
-use mathlib.Core.Path.{_≡_, refl, sym, ap, _∙_}
-use mathlib.Core.List.{List, [], _∷_}
-use native.Mathlib.Numerals.{add-one}
-use native.Mathlib.Omega.{arith}
-use lib.ListN.{length, take, drop, getD}
-use borrow.Author.Tests.{ne-eqb}
+use Rattle.merge_insert.proofs.Prelude.{ℕ, _+_, _≤_, _≡_, refl, sym, ap, _∙_, List, [], _∷_, add-one, arith, length, take, drop, getD, ne-eqb, refused, accepted, insertAll-accepted, insertAll-refused, Header, MergeProgress, Insertion, Unchanged, Appended, Stopped, openingOf, Stores, stores, Represents, SlotsPast, InsertedTable, Insertions, FirstInsert, InsertNext, InsertGoes, InsertedNext, InsertAgrees, Inserting, steps-refl, steps-then, waiting-start, words-some, waiting-next, waiting-kind, waiting-hash, waiting-cells, recounted-refl, recounted-capacity, recounted-then, recounted-waiting}
 use Rattle.lists.specs.Lists.{filter}
-use Rattle.refusals.specs.Refusals.{refused, accepted}
 use Rattle.plain_table.specs.Staged.{Staged, insert, removeKey, removeRow, wordsOf, inserts}
 use Rattle.plain_table.specs.Plain.{Inserted, inserted, insertAll, Plain, insertion}
-use Rattle.plain_table.specs.Laws.Counts.{insertAll-accepted, insertAll-refused}
-use Rattle.table.specs.declared.Header.{Header}
-use Rattle.merge_insert.specs.declared.MergeProgress.{MergeProgress}
-use Rattle.merge_append.specs.declared.Insertion.{Insertion}
-use Rattle.merge_append.specs.declared.Insertion.the-variants.{Unchanged, Appended, Stopped}
-use Rattle.table.specs.Numbers.{openingOf}
-use Rattle.table.specs.Contracts.{Stores, stores, Represents, SlotsPast}
 use Rattle.merge_pending.specs.inner.Becoming.{Becomes, Recounted, Ready, Waiting, kindOf, RecordLength, ofKind, Remaining, NextRecord}
-use Rattle.merge_insert.specs.inner.Insertions.{InsertedTable, Insertions, FirstInsert, InsertNext, InsertGoes, InsertedNext}
-use Rattle.merge_insert.specs.inner.Inserting.{InsertAgrees, Inserting}
-use Rattle.merge_pending.specs.Laws.Steps.{steps-refl, steps-then, waiting-start, words-some, waiting-next, waiting-kind, waiting-hash, waiting-cells, recounted-refl, recounted-capacity, recounted-then, recounted-waiting}
 use Rattle.merge_pending.proofs.PassRecords.{Next, record-long}
 
 -- ---- one insert

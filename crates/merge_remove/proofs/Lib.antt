@@ -1,2 +1,3 @@
+mod Prelude
 pub mod PassRemovals
 pub mod RemovalSteps

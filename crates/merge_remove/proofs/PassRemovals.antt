@@ -1,28 +1,9 @@
 -- The removals of a pass: one record's turn, and what holds at each turn of the loop over the pending records. Assumes
 -- nothing.
-use Prim.Native.Nat.{ℕ, _+_, _*_, _-_, _≤_}
-use mathlib.Core.Path.{_≡_, refl, sym, ap, _∙_}
-use mathlib.Core.Bool.{Bool, true, false, cond}
-use mathlib.Core.List.{List, [], _∷_}
-use native.Mathlib.Decide.{ℕ-discrete}
-use native.Mathlib.Nat.{add-zero}
-use native.Mathlib.Omega.{arith}
-use lib.Dec.{eqb}
-use lib.ListN.{length, take, drop, getD}
-use borrow.Author.Tests.{eq-eqb, ne-eqb}
-use mathlib.Core.Logic.{inl, inr}
+use Rattle.merge_remove.proofs.Prelude.{ℕ, _+_, _*_, _-_, _≤_, _≡_, refl, sym, ap, _∙_, Bool, true, false, cond, List, [], _∷_, ℕ-discrete, add-zero, arith, eqb, length, take, drop, getD, eq-eqb, ne-eqb, inl, inr, split, Fits, Staged, insert, removeKey, removeRow, Plain, Header, openingOf, fullIndexShapeOf, Stores, stores, Represents, SlotsPast, steps-refl, steps-then, waiting-start, words-some, waiting-kind, waiting-hash, waiting-key, waiting-row, waiting-row-key}
 use Rattle.lists.specs.Lists.{filter}
-use Rattle.lists.specs.Laws.Filter.{split}
-use Rattle.key_index.specs.inner.Index.{Fits}
-use Rattle.plain_table.specs.Staged.{Staged, insert, removeKey, removeRow}
-use Rattle.plain_table.specs.Plain.{Plain}
-use Rattle.table.specs.declared.Header.{Header}
-use Rattle.table.specs.Numbers.{openingOf}
-use Rattle.table.specs.inner.FullIndexShape.{fullIndexShapeOf}
-use Rattle.table.specs.Contracts.{Stores, stores, Represents, SlotsPast}
 use Rattle.merge_pending.specs.inner.Becoming.{Becomes, withDead, Waiting, kindOf, RecordLength, ofKind, Remaining, CanSkip, NextRecord}
 use Rattle.merge_remove.specs.inner.Removals.{removed, removedAll, died, removalOf, Removal, RemovalAt, Removed, Removable, Removals, RemovalNext, RemovedNext}
-use Rattle.merge_pending.specs.Laws.Steps.{steps-refl, steps-then, waiting-start, words-some, waiting-kind, waiting-hash, waiting-key, waiting-row, waiting-row-key}
 use Rattle.merge_pending.proofs.PassRecords.{Next, record-long}
 
 -- ---- one removal

@@ -1,41 +1,9 @@
 -- The result of a removal, from the contracts of its calls: a row that is marked dead, a key that no live row has, and the live row
 -- of a key. Assumes nothing.
-use Prim.Native.Nat.{ℕ, _+_, _*_, _≤_, _<_}
-use mathlib.Core.Path.{_≡_, refl, sym, ap, _∙_}
-use mathlib.Core.Bool.{Bool, true, false, not, false≢true}
-use mathlib.Core.Logic.{inl, inr}
-use mathlib.Core.List.{List}
-use native.Mathlib.Nat.{add-zero}
-use native.Mathlib.Omega.{arith}
-use lib.Dec.{eqb}
-use lib.ListN.{length}
-use borrow.Author.Tests.{eqb-true, eqb-false, eq-eqb, ne-eqb, not-true, not-false}
-use Rattle.lists.specs.Laws.Filter.{split}
-use Rattle.lists.specs.Laws.Rows.{row-in}
+use Rattle.merge_remove.proofs.Prelude.{ℕ, _+_, _*_, _≤_, _<_, _≡_, refl, sym, ap, _∙_, Bool, true, false, not, false≢true, inl, inr, List, add-zero, arith, eqb, length, eqb-true, eqb-false, eq-eqb, ne-eqb, not-true, not-false, split, row-in, live-first, Staled, IndexShape, Found, None, At, LiveAt, keyAt, slots, KeysSound, Fits, FoundAt, FoundIs, rows-in, row-inside, past-sizeClass, RowRemoved, removeKey, removeRow, Plain, Header, indexShapeOf, fullIndexShapeOf, stores, Represents, SlotsPast, full-shape-fits, in-live, steps-refl, dying, dying-steps, withoutKey-none, withoutKey-one, withoutRow-none, withoutRow-one, withoutRow-other}
 use Rattle.cells.specs.Cells.{compactHash, keyHash}
-use Rattle.constraints.specs.Laws.Rows.{live-first}
-use Rattle.row_buffer.specs.inner.Rows.{Staled}
-use Rattle.key_index.specs.declared.IndexShape.{IndexShape}
-use Rattle.key_index.specs.declared.Found.{Found}
-use Rattle.key_index.specs.declared.Found.the-variants.{None, At}
-use Rattle.key_index.specs.Slots.{LiveAt, keyAt, slots, KeysSound}
-use Rattle.key_index.specs.inner.Index.{Fits, FoundAt, FoundIs}
-use Rattle.key_index.specs.Laws.Index.{rows-in}
-use Rattle.key_index.specs.Laws.Places.{row-inside}
-use Rattle.key_index.specs.Laws.SizeClasses.{past-sizeClass}
-use Rattle.key_remove.specs.inner.BackwardShift.{RowRemoved}
-use Rattle.plain_table.specs.Staged.{removeKey, removeRow}
-use Rattle.plain_table.specs.Plain.{Plain}
-use Rattle.table.specs.declared.Header.{Header}
-use Rattle.table.specs.Sound.{indexShapeOf}
-use Rattle.table.specs.inner.FullIndexShape.{fullIndexShapeOf}
-use Rattle.table.specs.Contracts.{stores, Represents, SlotsPast}
-use Rattle.table.specs.Laws.Refusals.{full-shape-fits}
 use Rattle.merge_pending.specs.inner.Becoming.{Becomes, withDead, hashOf}
 use Rattle.merge_remove.specs.inner.Removals.{Kills, removalOf, spared, Removal, died, removed}
-use Rattle.table.specs.Laws.Shown.{in-live}
-use Rattle.merge_pending.specs.Laws.Steps.{steps-refl}
-use Rattle.merge_pending.specs.Laws.Dying.{dying, dying-steps, withoutKey-none, withoutKey-one, withoutRow-none, withoutRow-one, withoutRow-other}
 
 -- ---- a row is taken out and marked
 

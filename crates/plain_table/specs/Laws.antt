@@ -1,4 +1,5 @@
 -- What follows from the definitions.
+mod Prelude
 pub mod Rows
 pub mod Lookup
 pub mod Calls

@@ -7,9 +7,6 @@ use Rattle.merge.proofs.MergingSteps.{due-left, lendable-emptied, finis
 use Rattle.merge.proofs.finish.Statement.{statement}
 use Rattle.merge.proofs.finish.Tie as tie
 
-returns : tie.Need-returns
-returns c = finish-stopped _ _ _ _ _ _ _ (c .if1 .taken)
-
 returns-2 : tie.Need-returns-2
 returns-2 c = finish-kept _ _ _ _ _ _ _ (c .before .before .if1 .left) (sym (c .before .is-due .ensures) ∙ not-true _ (c .if2 .taken))
 
@@ -26,5 +23,5 @@ pub finish-spec : {M : Type 1} → statement M
 finish-spec =
     tie.close
     (tie.spec
-    returns (λ c κs. search needs) returns-2 compact-rows-requires (λ c. search needs) (λ c. search needs)
+    (λ c. finish-stopped _ _ _ _ _ _ _ (c .if1 .taken)) (λ c κs. search needs) returns-2 compact-rows-requires (λ c. search needs) (λ c. search needs)
     (λ c. search needs) (λ c. search needs) (λ c. search needs) returns-3)

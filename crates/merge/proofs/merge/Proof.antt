@@ -4,9 +4,6 @@ use Rattle.merge.proofs.MergingSteps.{merge-refused, merge-ready, merge
 use Rattle.merge.proofs.merge.Statement.{statement}
 use Rattle.merge.proofs.merge.Tie as tie
 
-returns : tie.Need-returns
-returns c = merge-refused _ _ _ _ _ _ _ _ (c .before .merge-refusal .ensures) (c .if1 .taken)
-
 apply-pending-requires : tie.Need-apply-pending-requires
 apply-pending-requires c κs =
     let s = c .before .before .before .before .before .before .before .before .before .before .before in
@@ -25,5 +22,5 @@ pub merge-spec : {M : Type 1} → statement M
 merge-spec =
     tie.close
     (tie.spec
-    (λ c κs. search needs) returns apply-pending-requires finish-requires (λ c. search needs) (λ c. search needs)
+    (λ c κs. search needs) (λ c. merge-refused _ _ _ _ _ _ _ _ (c .before .merge-refusal .ensures) (c .if1 .taken)) apply-pending-requires finish-requires (λ c. search needs) (λ c. search needs)
     (λ c. search needs) (λ c. search needs) (λ c. search needs) returns-2)

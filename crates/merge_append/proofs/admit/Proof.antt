@@ -1,16 +1,7 @@
 -- `merge_append::admit` meets its contract: a stop, or the entries with the next row's. Assumes nothing.
-use borrow.Author.Needs.{needs}
-use native.Mathlib.Omega.{arith}
-use mathlib.Core.Path.{refl, sym, _∙_}
-use Rattle.merge_append.specs.Laws.Admission.{stops-full, stops-old, admit-entered}
+use Rattle.merge_append.proofs.Prelude.{needs, arith, refl, sym, _∙_, stops-full, stops-old, admit-entered}
 use Rattle.merge_append.proofs.admit.Statement.{statement}
 use Rattle.merge_append.proofs.admit.Tie as tie
-
-returns : tie.Need-returns
-returns c = (stops-full _ _ (omega arith), refl)
-
-returns-2 : tie.Need-returns-2
-returns-2 c = (stops-old _ _ (c .before .before .if1 .left) (sym (c .before .is-old .ensures) ∙ c .if2 .taken), refl)
 
 returns-3 : tie.Need-returns-3
 returns-3 c = admit-entered _ _ _ (c .before .before .before .before .before .before .before .before .before .pre) (c .before .before .before .before .before .before .if1 .left) _ _ (c .before .before .append-entry .ensures) (sym (c .before .before .before .before .before .is-old .ensures) ∙ c .before .before .before .before .if2 .left)
@@ -18,4 +9,4 @@ returns-3 c = admit-entered _ _ _ (c .before .before .before .before .before .be
 pub admit-spec : {M : Type 1} → statement M
 admit-spec =
     tie.close
-    (tie.spec returns (λ c κs. search needs) returns-2 (λ c κs. search needs) (λ c. search needs) returns-3)
+    (tie.spec (λ c. (stops-full _ _ (omega arith), refl)) (λ c κs. search needs) (λ c. (stops-old _ _ (c .before .before .if1 .left) (sym (c .before .is-old .ensures) ∙ c .if2 .taken), refl)) (λ c κs. search needs) (λ c. search needs) returns-3)

@@ -1,8 +1,5 @@
 -- `merge_append::insert_new` meets its contract. Assumes nothing.
-use mathlib.Core.Path.{sym, ap, _∙_}
-use native.Mathlib.Omega.{arith}
-use borrow.Author.Needs.{needs}
-use Rattle.key_index.specs.declared.IndexShape.{IndexShape}
+use Rattle.merge_append.proofs.Prelude.{sym, ap, _∙_, arith, needs, IndexShape}
 use Rattle.merge_append.proofs.AppendSteps.{stop-of, entered-of, Entering, entering, rebuilds, stayed-of, grew-stepped, grew-rebuilt}
 use Rattle.merge_append.proofs.insert_new.Statement.{statement}
 use Rattle.merge_append.proofs.insert_new.Tie as tie

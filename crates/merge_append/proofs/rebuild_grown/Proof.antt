@@ -1,7 +1,5 @@
 -- `merge_append::rebuild_grown` meets its contract. Assumes nothing.
-use mathlib.Core.Path.{ap}
-use borrow.Author.Needs.{needs}
-use Rattle.merge_append.specs.declared.Insertion.the-variants.{Appended}
+use Rattle.merge_append.proofs.Prelude.{ap, needs, Appended}
 use Rattle.merge_append.proofs.AppendSteps.{rebuildable, rebuilt-grown}
 use Rattle.merge_append.proofs.rebuild_grown.Statement.{statement}
 use Rattle.merge_append.proofs.rebuild_grown.Tie as tie

@@ -1,12 +1,5 @@
 -- `merge_append::replace_row` meets its contract. Assumes nothing.
-use Prim.Native.Nat.{ℕ, _*_}
-use mathlib.Core.Path.{sym, ap, _∙_}
-use mathlib.Core.List.{List}
-use native.Mathlib.Omega.{arith}
-use lib.ListN.{length, length-set}
-use borrow.Author.Needs.{needs}
-use Rattle.lists.specs.Lists.{splice}
-use Rattle.merge_append.specs.Laws.Places.{Placed, placed}
+use Rattle.merge_append.proofs.Prelude.{ℕ, _*_, sym, ap, _∙_, List, arith, length, length-set, needs, splice, Placed, placed}
 use Rattle.merge_append.proofs.AppendSteps.{stop-of, entered-of, Entering, entering, rebuilds, stayed-of, replaced-stepped, replaced-rebuilt}
 use Rattle.merge_append.proofs.replace_row.Statement.{statement}
 use Rattle.merge_append.proofs.replace_row.Tie as tie

@@ -1,29 +1,9 @@
 -- The sort entry of a row, or the stop of the merge: the result of the tests and of appending an entry, by the number of the stop;
 -- and that a table stops exactly where the plain table that it represents does. Assumes nothing.
-use Prim.Native.Nat.{ℕ, _+_, _*_, _≤_, _<_}
-use mathlib.Core.Path.{_≡_, sym, ap, _∙_}
-use mathlib.Core.Logic.{inl, inr}
-use mathlib.Core.Bool.{true, false}
-use mathlib.Core.List.{List, [], _∷_}
-use native.Mathlib.Omega.{arith}
-use lib.Dec.{ltb}
-use lib.ListN.{length, getD}
-use borrow.Author.Tests.{le-leb, lt-leb}
-use Rattle.lists.specs.Lists.{splice}
-use Rattle.lists.specs.Laws.Filter.{split}
-use Rattle.lists.specs.Laws.Parts.{length-splice, splice-alike}
+use Rattle.merge_append.specs.Laws.Prelude.{ℕ, _+_, _*_, _≤_, _<_, _≡_, sym, ap, _∙_, inl, inr, true, false, List, [], _∷_, arith, ltb, length, getD, le-leb, lt-leb, splice, split, length-splice, splice-alike, entriesOf, entryWords, lastPasses, push, EntryFits, Append, append-few, words-entriesOf, firstRefusal-no, firstRefusal-rest, Header, largestView, Stores, Represents, largestView-largestOf}
 use Rattle.refusals.specs.Refusals.{firstRefusal}
-use Rattle.sort_entries.specs.Entries.{entriesOf, entryWords}
-use Rattle.sort_entries.specs.Laws.Push.{lastPasses, push}
-use Rattle.sort_entries.specs.inner.Append.{EntryFits, Append, append-few}
-use Rattle.sort_entries.specs.Laws.Stores.{words-entriesOf}
 use Rattle.plain_table.specs.Plain.{Plain, stop, below}
-use Rattle.plain_table.specs.Laws.Calls.{firstRefusal-no, firstRefusal-rest}
-use Rattle.table.specs.declared.Header.{Header}
-use Rattle.table.specs.Numbers.{largestView}
-use Rattle.table.specs.Contracts.{Stores, Represents}
 use Rattle.merge_append.specs.inner.Appending.{stopAt, Enterable, Stops, Entered}
-use Rattle.table.specs.Laws.Sound.{largestView-largestOf}
 
 module _ (h : Header) (value : ℕ) where
   -- stop 8

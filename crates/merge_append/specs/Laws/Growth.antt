@@ -1,40 +1,11 @@
 -- A row is appended to the rows of a plain table, of which one may have died: the stores after that, and that they represent the
 -- table with the row. Assumes nothing.
-use Prim.Native.Nat.{ℕ, _+_, _*_, _≤_, _<_}
-use mathlib.Core.Path.{_≡_, refl, sym, ap, ap₂, _∙_}
-use mathlib.Core.Bool.{true, cond, not}
-use mathlib.Core.List.{List, [], _∷_, _++_, map, append-nil, map-append}
-use native.Mathlib.Nat.{add-zero, suc-mul}
-use native.Mathlib.Numerals.{add-one}
-use native.Mathlib.Omega.{arith}
-use lib.ListN.{length, take, drop, getD, set, length-append, length-map, length-set, List·getD-append}
-use lib.Seq.{drop-drop, drop-set-lt}
+use Rattle.merge_append.specs.Laws.Prelude.{ℕ, _+_, _*_, _≤_, _<_, _≡_, refl, sym, ap, ap₂, _∙_, true, cond, not, List, [], _∷_, _++_, map, append-nil, map-append, add-zero, suc-mul, add-one, arith, length, take, drop, getD, set, length-append, length-map, length-set, List·getD-append, drop-drop, drop-set-lt, count-append, length-splice, splice-start, row-in, length-rowsOf, getD-rowsOf, rowsOf-appended, flatten-rowsOf, flatten-append, KeysSound, stale-rows, Entry, entriesOf, entryWords, rebuilt, push, rebuilt-snoc, length-entriesOf, Proper, rowOf, noRow, liveRow, live-below, raised-same, openable-bounds, Header, Value, indexShapeOf, Stores, stores, lengths, Represents, Later, Becomes, withCounts, Entered, grownTo, largestView-largestOf, stored-again, long-stores, stored-rows, represents-long, rows-stored, rows-counted, killAt, length-killAt, killAt-cells, killAt-live, entries-killAt, stored-killAt}
 use Rattle.lists.specs.Lists.{splice, count, rowsOf, flatten}
-use Rattle.lists.specs.Laws.Filter.{count-append}
-use Rattle.lists.specs.Laws.Parts.{length-splice, splice-start}
-use Rattle.lists.specs.Laws.Rows.{row-in, length-rowsOf, getD-rowsOf, rowsOf-appended, flatten-rowsOf, flatten-append}
-use Rattle.key_index.specs.Slots.{KeysSound}
-use Rattle.row_buffer.specs.Laws.Rows.{stale-rows}
-use Rattle.sort_entries.specs.Entries.{Entry, entriesOf, entryWords, rebuilt}
-use Rattle.sort_entries.specs.Laws.Push.{push, rebuilt-snoc}
-use Rattle.sort_entries.specs.Laws.Stores.{length-entriesOf}
 use Rattle.plain_table.specs.Plain.{Row, Plain, withRows, withRow, dead}
-use Rattle.plain_table.specs.Proper.{Proper, rowOf}
-use Rattle.plain_table.specs.Laws.Rows.{noRow, liveRow, live-below, raised-same}
-use Rattle.plain_table.specs.Laws.Proper.{openable-bounds}
-use Rattle.table.specs.declared.Header.{Header}
-use Rattle.table.specs.declared.Largest.the-variants.{Value}
 use Rattle.table.specs.Numbers.{largestOf}
 use Rattle.table.specs.Stores.{entries, headerOf, marked, stored, rowStore, sortStore}
-use Rattle.table.specs.Sound.{indexShapeOf}
-use Rattle.table.specs.Contracts.{Stores, stores, lengths, Represents}
-use Rattle.merge_pending.specs.inner.Becoming.{Later, Becomes, withCounts}
-use Rattle.merge_append.specs.inner.Appending.{Entered, grownTo}
 use Rattle.merge_append.specs.Laws.Admission.{free-above}
-use Rattle.table.specs.Laws.Sound.{largestView-largestOf}
-use Rattle.table.specs.Laws.Stored.{stored-again}
-use Rattle.table.specs.Laws.Shown.{long-stores, stored-rows, represents-long, rows-stored, rows-counted}
-use Rattle.merge_pending.specs.Laws.Dying.{killAt, length-killAt, killAt-cells, killAt-live, entries-killAt, stored-killAt}
 
 -- ---- one more row
 

@@ -1,13 +1,5 @@
 -- Places in the row store. Assumes nothing.
-use Prim.Native.Nat.{ℕ, _+_, _*_, _≤_, _<_}
-use mathlib.Core.List.{List}
-use native.Mathlib.Nat.{mul-le-mul}
-use native.Mathlib.Omega.{arith}
-use lib.ListN.{length}
-use Rattle.lists.specs.Laws.Rows.{row-in}
-use Rattle.key_index.specs.inner.Index.{Fits}
-use Rattle.table.specs.declared.Header.{Header}
-use Rattle.table.specs.inner.FullIndexShape.{fullIndexShapeOf}
+use Rattle.merge_append.specs.Laws.Prelude.{ℕ, _+_, _*_, _≤_, _<_, List, mul-le-mul, arith, length, row-in, Fits, Header, fullIndexShapeOf}
 
 -- a row's place is a number that fits, and its cells are within the store
 pub record Placed (h : Header) (rows : List ℕ) (i : ℕ) : Type 0 where

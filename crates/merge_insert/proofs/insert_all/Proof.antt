@@ -1,9 +1,7 @@
 -- `merge_insert::insert_all` meets its contract. The loop's invariant: the result of all inserts is that of the remaining records
 -- from here. Assumes nothing.
-use Prim.Native.Nat.{_-_}
-use native.Mathlib.Omega.{arith}
+use Rattle.merge_insert.proofs.Prelude.{_-_, arith, needs}
 use Rattle.merge_insert.proofs.PassInserts.{Filling, filling-begin, filling-long, filling-inside, filling-requires, filling-again, filling-stop, filling-end}
-use borrow.Author.Needs.{needs}
 use Rattle.merge_insert.proofs.insert_all.Statement.{statement}
 use Rattle.merge_insert.proofs.insert_all.Tie as tie
 

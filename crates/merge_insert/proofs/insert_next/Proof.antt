@@ -1,12 +1,8 @@
 -- `merge_insert::insert_next` meets its contract. Assumes nothing.
-use native.Mathlib.Omega.{arith}
+use Rattle.merge_insert.proofs.Prelude.{arith, needs}
 use Rattle.merge_insert.proofs.PassInserts.{inserted-other, inserted-kept, inserted-appended, inserted-stopped}
-use borrow.Author.Needs.{needs}
 use Rattle.merge_insert.proofs.insert_next.Statement.{statement}
 use Rattle.merge_insert.proofs.insert_next.Tie as tie
-
-returns : tie.Need-returns
-returns c = inserted-other (c .before .before .before .before .before .before .pre) (c .if1 .taken)
 
 shared-slice-read-hash : tie.Need-shared-slice-read-hash
 shared-slice-read-hash c = let p = c .before .before .before .before .before .before .before .before .pre in omega (arith, p .ready .pending-fits, p .whole (c .before .before .if1 .left))
@@ -39,7 +35,7 @@ pub insert-next-spec : {M : Type 1} → statement M
 insert-next-spec =
     tie.close
     (tie.spec
-    (λ c. search needs) (λ c. search needs) returns (λ c. search needs) (λ c. search needs) shared-slice-read-hash
+    (λ c. search needs) (λ c. search needs) (λ c. inserted-other (c .before .before .before .before .before .before .pre) (c .if1 .taken)) (λ c. search needs) (λ c. search needs) shared-slice-read-hash
     add-insert-row insert-row-requires (λ c. search needs) (λ c. search needs) (λ c. search needs) add-r-2
     (λ c. search needs) (λ c. search needs) (λ c. search needs) (λ c. search needs) returns-2 (λ c. search needs)
     (λ c. search needs) (λ c. search needs) returns-3 (λ c. search needs) (λ c. search needs) (λ c. search needs)

@@ -1,36 +1,9 @@
 -- One row of a plain table dies: which row a removal removes, and the stores after that. Shared by the removals and by the insert
 -- of a known key. Assumes nothing.
-use Prim.Native.Nat.{ℕ, zero, suc, _+_, _*_, _≤_, _<_}
-use mathlib.Core.Path.{_≡_, refl, sym, ap, ap₂, _∙_}
-use mathlib.Core.Logic.{_⊎_, inl, inr}
-use mathlib.Core.Bool.{true, false, cond, not, false≢true}
-use mathlib.Core.List.{List, [], _∷_, _++_}
-use native.Mathlib.Numerals.{add-one}
-use native.Mathlib.Omega.{arith}
-use lib.ListN.{length, take, getD, set, length-set, length-take}
-use lib.Seq.{drop-set-lt, map-set-same}
-use borrow.Author.Tests.{not-true}
+use Rattle.merge_pending.specs.Laws.Prelude.{ℕ, zero, suc, _+_, _*_, _≤_, _<_, _≡_, refl, sym, ap, ap₂, _∙_, _⊎_, inl, inr, true, false, cond, not, false≢true, List, [], _∷_, _++_, add-one, arith, length, take, getD, set, length-set, length-take, drop-set-lt, map-set-same, not-true, split, all-getD, all-of, all-head, all-tail, splice-front, row-in, flatten-rowsOf, getD-rowsOf, length-rowsOf, LiveAt, keyAt, KeysSound, stale-rows, Entry, entryWords, rebuilt, removeKey, removeRow, Proper, rowOf, noRow, Thinned, empty, same-row, died, thinned-same, freeRow, keysDistinct, keysDistinct-of, keysDistinct-head, keysDistinct-tail, live-below, liveWithKey-live, liveWithKey-key, openable-bounds, thinned-proper, Header, indexShapeOf, Stores, stores, lengths, Represents, Later, Becomes, withCounts, withDead, stored-again, rows-in, long-stores, stored-rows, represents-long, rows-stored, rows-counted, passes-live, live-passes}
 use Rattle.lists.specs.Lists.{splice, count, all, rowAt, rowsOf, flatten}
-use Rattle.lists.specs.Laws.Filter.{split, all-getD, all-of}
-use Rattle.lists.specs.Laws.All.{all-head, all-tail}
-use Rattle.lists.specs.Laws.Parts.{splice-front}
-use Rattle.lists.specs.Laws.Rows.{row-in, flatten-rowsOf, getD-rowsOf, length-rowsOf}
-use Rattle.key_index.specs.Slots.{LiveAt, keyAt, KeysSound}
-use Rattle.row_buffer.specs.Laws.Rows.{stale-rows}
-use Rattle.sort_entries.specs.Entries.{Entry, entryWords, rebuilt}
-use Rattle.plain_table.specs.Staged.{removeKey, removeRow}
 use Rattle.plain_table.specs.Plain.{Row, Plain, deadRow, withRows, dead, liveWithKey, killIf, withoutKey, dies, withoutRow}
-use Rattle.plain_table.specs.Proper.{Proper, rowOf}
-use Rattle.plain_table.specs.Laws.Rows.{noRow, Thinned, empty, same-row, died, thinned-same, freeRow, keysDistinct, keysDistinct-of, keysDistinct-head, keysDistinct-tail, live-below, liveWithKey-live, liveWithKey-key}
-use Rattle.plain_table.specs.Laws.Proper.{openable-bounds, thinned-proper}
-use Rattle.table.specs.declared.Header.{Header}
 use Rattle.table.specs.Stores.{entries, headerOf, marked, stored, rowStore, sortStore}
-use Rattle.table.specs.Sound.{indexShapeOf}
-use Rattle.table.specs.Contracts.{Stores, stores, lengths, Represents}
-use Rattle.merge_pending.specs.inner.Becoming.{Later, Becomes, withCounts, withDead}
-use Rattle.table.specs.Laws.Stored.{stored-again}
-use Rattle.table.specs.Laws.Shown.{rows-in, long-stores, stored-rows, represents-long, rows-stored, rows-counted}
-use Rattle.table.specs.Laws.Lookup.{passes-live, live-passes}
 use Rattle.merge_pending.specs.Laws.Steps.{steps-refl}
 
 -- row i dies

@@ -1,38 +1,10 @@
 -- Laws of the steps of a merge: steps compose, where the pending records are and what their words are, and which removals of the
 -- plain table the passes make. Assumes nothing.
-use Prim.Native.Nat.{ℕ, _+_, _*_, _≤_, _<_}
-use mathlib.Core.Path.{_≡_, refl, sym, ap, ap₂, _∙_}
-use mathlib.Core.Logic.{inl, inr}
-use mathlib.Core.Bool.{true, false, not}
-use mathlib.Core.List.{List, [], _∷_, _++_, map}
-use native.Mathlib.Decide.{decLt}
-use native.Mathlib.Nat.{add-zero, zero-add, mul-le-mul-right}
-use native.Mathlib.Omega.{arith}
-use lib.ListN.{length, take, drop, getD, length-take}
-use lib.Seq.{take-at, drop-at, take-take, drop-drop, getD-take, getD-drop, set-set, ext-getD}
-use borrow.Author.Tests.{not-true}
+use Rattle.merge_pending.specs.Laws.Prelude.{ℕ, _+_, _*_, _≤_, _<_, _≡_, refl, sym, ap, ap₂, _∙_, inl, inr, true, false, not, List, [], _∷_, _++_, map, decLt, add-zero, zero-add, mul-le-mul-right, arith, length, take, drop, getD, length-take, take-at, drop-at, take-take, drop-drop, getD-take, getD-drop, set-set, ext-getD, not-true, split, all-head, all-tail, take-drop, splice-over, splice-front, widths, length-rowsOf, getD-rowsOf, length-flatten, rowsOf-put-flatten, flatten-rowsOf, entryWords, length-words, words-entriesOf, rebuilt-front, Plain, wrongWidth, rowOf, live-below, Header, openingOf, Stores, Represents, length-stored, stored-widths, stored-at-live, stored-at-dead, stored-at-new, entries-few, rows-in, wide-rows, represents-long, rows-stored, rows-counted, live-cells, length-recordWords, sortCells, length-sortCells, getD-sortCells}
 use Rattle.lists.specs.Lists.{rowsOf, flatten}
-use Rattle.lists.specs.Laws.Filter.{split}
-use Rattle.lists.specs.Laws.All.{all-head, all-tail}
-use Rattle.lists.specs.Laws.Parts.{take-drop, splice-over, splice-front}
-use Rattle.lists.specs.Laws.Rows.{widths, length-rowsOf, getD-rowsOf, length-flatten, rowsOf-put-flatten, flatten-rowsOf}
-use Rattle.sort_entries.specs.Entries.{entryWords}
-use Rattle.sort_entries.specs.Laws.Stores.{length-words, words-entriesOf}
-use Rattle.sort_entries.specs.Laws.Rebuilt.{rebuilt-front}
 use Rattle.plain_table.specs.Staged.{Opening, Staged, insert, removeKey, removeRow, wordsOf, wordsAll}
-use Rattle.plain_table.specs.Plain.{Plain}
-use Rattle.plain_table.specs.Refusing.{wrongWidth}
-use Rattle.plain_table.specs.Proper.{rowOf}
-use Rattle.plain_table.specs.Laws.Rows.{live-below}
-use Rattle.table.specs.declared.Header.{Header}
-use Rattle.table.specs.Numbers.{openingOf}
 use Rattle.table.specs.Stores.{entries, marked, stored, rowStore, sortStore, recordWords}
-use Rattle.table.specs.Contracts.{Stores, Represents}
 use Rattle.merge_pending.specs.inner.Becoming.{Later, Becomes, withCounts, Recounted, Waiting, kindOf, hashOf}
-use Rattle.table.specs.Laws.Stored.{length-stored, stored-widths, stored-at-live, stored-at-dead, stored-at-new}
-use Rattle.table.specs.Laws.Shown.{entries-few, rows-in, wide-rows, represents-long, rows-stored, rows-counted, live-cells}
-use Rattle.table.specs.Laws.Pending.{length-recordWords}
-use Rattle.table.specs.Laws.Sound.{sortCells, length-sortCells, getD-sortCells}
 
 -- ---- rows that die and rows that are appended
 

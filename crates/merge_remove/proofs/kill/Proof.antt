@@ -1,6 +1,5 @@
 -- `merge_remove::kill` meets its contract. Assumes nothing.
-use native.Mathlib.Omega.{arith}
-use borrow.Author.Needs.{needs}
+use Rattle.merge_remove.proofs.Prelude.{arith, needs}
 use Rattle.merge_remove.proofs.RemovalSteps.{first-cell, killed}
 use Rattle.merge_remove.proofs.kill.Statement.{statement}
 use Rattle.merge_remove.proofs.kill.Tie as tie

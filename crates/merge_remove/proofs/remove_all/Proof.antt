@@ -1,9 +1,7 @@
 -- `merge_remove::remove_all` meets its contract. The loop's invariant: the removals so far and those of the records still to
 -- come are the removals of all records. Assumes nothing.
-use Prim.Native.Nat.{_-_}
-use native.Mathlib.Omega.{arith}
+use Rattle.merge_remove.proofs.Prelude.{_-_, arith, needs}
 use Rattle.merge_remove.proofs.PassRemovals.{Removing, removing-begin, removing-long, removing-inside, removing-requires, removing-passes, removing-again, removing-end}
-use borrow.Author.Needs.{needs}
 use Rattle.merge_remove.proofs.remove_all.Statement.{statement}
 use Rattle.merge_remove.proofs.remove_all.Tie as tie
 

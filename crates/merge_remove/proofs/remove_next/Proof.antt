@@ -1,13 +1,9 @@
 -- `merge_remove::remove_next` meets its contract. Assumes nothing.
-use mathlib.Core.Path.{sym, ap}
+use Rattle.merge_remove.proofs.Prelude.{sym, ap, needs}
 use Rattle.merge_remove.specs.inner.Removals.{died}
 use Rattle.merge_remove.proofs.PassRemovals.{removed-other, removed-kind}
-use borrow.Author.Needs.{needs}
 use Rattle.merge_remove.proofs.remove_next.Statement.{statement}
 use Rattle.merge_remove.proofs.remove_next.Tie as tie
-
-returns : tie.Need-returns
-returns c = removed-other (c .if1 .taken)
 
 remove-record-requires : tie.Need-remove-record-requires
 remove-record-requires c κs = let p = c .before .before .before .before .before .before .before .pre in (p .fits, p .whole (c .before .before .if1 .left))
@@ -24,5 +20,5 @@ pub remove-next-spec : {M : Type 1} → statement M
 remove-next-spec =
     tie.close
     (tie.spec
-    (λ c. search needs) (λ c. search needs) returns remove-record-requires (λ c. search needs) (λ c. search needs)
+    (λ c. search needs) (λ c. search needs) (λ c. removed-other (c .if1 .taken)) remove-record-requires (λ c. search needs) (λ c. search needs)
     returns-2 (λ c. search needs) (λ c. search needs) returns-3)

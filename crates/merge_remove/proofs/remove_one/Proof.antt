@@ -1,8 +1,6 @@
 -- `merge_remove::remove_one` meets its contract. Assumes nothing.
-use mathlib.Core.Path.{sym, _∙_}
-use native.Mathlib.Omega.{arith}
+use Rattle.merge_remove.proofs.Prelude.{sym, _∙_, arith, needs}
 use Rattle.merge_remove.proofs.RemovalSteps.{find-fits, kill-fits, absent, left-alone, dead-one}
-use borrow.Author.Needs.{needs}
 use Rattle.merge_remove.proofs.remove_one.Statement.{statement}
 use Rattle.merge_remove.proofs.remove_one.Tie as tie
 

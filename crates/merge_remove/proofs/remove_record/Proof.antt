@@ -4,9 +4,6 @@ use borrow.Author.Needs.{needs}
 use Rattle.merge_remove.proofs.remove_record.Statement.{statement}
 use Rattle.merge_remove.proofs.remove_record.Tie as tie
 
-returns : tie.Need-returns
-returns c = removed-record (c .before .before .before .before .remove-one .ensures)
-
 pub remove-record-spec : {M : Type 1} → statement M
 remove-record-spec =
     tie.close
@@ -14,4 +11,4 @@ remove-record-spec =
     (λ c. search needs) (λ c. search needs) (λ c. search needs) (λ c. search needs) (λ c. search needs)
     (λ c. search needs) (λ c. search needs) (λ c. search needs) (λ c. search needs) (λ c. search needs)
     (λ c. search needs) (λ c. search needs) (λ c. search needs) (λ c. search needs) (λ c. search needs)
-    (λ c. search needs) (λ c. search needs) (λ c κs. search needs) (λ c. search needs) (λ c. search needs) returns)
+    (λ c. search needs) (λ c. search needs) (λ c κs. search needs) (λ c. search needs) (λ c. search needs) (λ c. removed-record (c .before .before .before .before .remove-one .ensures)))

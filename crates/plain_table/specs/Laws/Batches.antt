@@ -1,17 +1,8 @@
 -- Batches of inserts. The live rows after a merge that does not stop depend only on the live rows before it, one insert after
 -- another, so a batch may be cut anywhere. Why and when an insert stops is irrelevant here. Assumes nothing.
-use Prim.Native.Nat.{ℕ, zero, suc, _<_}
-use mathlib.Core.Path.{_≡_, refl, sym, ap, ap₂, _∙_}
-use mathlib.Core.Logic.{inl, inr}
-use mathlib.Core.Bool.{Bool, true, false, cond, not}
-use mathlib.Core.List.{List, [], _∷_, _++_, map, foldl, map-append, append-nil, append-assoc}
-use mathlib.Core.Option.{Option, none, some, Option·map}
-use native.Mathlib.Omega.{arith}
-use lib.ListN.{take}
+use Rattle.plain_table.specs.Laws.Prelude.{ℕ, zero, suc, _<_, _≡_, refl, sym, ap, ap₂, _∙_, inl, inr, Bool, true, false, cond, not, List, [], _∷_, _++_, map, foldl, map-append, append-nil, append-assoc, Option, none, some, Option·map, arith, take, split, filter-append, ruled}
 use Rattle.lists.specs.Lists.{filter, find}
-use Rattle.lists.specs.Laws.Filter.{split, filter-append}
 use Rattle.refusals.specs.Refusals.{Reply, refused, accepted, reply}
-use Rattle.merge_rules.specs.Rules.{ruled}
 use Rattle.plain_table.specs.Staged.{Opening, Staged, insert, inserts, hasKey, skipped}
 use Rattle.plain_table.specs.Plain.{Row, Plain, withRow, Numbered, liveRows, lookup, stage, liveWithKey, killIf, withoutKey, withoutRow, removed, stop, append, upsert, insertion, Inserted, insertAll, applied, compacted, unstaged, compactsAfter, merged}
 use Rattle.plain_table.specs.Laws.Rows.{liveRow}

@@ -1,14 +1,6 @@
 -- Laws of refused and of accepted calls. Assumes nothing.
-use Prim.Native.Nat.{ℕ, suc, _<_}
-use mathlib.Core.Path.{_≡_, refl}
-use mathlib.Core.Bool.{Bool, true, false}
-use mathlib.Core.List.{List, [], _∷_}
-use native.Mathlib.Decide.{ℕ-discrete}
-use native.Mathlib.Omega.{arith}
-use borrow.Author.Tests.{eq-eqb, ne-eqb}
+use Rattle.plain_table.specs.Laws.Prelude.{ℕ, suc, _<_, _≡_, refl, Bool, true, false, List, [], _∷_, ℕ-discrete, arith, eq-eqb, ne-eqb, Lengths, Plain}
 use Rattle.refusals.specs.Refusals.{Check, check, firstRefusal}
-use Rattle.plain_table.specs.Refusing.{Lengths}
-use Rattle.plain_table.specs.Plain.{Plain}
 use Rattle.plain_table.specs.Calls.{Call, LentCall, refusal, done, after, afterAll}
 
 -- "A refusal .. changes nothing"

@@ -1,19 +1,8 @@
 -- What the parts of a merge leave unchanged: the row count, the opening, the generation, the staged records. Assumes nothing.
-use Prim.Native.Nat.{ℕ, zero, suc, _≤_}
-use mathlib.Core.Path.{_≡_, refl, ap, _∙_}
-use mathlib.Core.Logic.{_⊎_, inl, inr}
-use mathlib.Core.Bool.{Bool, true, false, cond}
-use mathlib.Core.Option.{Option, none, some}
-use mathlib.Core.List.{List, [], _∷_, foldl}
-use native.Mathlib.Omega.{arith}
-use lib.ListN.{length, take, length-append, length-map}
+use Rattle.plain_table.specs.Laws.Prelude.{ℕ, zero, suc, _≤_, _≡_, refl, ap, _∙_, _⊎_, inl, inr, Bool, true, false, cond, Option, none, some, List, [], _∷_, foldl, arith, length, take, length-append, length-map, all-head, all-tail, ruled, madeFrom, changesFrom, Staged, insert, removeKey, removeRow, inserts, skipped, ruled-made}
 use Rattle.lists.specs.Lists.{all}
-use Rattle.lists.specs.Laws.All.{all-head, all-tail}
 use Rattle.refusals.specs.Refusals.{Reply, refused, accepted, reply}
-use Rattle.merge_rules.specs.Rules.{ruled, madeFrom, changesFrom}
-use Rattle.plain_table.specs.Staged.{Staged, insert, removeKey, removeRow, inserts, skipped}
 use Rattle.plain_table.specs.Plain.{Row, Plain, withRows, withRow, liveWithKey, killIf, withoutKey, dies, withoutRow, removed, stop, append, upsert, insertion, inserted, insertAll, applied, Numbered, lookup}
-use Rattle.merge_rules.specs.Laws.Rules.{ruled-made}
 
 -- ---- removals do not change the row count
 

@@ -1,13 +1,6 @@
 -- The live rows, the dead rows and compaction. Assumes nothing.
-use Prim.Native.Nat.{ℕ, suc, _≤_}
-use mathlib.Core.Path.{_≡_, refl, sym, ap, _∙_}
-use mathlib.Core.Logic.{inl, inr}
-use mathlib.Core.Bool.{not}
-use mathlib.Core.List.{List, [], _∷_, map}
-use lib.ListN.{length}
+use Rattle.plain_table.specs.Laws.Prelude.{ℕ, suc, _≤_, _≡_, refl, sym, ap, _∙_, inl, inr, not, List, [], _∷_, map, length, split, count-le, all-filter, filter-again, count-not}
 use Rattle.lists.specs.Lists.{filter}
-use Rattle.lists.specs.Laws.Filter.{split, count-le, all-filter}
-use Rattle.lists.specs.Laws.All.{filter-again, count-not}
 use Rattle.plain_table.specs.Plain.{Row, Plain, liveFrom, liveRows, dead, compacted}
 
 -- the cells of the live rows do not depend on the first row number

@@ -1,18 +1,7 @@
 -- The live row of a key: `lookup` finds exactly the live row that has the key. Assumes nothing.
-use Prim.Native.Nat.{ℕ, suc, _+_, _<_}
-use mathlib.Core.Path.{_≡_, refl, sym, ap, ap₂, _∙_}
-use mathlib.Core.Logic.{inl, inr}
-use mathlib.Core.Bool.{true, false, false≢true}
-use mathlib.Core.List.{List, [], _∷_}
-use mathlib.Core.Option.{Option, none, some}
-use native.Mathlib.Omega.{arith}
-use lib.ListN.{length, getD}
+use Rattle.plain_table.specs.Laws.Prelude.{ℕ, suc, _+_, _<_, _≡_, refl, sym, ap, ap₂, _∙_, inl, inr, true, false, false≢true, List, [], _∷_, Option, none, some, arith, length, getD, split, and-left, and-right, all-getD, all-cons, hasKey, rowOf}
 use Rattle.lists.specs.Lists.{all, find}
-use Rattle.lists.specs.Laws.Filter.{split, and-left, and-right, all-getD}
-use Rattle.lists.specs.Laws.All.{all-cons}
-use Rattle.plain_table.specs.Staged.{hasKey}
 use Rattle.plain_table.specs.Plain.{Row, Plain, Numbered, liveFrom, liveRows, lookup, liveWithKey}
-use Rattle.plain_table.specs.Proper.{rowOf}
 use Rattle.plain_table.specs.Laws.Rows.{noRow, freeRow, liveWithKey-live, live-below}
 
 module _ (keys : ℕ) (key : List ℕ) where

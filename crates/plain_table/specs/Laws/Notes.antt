@@ -1,16 +1,7 @@
 -- Changes after a version: the opening's numbers do not change, and the generation never falls. While the generation is the same,
 -- rows only die or are appended. Assumes nothing.
-use Prim.Native.Nat.{ℕ, zero, suc, _+_, _≤_, _<_, suc-le-suc}
-use mathlib.Core.Path.{_≡_, refl, sym, ap, _∙_}
-use mathlib.Core.Logic.{inl, inr}
-use mathlib.Core.Bool.{Bool, true, false, false≢true}
-use mathlib.Core.List.{List, [], _∷_, _++_}
-use native.Mathlib.Nat.{add-zero}
-use native.Mathlib.Omega.{arith}
-use lib.Dec.{ltb}
-use lib.ListN.{length, drop, getD}
+use Rattle.plain_table.specs.Laws.Prelude.{ℕ, zero, suc, _+_, _≤_, _<_, suc-le-suc, _≡_, refl, sym, ap, _∙_, inl, inr, Bool, true, false, false≢true, List, [], _∷_, _++_, add-zero, arith, ltb, length, drop, getD, split}
 use Rattle.lists.specs.Lists.{filter}
-use Rattle.lists.specs.Laws.Filter.{split}
 use Rattle.plain_table.specs.Plain.{Row, deadRow, Plain, liveFrom, stage, liveWithKey, killIf, dies, removed, applied, compacted, unstaged, compactsAfter, merged, cleared, opened}
 use Rattle.plain_table.specs.Calls.{Call, staging, merging, compacting, clearing, refreshing, feeding, stageAll, done, LentCall, afterAll}
 use Rattle.plain_table.specs.Laws.Rows.{noRow}

@@ -1,15 +1,6 @@
 -- The numbers of rows that a merge appends, keeps and drops add up, and its compaction keeps no more rows than it drops. Assumes
 -- nothing.
-use Prim.Native.Nat.{ℕ, _+_, _/_, _≤_, _<_, max}
-use mathlib.Core.Path.{_≡_, refl}
-use mathlib.Core.Logic.{inl, inr}
-use mathlib.Core.List.{List}
-use native.Mathlib.Nat.{le-max-right}
-use native.Mathlib.Omega.{arith}
-use lib.Dec.{eqb}
-use lib.ListN.{length, drop, length-map, length-drop}
-use borrow.Author.Tests.{ltb-true}
-use Rattle.lists.specs.Laws.Filter.{split, and-left, and-right, count-split, length-filter}
+use Rattle.plain_table.specs.Laws.Prelude.{ℕ, _+_, _/_, _≤_, _<_, max, _≡_, refl, inl, inr, List, le-max-right, arith, eqb, length, drop, length-map, length-drop, ltb-true, split, and-left, and-right, count-split, length-filter}
 use Rattle.plain_table.specs.Staged.{compactionDue}
 use Rattle.plain_table.specs.Plain.{Row, Plain, applied, live, dead, compacted, unstaged, compactsAfter, merged, mergeKeeps, mergeDrops}
 use Rattle.plain_table.specs.Appending.{mergeAppends}

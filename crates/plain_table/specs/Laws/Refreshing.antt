@@ -1,18 +1,6 @@
 -- The records of a refresh are whole. Assumes nothing.
-use Prim.Native.Nat.{ℕ, suc, _≤_}
-use mathlib.Core.Path.{_≡_, refl, _∙_}
-use mathlib.Core.Logic.{inl, inr}
-use mathlib.Core.Bool.{true, false, not}
-use mathlib.Core.List.{List, [], _∷_}
-use native.Mathlib.Omega.{arith}
-use lib.Dec.{eqb}
-use lib.ListN.{length, take, set, length-set}
-use lib.Seq.{length-take-le}
-use borrow.Author.Tests.{eqb-true, eq-eqb, not-true}
+use Rattle.plain_table.specs.Laws.Prelude.{ℕ, suc, _≤_, _≡_, refl, _∙_, inl, inr, true, false, not, List, [], _∷_, arith, eqb, length, take, set, length-set, length-take-le, eqb-true, eq-eqb, not-true, all-head, all-tail, all-cons, all-append, or-no-left, or-no-right, split, Opening, Staged}
 use Rattle.lists.specs.Lists.{all, any, flatten}
-use Rattle.lists.specs.Laws.All.{all-head, all-tail, all-cons, all-append, or-no-left, or-no-right}
-use Rattle.lists.specs.Laws.Filter.{split}
-use Rattle.plain_table.specs.Staged.{Opening, Staged}
 use Rattle.plain_table.specs.Plain.{Row, Numbered, liveFrom}
 use Rattle.plain_table.specs.Refusing.{wrongWidth}
 use Rattle.plain_table.specs.Refreshing.{restamping, refreshed}

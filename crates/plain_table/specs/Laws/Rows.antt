@@ -1,20 +1,7 @@
 -- Properties of the rows of a proper plain table, defined by recursion over the row list. They are preserved when rows die, when
 -- rows are dropped and when a row is appended. Assumes nothing.
-use Prim.Native.Nat.{ℕ, zero, suc, _≤_, _<_, suc-le-suc}
-use mathlib.Core.Path.{_≡_, refl, sym, ap, _∙_}
-use mathlib.Core.Logic.{inl, inr}
-use mathlib.Core.Bool.{Bool, true, false, not, _&&_, _||_, false≢true}
-use mathlib.Core.List.{List, [], _∷_, _++_}
-use mathlib.Core.Option.{Option, none, some}
-use native.Mathlib.Nat.{le-max-left, le-max-right, max-eq-left}
-use native.Mathlib.Omega.{arith}
-use lib.Dec.{leb, eqb}
-use lib.ListN.{length, take, getD, length-append}
-use borrow.Author.Tests.{ltb-false, leb-true, le-leb, eq-eqb, not-true}
+use Rattle.plain_table.specs.Laws.Prelude.{ℕ, zero, suc, _≤_, _<_, suc-le-suc, _≡_, refl, sym, ap, _∙_, inl, inr, Bool, true, false, not, _&&_, _||_, false≢true, List, [], _∷_, _++_, Option, none, some, le-max-left, le-max-right, max-eq-left, arith, leb, eqb, length, take, getD, length-append, ltb-false, leb-true, le-leb, eq-eqb, not-true, split, and-left, and-right, all-getD, all-of, and-both, or-right, or-second, all-head, all-tail, all-cons, all-snoc, all-weaker, same-refl, same-eq}
 use Rattle.lists.specs.Lists.{filter, all}
-use Rattle.lists.specs.Laws.Filter.{split, and-left, and-right, all-getD, all-of}
-use Rattle.lists.specs.Laws.All.{and-both, or-right, or-second, all-head, all-tail, all-cons, all-snoc, all-weaker}
-use Rattle.lists.specs.Laws.Rising.{same-refl, same-eq}
 use Rattle.cells.specs.Cells.{isDead}
 use Rattle.plain_table.specs.Staged.{Opening, hasKey}
 use Rattle.plain_table.specs.Plain.{Row, deadRow, liveWithKey, killIf, dies, below, raised}

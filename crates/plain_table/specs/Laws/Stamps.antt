@@ -1,22 +1,7 @@
 -- The sort values appended since opening or the last clear that emptied rows never fall, and `largest` of a plain table is the
 -- largest of them, after any calls. Assumes nothing.
-use Prim.Native.Nat.{ℕ, zero, suc, _+_, _≤_, _<_}
-use mathlib.Core.Path.{_≡_, refl, sym, ap, subst, _∙_}
-use mathlib.Core.Logic.{inl, inr}
-use mathlib.Core.Bool.{Bool, true, false, cond}
-use mathlib.Core.List.{List, [], _∷_, _++_, map, map-append, append-nil, append-assoc}
-use mathlib.Core.Option.{Option, none, some}
-use native.Mathlib.Decide.{decLt}
-use native.Mathlib.Nat.{le-max-left, le-max-right, max-eq-right}
-use native.Mathlib.Omega.{arith}
-use lib.Dec.{leb, ltb, eqb}
-use lib.ListN.{length, take, drop, getD, length-append, length-map, drop-of-length-le, List·getD-append}
-use lib.Seq.{drop-append-le, getD-at}
-use borrow.Author.Tests.{leb-true, le-leb, ltb-false, le-ltb}
+use Rattle.plain_table.specs.Laws.Prelude.{ℕ, zero, suc, _+_, _≤_, _<_, _≡_, refl, sym, ap, subst, _∙_, inl, inr, Bool, true, false, cond, List, [], _∷_, _++_, map, map-append, append-nil, append-assoc, Option, none, some, decLt, le-max-left, le-max-right, max-eq-right, arith, leb, ltb, eqb, length, take, drop, getD, length-append, length-map, drop-of-length-le, List·getD-append, drop-append-le, getD-at, leb-true, le-leb, ltb-false, le-ltb, split, all-getD, all-head, all-tail, all-cons, Opening}
 use Rattle.lists.specs.Lists.{all}
-use Rattle.lists.specs.Laws.Filter.{split, all-getD}
-use Rattle.lists.specs.Laws.All.{all-head, all-tail, all-cons}
-use Rattle.plain_table.specs.Staged.{Opening}
 use Rattle.plain_table.specs.Plain.{Row, Plain, opened, stage, liveWithKey, killIf, removed, below, raised, applied, compacted, unstaged, compactsAfter, merged, cleared}
 use Rattle.plain_table.specs.Calls.{Call, staging, merging, compacting, clearing, refreshing, feeding, recordsOf, stageAll, refusal, done, after, LentCall, afterAll}
 use Rattle.plain_table.specs.Appending.{mergeAppends, mergeOrClear, byCall, stampsOf, stampsAfter, stampsSince, greatest}

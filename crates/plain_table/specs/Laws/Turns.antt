@@ -1,11 +1,6 @@
 -- The paper's wrong turns and similar traps as test cases. Each is a list of calls that ends in a merge, with the result of that
 -- merge; a program that takes the wrong turn has another result. One law states that all results are as listed. Assumes nothing.
-use Prim.Native.Nat.{ℕ}
-use mathlib.Core.Path.{_≡_, refl}
-use mathlib.Core.Bool.{Bool, true, false, _&&_, Bool·beq}
-use mathlib.Core.List.{List, [], _∷_, _++_, map}
-use lib.ListN.{length}
-use lib.Dec.{eqb}
+use Rattle.plain_table.specs.Laws.Prelude.{ℕ, _≡_, refl, Bool, true, false, _&&_, Bool·beq, List, [], _∷_, _++_, map, length, eqb}
 use Rattle.lists.specs.Lists.{all, same, count, filter, iota, find}
 use Rattle.refusals.specs.Refusals.{firstRefusal, reply}
 use Rattle.cells.specs.Cells.{isDead}

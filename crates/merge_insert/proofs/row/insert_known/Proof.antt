@@ -1,7 +1,5 @@
 -- `merge_insert::row::insert_known` meets its contract. Assumes nothing.
-use mathlib.Core.Path.{refl}
-use borrow.Author.Needs.{needs}
-use borrow.Author.Tests.{not-true, not-false}
+use Rattle.merge_insert.proofs.Prelude.{refl, needs, not-true, not-false}
 use Rattle.merge_insert.proofs.InsertSteps.{makeable, kept-old, known-of}
 use Rattle.merge_insert.proofs.row.insert_known.Statement.{statement}
 use Rattle.merge_insert.proofs.row.insert_known.Tie as tie

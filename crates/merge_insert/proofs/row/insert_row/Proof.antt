@@ -1,6 +1,5 @@
 -- `merge_insert::row::insert_row` meets its contract. Assumes nothing.
-use native.Mathlib.Omega.{arith}
-use borrow.Author.Needs.{needs}
+use Rattle.merge_insert.proofs.Prelude.{arith, needs}
 use Rattle.merge_insert.proofs.InsertSteps.{inserts-skipped, findable, growable, found-row, found-slot, inserts-new, inserts-known}
 use Rattle.merge_insert.proofs.row.insert_row.Statement.{statement}
 use Rattle.merge_insert.proofs.row.insert_row.Tie as tie

@@ -1,31 +1,15 @@
 -- `merge_insert::row::make_row` meets its contract. Assumes nothing.
-use Prim.Native.Nat.{_≤_}
-use native.Mathlib.Omega.{arith}
-use lib.ListN.{length}
-use borrow.Author.Needs.{needs}
-use borrow.Author.Tests.{not-true, not-false}
+use Rattle.merge_insert.proofs.Prelude.{_≤_, arith, length, needs, not-true, not-false}
 use Rattle.merge_insert.proofs.InsertSteps.{old-width, survivor-width, survivor-fits, survivor-kept, survivor-made, made-not, made-third}
 use Rattle.merge_insert.proofs.row.make_row.Statement.{statement}
 use Rattle.merge_insert.proofs.row.make_row.Tie as tie
-
-mul-old-at : tie.Need-mul-old-at
-mul-old-at c = omega (arith, c .before .before .before .before .before .pre)
 
 -- both rows have their keys
 survivor-keys : (c : tie.After-struct-known4) → c .before .before .before .before .before .before .before .before .before .before .args .h .keys ≤ length (c .before .surviving-row .result .now)
 survivor-keys c = let m = c .before .before .before .before .before .before .before .before .before .before .pre in let w = survivor-width _ _ _ _ _ _ _ (c .before .surviving-row .ensures) m in omega (arith, m .few-keys)
 
-sub-same-cells : tie.Need-sub-same-cells
-sub-same-cells c = survivor-keys c
-
-part-same-cells-start : tie.Need-part-same-cells-start
-part-same-cells-start c = survivor-keys c
-
 sub-same-cells-2 : tie.Need-sub-same-cells-2
 sub-same-cells-2 c = let m = c .before .before .before .before .before .before .before .before .before .before .before .pre in let w = old-width _ _ _ _ _ _ m in omega (arith, m .few-keys)
-
-part-same-cells-start-2 : tie.Need-part-same-cells-start-2
-part-same-cells-start-2 c = sub-same-cells-2 c
 
 returns : tie.Need-returns
 returns c =
@@ -54,9 +38,9 @@ pub make-row-spec : {M : Type 1} → statement M
 make-row-spec =
     tie.close
     (tie.spec
-    (λ c. search needs) mul-old-at (λ c. search needs) (λ c. search needs) (λ c. search needs) (λ c. search needs)
+    (λ c. search needs) (λ c. omega (arith, c .before .before .before .before .before .pre)) (λ c. search needs) (λ c. search needs) (λ c. search needs) (λ c. search needs)
     (λ c. search needs) (λ c. search needs) (λ c κs. search needs) (λ c. search needs) (λ c. search needs)
-    sub-same-cells part-same-cells-start (λ c. search needs) (λ c. search needs) sub-same-cells-2
-    part-same-cells-start-2 (λ c. search needs) (λ c κs. search needs) returns write-row-requires
+    (λ c. survivor-keys c) (λ c. survivor-keys c) (λ c. search needs) (λ c. search needs) sub-same-cells-2
+    (λ c. sub-same-cells-2 c) (λ c. search needs) (λ c κs. search needs) returns write-row-requires
     (λ c. search needs) returns-2 (λ c. search needs) (λ c. search needs) (λ c. search needs) (λ c. search needs)
     (λ c. search needs) (λ c κs. search needs) returns-3 (λ c κs. search needs) (λ c. search needs) returns-4)
