@@ -70,13 +70,6 @@ fn compact(h: Header, rows: &mut [u32], keys: &mut [u32], sorts: &mut [u32]) -> 
     answer_table(h, answer)
 }
 
-fn is_emptying(letter: u8) -> bool {
-    match letter {
-        b'O' | b'C' => true,
-        _ => false,
-    }
-}
-
 // O and C.
 fn empty(
     h: Header,
@@ -122,14 +115,10 @@ pub fn call(
     sorts: &mut [u32],
     pending: &mut [u32],
 ) -> Answer {
-    if letter == b'M' {
-        return merge_pending(h, rows, keys, sorts, pending);
+    match letter {
+        b'M' => merge_pending(h, rows, keys, sorts, pending),
+        b'G' => compact(h, rows, keys, sorts),
+        b'O' | b'C' => empty(h, letter, numbers, rows, keys, sorts, pending),
+        _ => stage(h, letter, numbers, pending),
     }
-    if letter == b'G' {
-        return compact(h, rows, keys, sorts);
-    }
-    if is_emptying(letter) {
-        return empty(h, letter, numbers, rows, keys, sorts, pending);
-    }
-    stage(h, letter, numbers, pending)
 }
