@@ -4,13 +4,7 @@ use borrow.Author.Needs.{needs}
 use Rattle.levels_calls.proofs.respond_merge.Statement.{statement}
 use Rattle.levels_calls.proofs.respond_merge.Tie as tie
 
-returns : tie.Need-returns
-returns c = merge-refused _ _ _ (c .before .answer .given .1)
-
-returns-2 : tie.Need-returns-2
-returns-2 c = merge-table _ _ _ _ (c .before .before .before .answer2 .given .1) (c .encode-bool .ensures)
-
 pub respond-merge-spec : {M : Type 1} → statement M
 respond-merge-spec =
     tie.close
-    (tie.spec (λ c. search needs) (λ c. search needs) (λ c κs. search needs) returns returns-2)
+    (tie.spec (λ c. search needs) (λ c. search needs) (λ c κs. search needs) (λ c. merge-refused _ _ _ (c .before .answer .given .1)) (λ c. merge-table _ _ _ _ (c .before .before .before .answer2 .given .1) (c .encode-bool .ensures)))

@@ -4,12 +4,9 @@ use Rattle.offsets_search.proofs.Search.{bracket-place}
 use Rattle.offsets_search.proofs.binary_search_part.Statement.{statement}
 use Rattle.offsets_search.proofs.binary_search_part.Tie as tie
 
-binary-search-cells-requires : tie.Need-binary-search-cells-requires
-binary-search-cells-requires c κs = (record { inside = λ i h. omega (arith, c .before .pre .1) }, c .before .pre .0)
-
 pub binary-search-part-spec : {M : Type 1} → statement M
 binary-search-part-spec =
     tie.close
     (tie.spec
-    binary-search-cells-requires
+    (λ c κs. (record { inside = λ i h. omega (arith, c .before .pre .1) }, c .before .pre .0))
     (λ c. bracket-place _ _ _ _ _ (c .before .before .pre .1) (c .binary-search-cells .ensures)))

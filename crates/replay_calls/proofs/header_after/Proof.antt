@@ -4,11 +4,5 @@ use borrow.Author.Needs.{needs}
 use Rattle.replay_calls.proofs.header_after.Statement.{statement}
 use Rattle.replay_calls.proofs.header_after.Tie as tie
 
-returns : tie.Need-returns
-returns c = after-refused _ _ _ (c .enum-told .given .1)
-
-returns-2 : tie.Need-returns-2
-returns-2 c = after-table _ _ _ (c .before .answer .given .1)
-
 pub header-after-spec : {M : Type 1} → statement M
-header-after-spec = tie.close (tie.spec (λ c. search needs) (λ c. search needs) returns returns-2)
+header-after-spec = tie.close (tie.spec (λ c. search needs) (λ c. search needs) (λ c. after-refused _ _ _ (c .enum-told .given .1)) (λ c. after-table _ _ _ (c .before .answer .given .1)))

@@ -4,11 +4,5 @@ use borrow.Author.Needs.{needs}
 use Rattle.replay_calls.proofs.header_merged.Statement.{statement}
 use Rattle.replay_calls.proofs.header_merged.Tie as tie
 
-returns : tie.Need-returns
-returns c = merge-refused _ _ _ (c .enum-told .given .1)
-
-returns-2 : tie.Need-returns-2
-returns-2 c = merge-done _ _ _ (c .before .before .answer .given .1)
-
 pub header-merged-spec : {M : Type 1} → statement M
-header-merged-spec = tie.close (tie.spec (λ c. search needs) (λ c. search needs) returns returns-2)
+header-merged-spec = tie.close (tie.spec (λ c. search needs) (λ c. search needs) (λ c. merge-refused _ _ _ (c .enum-told .given .1)) (λ c. merge-done _ _ _ (c .before .before .answer .given .1)))

@@ -4,11 +4,5 @@ use borrow.Author.Needs.{needs}
 use Rattle.replay_calls.proofs.header_refreshed.Statement.{statement}
 use Rattle.replay_calls.proofs.header_refreshed.Tie as tie
 
-returns : tie.Need-returns
-returns c = refresh-refused _ _ _ (c .enum-told .given .1)
-
-returns-2 : tie.Need-returns-2
-returns-2 c = refresh-done _ _ _ (c .before .before .answer .given .1)
-
 pub header-refreshed-spec : {M : Type 1} → statement M
-header-refreshed-spec = tie.close (tie.spec (λ c. search needs) (λ c. search needs) returns returns-2)
+header-refreshed-spec = tie.close (tie.spec (λ c. search needs) (λ c. search needs) (λ c. refresh-refused _ _ _ (c .enum-told .given .1)) (λ c. refresh-done _ _ _ (c .before .before .answer .given .1)))

@@ -6,18 +6,6 @@ use borrow.Author.Needs.{needs}
 use Rattle.replay_calls.proofs.refresh.Statement.{statement}
 use Rattle.replay_calls.proofs.refresh.Tie as tie
 
-returns : tie.Need-returns
-returns c = nothing-refreshed (refresh-none _ (omega (arith, c .if1 .taken)))
-
-cast-count : tie.Need-cast-count
-cast-count c = omega (arith, c .shared-slice-known3 .given 0)
-
-add-if2 : tie.Need-add-if2
-add-if2 c = omega (arith, c .shared-slice-known3 .given 0)
-
-returns-2 : tie.Need-returns-2
-returns-2 c = nothing-refreshed (refresh-none _ (c .if2 .taken))
-
 returns-3 : tie.Need-returns-3
 returns-3 c = refreshing-made (refresh-some _ (c .before .before .before .before .before .before .before .before .before .before .before .if2 .left)) (c .before .before .before .before .before .refresh-rows-for-values .ensures) (c .header-refreshed .ensures)
 
@@ -25,7 +13,7 @@ pub refresh-spec : {M : Type 1} → statement M
 refresh-spec =
     tie.close
     (tie.spec
-    returns (λ c. search needs) cast-count add-if2 returns-2
+    (λ c. nothing-refreshed (refresh-none _ (omega (arith, c .if1 .taken)))) (λ c. search needs) (λ c. omega (arith, c .shared-slice-known3 .given 0)) (λ c. omega (arith, c .shared-slice-known3 .given 0)) (λ c. nothing-refreshed (refresh-none _ (c .if2 .taken)))
     (λ c. search needs) (λ c. search needs) (λ c. search needs) (λ c. search needs) (λ c. search needs)
     (λ c. search needs) (λ c. search needs) (λ c. search needs) (λ c. search needs) (λ c. search needs)
     (λ c. search needs) (λ c. search needs) (λ c κs. search needs) (λ c κs. search needs) (λ c. search needs)

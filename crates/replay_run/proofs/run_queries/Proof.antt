@@ -5,29 +5,14 @@ use borrow.Author.Needs.{needs}
 use Rattle.replay_run.proofs.run_queries.Statement.{statement}
 use Rattle.replay_run.proofs.run_queries.Tie as tie
 
-smaller-requires : tie.Need-smaller-requires
-smaller-requires c κs = search needs
-
-slice-relend-prefix-run-queries-within : tie.Need-slice-relend-prefix-run-queries-within
-slice-relend-prefix-run-queries-within c = search needs
-
 slice-aggregate-run-queries-within : tie.Need-slice-aggregate-run-queries-within
 slice-aggregate-run-queries-within c = let a = c .before .before .before .before .before .before .before .before .args in room-first _ (a .first .now) (a .second .now) (c .before .smaller .ensures)
-
-slice-relend-prefix-run-queries-within-2 : tie.Need-slice-relend-prefix-run-queries-within-2
-slice-relend-prefix-run-queries-within-2 c = search needs
 
 slice-aggregate-run-queries-within-2 : tie.Need-slice-aggregate-run-queries-within-2
 slice-aggregate-run-queries-within-2 c = let a = c .before .before .before .before .before .before .before .before .before .args in room-second _ (a .first .now) (a .second .now) (c .before .before .smaller .ensures)
 
 run-queries-within-requires : tie.Need-run-queries-within-requires
 run-queries-within-requires c κs = let a = c .before .before .before .before .before .before .before .before .before .args in (refl, refl, room-alike _ (a .first .now) (a .second .now) (c .before .before .smaller .ensures))
-
-same-length : tie.Need-same-length
-same-length c = search needs
-
-same-length-2 : tie.Need-same-length-2
-same-length-2 c = search needs
 
 returns : tie.Need-returns
 returns c = let a = c .before .before .before .before .before .before .before .before .before .before .before .before .before .before .args in made-within (a .head) _ (a .first .now) (a .second .now) (c .before .before .before .before .before .before .before .smaller .ensures) (c .before .before .before .before .run-queries-within .ensures) (c .before .before .before .first .given .0) (c .before .second .given .0)
@@ -36,12 +21,12 @@ pub run-queries-spec : {M : Type 1} → statement M
 run-queries-spec =
     tie.close
     (tie.spec
-    smaller-requires
-    slice-relend-prefix-run-queries-within
+    (λ c κs. search needs)
+    (λ c. search needs)
     slice-aggregate-run-queries-within
-    slice-relend-prefix-run-queries-within-2
+    (λ c. search needs)
     slice-aggregate-run-queries-within-2
     run-queries-within-requires
-    same-length
-    same-length-2
+    (λ c. search needs)
+    (λ c. search needs)
     returns)
