@@ -1,4 +1,5 @@
 -- What follows from the definitions.
+mod Prelude
 pub mod Xor
 pub mod Steps
 pub mod Bytes

@@ -1,27 +1,8 @@
 -- The tests of an image one by one: what each way out of a function returns. Assumes nothing.
-use Prim.Native.Nat.{ℕ, _+_, _-_, _*_, _/_, _%_, _≤_, _<_}
-use mathlib.Core.Path.{_≡_, sym, ap, _∙_}
-use mathlib.Core.Bool.{true, false, true≢false}
-use mathlib.Core.List.{List, _++_, append-nil}
-use native.Mathlib.Nat.{mul-le-mul}
-use native.Mathlib.Omega.{arith}
-use lib.Dec.{ltb, eqb}
-use lib.ListN.{length, take, drop, getD, length-drop}
-use lib.Seq.{getD-drop, getD-take, drop-length, length-take-le}
-use borrow.Author.Tests.{eqb-true, eqb-false}
+use Rattle.image_parse.proofs.Prelude.{ℕ, _+_, _-_, _*_, _/_, _%_, _≤_, _<_, _≡_, sym, ap, _∙_, true, false, true≢false, List, _++_, append-nil, mul-le-mul, arith, ltb, eqb, length, take, drop, getD, length-drop, getD-drop, getD-take, drop-length, length-take-le, eqb-true, eqb-false, Decides, decides-yes, decides-no, crc32, bytesOf, Header, outside, outside-inside, reads-none, Layout, None, Image, filled-whole, filled-one, filled-two, filled-three, layoutIn, passes-image, image-passes}
 use Rattle.lists.specs.Lists.{splice}
-use Rattle.sort_entries.specs.inner.Checks.{Decides, decides-yes, decides-no}
-use Rattle.crc32.specs.Crc.{crc32, bytesOf}
-use Rattle.table.specs.declared.Header.{Header}
-use Rattle.table.specs.Refusing.{outside}
-use Rattle.table.specs.Laws.Refusals.{outside-inside}
 use Rattle.abi.specs.Encoding.{decodeHeader}
-use Rattle.image_spec.specs.Image.{reads-none}
-use Rattle.image_parse.specs.declared.Layout.{Layout}
-use Rattle.image_parse.specs.declared.Parsed.the-variants.{None, Image}
 use Rattle.image_parse.specs.inner.Parsed.{headerIn, layoutOf, Placed, Words, Marked, Filled, Measured, Whole, Passes, IsAt, ParsedIs}
-use Rattle.image_parse.specs.Laws.Bytes.{filled-whole, filled-one, filled-two, filled-three}
-use Rattle.image_parse.specs.Laws.Images.{layoutIn, passes-image, image-passes}
 
 -- ---- `is_marked`
 

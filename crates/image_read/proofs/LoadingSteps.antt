@@ -1,41 +1,12 @@
 -- The steps of loading an image's table: one law for each way that a function returns. Assumes nothing.
-use Prim.Native.Nat.{ℕ, _*_, _≤_, _<_}
-use mathlib.Core.Path.{_≡_, refl, sym, ap, _∙_}
-use mathlib.Core.Bool.{Bool, true, false, _||_}
-use mathlib.Core.List.{List, []}
-use mathlib.Core.Option.{Option, none, some}
-use native.Mathlib.Nat.{mul-le-mul-right}
-use native.Mathlib.Omega.{arith}
-use lib.Dec.{ltb}
-use lib.ListN.{length}
-use borrow.Author.Tests.{ltb-false, lt-ltb, le-ltb, eq-eqb, ne-eqb}
-use Rattle.lists.specs.Laws.All.{or-no-left, or-no-right}
-use Rattle.lists.specs.Laws.Parts.{length-splice}
+use Rattle.image_read.proofs.Prelude.{ℕ, _*_, _≤_, _<_, _≡_, refl, sym, ap, _∙_, Bool, true, false, _||_, List, [], Option, none, some, mul-le-mul-right, arith, ltb, length, ltb-false, lt-ltb, le-ltb, eq-eqb, ne-eqb, or-no-left, or-no-right, length-splice, outcome-refused, outcome-accepted, IndexShape, Fits, past-sizeClass, Rebuilt, firstRefusal-no, firstRefusal-rest, Header, TableAnswer, Refused, Table, indexShapeOf, Body, body, lengths, LongEnough, stores-long, Inside, outside-inside, inside-fits, Image, Layout, image-in-proper, Decoding, DecodingIs}
 use Rattle.refusals.specs.Refusals.{refused, accepted, firstRefusal, reply}
-use Rattle.refusals.specs.Laws.Replies.{outcome-refused, outcome-accepted}
-use Rattle.key_index.specs.declared.IndexShape.{IndexShape}
-use Rattle.key_index.specs.inner.Index.{Fits}
-use Rattle.key_index.specs.Laws.SizeClasses.{past-sizeClass}
-use Rattle.key_rebuild.specs.inner.Rebuilding.{Rebuilt}
 use Rattle.plain_table.specs.Refusing.{Lengths, storesShort}
-use Rattle.plain_table.specs.Laws.Calls.{firstRefusal-no, firstRefusal-rest}
-use Rattle.table.specs.declared.Header.{Header}
-use Rattle.table.specs.declared.TableAnswer.{TableAnswer}
-use Rattle.table.specs.declared.TableAnswer.the-variants.{Refused, Table}
 use Rattle.table.specs.Numbers.{openingOf, tableView}
 use Rattle.table.specs.Refusing.{outside, rowsShort}
-use Rattle.table.specs.Sound.{indexShapeOf}
-use Rattle.table.specs.Contracts.{Body, body, lengths}
-use Rattle.table.specs.Laws.Shown.{LongEnough, stores-long}
-use Rattle.table.specs.Laws.Refusals.{Inside, outside-inside, inside-fits}
-use Rattle.image_spec.specs.Image.{Image}
 use Rattle.image_spec.specs.Contracts.{withCapacity, checkReply, readRefusal, ImageRead}
-use Rattle.image_parse.specs.declared.Layout.{Layout}
 use Rattle.image_parse.specs.inner.Parsed.{part, imageIn, IsAt}
-use Rattle.image_parse.specs.Laws.Images.{image-in-proper}
-use Rattle.image_check.specs.declared.Decoding.{Decoding}
 use Rattle.image_check.specs.declared.Decoding.the-variants.{Refused as NotDecoded, Sound}
-use Rattle.image_check.specs.inner.Decoding.{DecodingIs}
 use Rattle.image_read.specs.inner.Loading.{loadRefusal, storesRefusal, PartsFit, PartsWritten, Loading}
 
 -- ---- `with_capacity`

@@ -1,24 +1,10 @@
 -- The steps of reading an image's text: one law for each way that a function returns. Assumes nothing.
-use Prim.Native.Nat.{ℕ, suc, _+_, _*_, _/_, _%_, _≤_, _<_}
-use mathlib.Core.Path.{_≡_, refl, sym, ap, _∙_}
-use mathlib.Core.List.{List, _∷_, _++_}
-use mathlib.Core.Option.{none, some}
-use native.Mathlib.Omega.{arith}
-use lib.ListN.{length, take, drop, getD, set, length-drop}
-use lib.Seq.{drop-cons, take-length, getD-drop, getD-take, length-take-le}
-use borrow.Author.Tests.{lt-ltb, le-ltb}
+use Rattle.image_read.proofs.Prelude.{ℕ, suc, _+_, _*_, _/_, _%_, _≤_, _<_, _≡_, refl, sym, ap, _∙_, List, _∷_, _++_, none, some, arith, length, take, drop, getD, set, length-drop, drop-cons, take-length, getD-drop, getD-take, length-take-le, lt-ltb, le-ltb, copy-step, bytesOf, Reads, Layout, bytes-cons, length-bytes, byte-of, text-length, TextIn}
 use Rattle.lists.specs.Lists.{splice}
-use Rattle.lists.specs.Laws.Parts.{copy-step}
 use Rattle.refusals.specs.Refusals.{firstRefusal, reply}
-use Rattle.crc32.specs.Crc.{bytesOf}
 use Rattle.image_spec.specs.declared.LengthAnswer.the-variants.{Refused, Length}
-use Rattle.image_spec.specs.Image.{Reads}
 use Rattle.image_spec.specs.Contracts.{lengthView, textRefusal, textOf, TextRead}
-use Rattle.image_parse.specs.declared.Layout.{Layout}
 use Rattle.image_parse.specs.inner.Parsed.{imageIn, IsAt}
-use Rattle.image_parse.specs.Laws.Bytes.{bytes-cons, length-bytes, byte-of}
-use Rattle.image_parse.specs.Laws.Images.{text-length}
-use Rattle.image_read.specs.inner.Loading.{TextIn}
 
 -- ---- `byte_at`
 

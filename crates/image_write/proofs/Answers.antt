@@ -1,10 +1,5 @@
 -- The ways out of the entry points: refused, or accepted. Assumes nothing.
-use Rattle.image_write.proofs.Prelude.{ℕ, _≡_, refl, ap, _∙_, List, arith, length}
-use Rattle.lists.specs.Lists.{splice}
-use Rattle.refusals.specs.Laws.Replies.{reply-refused, reply-accepted}
-use Rattle.table.specs.declared.Header.{Header}
-use Rattle.image_spec.specs.declared.LengthAnswer.the-variants.{Refused, Length}
-use Rattle.image_spec.specs.Image.{imageWords, imageOf, imageLength}
+use Rattle.image_write.proofs.Prelude.{ℕ, _≡_, refl, ap, _∙_, List, arith, length, splice, reply-refused, reply-accepted, Header, Refused, Length, imageWords, imageOf, imageLength}
 use Rattle.image_spec.specs.Contracts.{lengthView, sizeRefusal, ImageSized, writeRefusal, ImageWritten}
 
 module _ (h : Header) (text : ℕ) where

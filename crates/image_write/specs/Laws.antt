@@ -1,4 +1,5 @@
 -- What follows from the definitions.
+mod Prelude
 pub mod Packed
 pub mod Bodies
 pub mod Checks

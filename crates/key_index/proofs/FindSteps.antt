@@ -1,15 +1,7 @@
 -- The answers of `find` and `look_up`, one law for each return path: at a free slot, after a full round, and at a slot that leads
 -- to the row; and how `look_up` reaches a slot. Assumes nothing.
-use Rattle.key_index.proofs.Prelude.{ℕ, _+_, _/_, _%_, _^_, _≤_, _<_, _≡_, sym, ap, _∙_, List, add-zero, arith, getD}
-use native.Mathlib.Decide.{decLt, ℕ-discrete}
+use Rattle.key_index.proofs.Prelude.{ℕ, _+_, _/_, _%_, _^_, _≤_, _<_, _≡_, sym, ap, _∙_, List, add-zero, arith, getD, decLt, ℕ-discrete, IndexShape, None, At, LiveAt, keyAt, slots, word, home, slotFrom, ReachableAt, KeysSound, spread, home-spread, word-tagged, word-some, word-same, tagged-row, tagged-bits, Leads, FoundAt, FoundIs, Ahead}
 use Rattle.cells.specs.Cells.{compactHash, keyHash}
-use Rattle.key_index.specs.declared.IndexShape.{IndexShape}
-use Rattle.key_index.specs.declared.Found.the-variants.{None, At}
-use Rattle.key_index.specs.Slots.{LiveAt, keyAt, slots, word, home, slotFrom, ReachableAt, KeysSound}
-use Rattle.key_index.specs.inner.Ring.{spread}
-use Rattle.key_index.specs.Laws.Ring.{home-spread, word-tagged, word-some, word-same, tagged-row, tagged-bits}
-use Rattle.key_index.specs.inner.Index.{Leads, FoundAt, FoundIs}
-use Rattle.key_index.specs.inner.Window.{Ahead}
 use Rattle.key_index.proofs.ScanSteps.{ScannedSlots, begin-past}
 
 -- a lookup passes a slot that leads to no row with the key

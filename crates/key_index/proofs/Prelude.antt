@@ -8,3 +8,24 @@ pub use native.Mathlib.Omega.{arith}
 pub use lib.ListN.{getD, length, set, drop, length-replicate, replicate-append-replicate, take, length-set}
 pub use borrow.Author.Tests.{eqb-true, eqb-false, lt-ltb, not-true, not-false, le-leb, lt-leb}
 pub use borrow.Author.Needs.{needs}
+pub use Rattle.key_index.specs.inner.Window.{Ahead, hasBits, isFree}
+pub use Rattle.key_index.specs.declared.Found.the-variants.{At, None}
+pub use Rattle.key_index.specs.inner.Index.{EmptyIs, FoundAt, FoundIs, HitIs, Leads, PutIs, RowsIn, zeros}
+pub use Rattle.key_index.specs.declared.IndexShape.{IndexShape}
+pub use Rattle.key_index.specs.Laws.Places.{Inside, key-part, row-inside}
+pub use Rattle.key_index.specs.Slots.{KeysSound, LiveAt, ReachableAt, home, keyAt, slotFrom, slots, word}
+pub use native.Mathlib.Numerals.{add-one}
+pub use borrow.Author.Count.{below-more}
+pub use native.Mathlib.Decide.{decLt, ℕ-discrete}
+pub use lib.Seq.{drop-set-lt}
+pub use Rattle.lists.specs.Laws.Parts.{drop-splice, length-splice, set-splice, splice-nil, splice-then}
+pub use Rattle.key_index.specs.Laws.Ring.{home-spread, names-none, names-number, names-yes, slot-below, slot-low, slot-met, slot-then, slot-wraps, slot-zero, spread-below, tagged-bits, tagged-of, tagged-row, word-same, word-some, word-tagged}
+pub use mathlib.Core.Logic.{inl, inr}
+pub use Rattle.row_buffer.specs.Laws.Rows.{key-row}
+pub use lib.Dec.{leb}
+pub use Rattle.lists.specs.Laws.All.{or-no-left, or-no-right, or-second}
+pub use Rattle.key_index.specs.Laws.Index.{rows-in}
+pub use Rattle.lists.specs.Lists.{same, splice}
+pub use Rattle.lists.specs.Laws.Rising.{same-eq, same-refl}
+pub use Rattle.lists.specs.Laws.Filter.{split}
+pub use Rattle.key_index.specs.inner.Ring.{spread, tagged}

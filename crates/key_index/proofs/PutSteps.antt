@@ -1,12 +1,6 @@
 -- The answers of `put`, one law for each return path, and the loop iterations of `empty`, each of which frees one slot. Assumes
 -- nothing.
-use Rattle.key_index.proofs.Prelude.{ℕ, _+_, _*_, _≤_, _<_, _≡_, refl, sym, ap, _∙_, true, false, false≢true, List, [], _∷_, arith, length, getD, set, drop, length-replicate, replicate-append-replicate}
-use lib.Seq.{drop-set-lt}
-use Rattle.lists.specs.Lists.{splice}
-use Rattle.lists.specs.Laws.Parts.{drop-splice, length-splice, splice-nil, splice-then, set-splice}
-use Rattle.key_index.specs.Laws.Ring.{slot-met}
-use Rattle.key_index.specs.inner.Ring.{spread, tagged}
-use Rattle.key_index.specs.inner.Index.{PutIs, zeros, EmptyIs}
+use Rattle.key_index.proofs.Prelude.{ℕ, _+_, _*_, _≤_, _<_, _≡_, refl, sym, ap, _∙_, true, false, false≢true, List, [], _∷_, arith, length, getD, set, drop, length-replicate, replicate-append-replicate, drop-set-lt, splice, drop-splice, length-splice, splice-nil, splice-then, set-splice, slot-met, spread, tagged, PutIs, zeros, EmptyIs}
 use Rattle.key_index.proofs.ScanSteps.{ScannedSlots}
 use Rattle.key_index.proofs.WindowSteps.{Taken}
 

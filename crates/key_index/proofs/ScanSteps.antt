@@ -1,8 +1,5 @@
 -- The scan of the loops of `find` and `put` round the slots: its start, and one step. Assumes nothing.
-use Rattle.key_index.proofs.Prelude.{ℕ, _+_, _≤_, _<_, _≡_, sym, ap, _∙_, List, arith, getD}
-use borrow.Author.Count.{below-more}
-use Rattle.key_index.specs.Slots.{slotFrom}
-use Rattle.key_index.specs.Laws.Ring.{slot-below, slot-low, slot-zero, slot-then}
+use Rattle.key_index.proofs.Prelude.{ℕ, _+_, _≤_, _<_, _≡_, sym, ap, _∙_, List, arith, getD, below-more, slotFrom, slot-below, slot-low, slot-zero, slot-then}
 
 -- `passed` slots from `start` on were passed, each for the reason P, and `at` is the next
 pub record ScannedSlots (n : ℕ) (store : List ℕ) (P : ℕ → Type 0) (start at passed : ℕ) : Type 0 where

@@ -1,10 +1,5 @@
 -- Tests of several slots at once: their loop iterations, and what their results imply. Assumes nothing.
-use Rattle.key_index.proofs.Prelude.{ℕ, zero, suc, _+_, _-_, _/_, _%_, _^_, _≤_, _<_, _≡_, refl, sym, ap, _∙_, Bool, true, false, _||_, false≢true, List, add-zero, arith, getD, eqb-true, eqb-false}
-use mathlib.Core.Logic.{inl, inr}
-use native.Mathlib.Decide.{ℕ-discrete}
-use native.Mathlib.Numerals.{add-one}
-use Rattle.lists.specs.Laws.Filter.{split}
-use Rattle.lists.specs.Laws.All.{or-second, or-no-left, or-no-right}
+use Rattle.key_index.proofs.Prelude.{ℕ, zero, suc, _+_, _-_, _/_, _%_, _^_, _≤_, _<_, _≡_, refl, sym, ap, _∙_, Bool, true, false, _||_, false≢true, List, add-zero, arith, getD, eqb-true, eqb-false, inl, inr, ℕ-discrete, add-one, split, or-second, or-no-left, or-no-right}
 use Rattle.key_index.specs.inner.Window.{isFree, hasBits, someOf, Ahead, FreeSoon, TakenRun}
 
 module _ (test : ℕ → Bool) (store : List ℕ) (from : ℕ) where

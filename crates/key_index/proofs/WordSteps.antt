@@ -1,15 +1,7 @@
 -- Decoding a slot's word: whether it has a row's number, the position of that row, and whether the row has a key. One law for each
 -- return path of `names_row` and `is_hit`. Assumes nothing.
-use Rattle.key_index.proofs.Prelude.{ℕ, _+_, _-_, _*_, _/_, _%_, _^_, _≤_, _<_, _≡_, sym, ap, _∙_, Bool, true, false, false≢true, List, arith, length, lt-ltb}
-use lib.Dec.{leb}
-use Rattle.lists.specs.Lists.{same}
-use Rattle.lists.specs.Laws.Rising.{same-refl, same-eq}
-use Rattle.key_index.specs.declared.IndexShape.{IndexShape}
-use Rattle.key_index.specs.Slots.{keyAt}
+use Rattle.key_index.proofs.Prelude.{ℕ, _+_, _-_, _*_, _/_, _%_, _^_, _≤_, _<_, _≡_, sym, ap, _∙_, Bool, true, false, false≢true, List, arith, length, lt-ltb, leb, same, same-refl, same-eq, IndexShape, keyAt, tagged-row, tagged-bits, tagged-of, names-yes, names-number, row-inside, RowsIn, Leads, HitIs}
 use Rattle.key_index.specs.inner.Ring.{tagged, namesRow}
-use Rattle.key_index.specs.Laws.Ring.{tagged-row, tagged-bits, tagged-of, names-yes, names-number}
-use Rattle.key_index.specs.Laws.Places.{row-inside}
-use Rattle.key_index.specs.inner.Index.{RowsIn, Leads, HitIs}
 
 pub names-some : (t : IndexShape) (w : ℕ) → (w % 2 ^ 17 ≡ 0 → ⊥) → leb (w % 2 ^ 17) (t .rows) ≡ namesRow t w
 unfolding namesRow

@@ -1,4 +1,5 @@
 -- What follows from the definitions.
+mod Prelude
 pub mod Index
 pub mod Lines
 pub mod Pigeonhole

@@ -1,25 +1,8 @@
 -- The steps of `remove_row`: distances on the ring, the home of a word's row, and the scan that closes the hole. Assumes nothing.
-use Prim.Native.Nat.{ℕ, _+_, _-_, _%_, _^_, _≤_, _<_}
-use mathlib.Core.Path.{_≡_, refl, sym, ap, _∙_}
-use mathlib.Core.Bool.{true, false, cond}
-use mathlib.Core.Logic.{inl, inr}
-use mathlib.Core.List.{List}
-use native.Mathlib.Nat.{mod-eq-of-lt, add-mod-right}
-use native.Mathlib.Decide.{ℕ-discrete}
-use native.Mathlib.Omega.{arith}
-use lib.ListN.{length, getD, set, length-set}
-use lib.Dec.{leb}
-use lib.Seq.{set-getD, getD-set-same, getD-set-other}
-use borrow.Author.Tests.{leb-true, leb-false}
-use Rattle.lists.specs.Laws.Filter.{split}
+use Rattle.key_remove.proofs.Prelude.{ℕ, _+_, _-_, _%_, _^_, _≤_, _<_, _≡_, refl, sym, ap, _∙_, true, false, cond, inl, inr, List, mod-eq-of-lt, add-mod-right, ℕ-discrete, arith, length, getD, set, length-set, leb, set-getD, getD-set-same, getD-set-other, leb-true, leb-false, split, IndexShape, keyAt, slots, slotFrom, home-spread, backwardShift, Shifted, RowRemoved, backwardShift-spent, backwardShift-stop, backwardShift-stay, backwardShift-move, backwardShift-length, backwardShift-rest, remove-row-sound}
 use Rattle.cells.specs.Cells.{compactHash, keyHash}
-use Rattle.key_index.specs.declared.IndexShape.{IndexShape}
-use Rattle.key_index.specs.Slots.{keyAt, slots, slotFrom}
 use Rattle.key_index.specs.inner.Ring.{spread, rowNamed, namesRow, away}
-use Rattle.key_index.specs.Laws.Ring.{home-spread}
 use Rattle.key_index.specs.inner.Index.{Fits, homeOf}
-use Rattle.key_remove.specs.inner.BackwardShift.{backwardShift, Shifted, RowRemoved}
-use Rattle.key_remove.specs.Laws.BackwardShift.{backwardShift-spent, backwardShift-stop, backwardShift-stay, backwardShift-move, backwardShift-length, backwardShift-rest, remove-row-sound}
 
 -- ---- distances
 

@@ -1,11 +1,6 @@
 -- The ways through `read_field`: what is to come from a place is what was to come from the field's start. Assumes nothing.
-use Rattle.levels_text.proofs.Prelude.{ℕ, suc, _+_, _-_, _*_, _≤_, _<_, _≡_, refl, sym, ap, _∙_, arith, length, drop, getD}
-use mathlib.Core.Bool.{false, _&&_, and-false}
-use mathlib.Core.List.{List, [], _∷_}
-use lib.Dec.{leb, ltb, eqb}
-use borrow.Author.Tests.{eq-eqb, ne-eqb, le-leb, lt-leb, le-ltb, lt-ltb}
+use Rattle.levels_text.proofs.Prelude.{ℕ, suc, _+_, _-_, _*_, _≤_, _<_, _≡_, refl, sym, ap, _∙_, arith, length, drop, getD, false, _&&_, and-false, List, [], _∷_, leb, ltb, eqb, eq-eqb, ne-eqb, le-leb, lt-leb, le-ltb, lt-ltb, Wrong, Decimal}
 use Rattle.levels_text.specs.Lines.{valueFrom, isDecimal}
-use Rattle.levels_text.specs.declared.Field.the-variants.{Wrong, Decimal}
 use Rattle.levels_text.specs.inner.Reading.{fieldAt, FieldIs, field-wrong, field-right}
 use Rattle.levels_text.specs.Laws.Lines.{first, first-at-more, decimalFrom, decimal-start}
 

@@ -1,14 +1,7 @@
 -- The ways through `read_line`: the numbers read so far, and what is to come behind them. Assumes nothing.
-use Rattle.levels_text.proofs.Prelude.{ℕ, _+_, _*_, _≤_, _<_, _≡_, refl, sym, ap, _∙_, arith, length, take, drop, getD, set, length-set, length-take}
-use mathlib.Core.Bool.{true, false, _&&_}
-use mathlib.Core.List.{List, [], _∷_, _++_, map, append-nil, append-assoc}
-use native.Mathlib.Numerals.{add-one}
-use lib.Seq.{take-suc-set}
+use Rattle.levels_text.proofs.Prelude.{ℕ, _+_, _*_, _≤_, _<_, _≡_, refl, sym, ap, _∙_, arith, length, take, drop, getD, set, length-set, length-take, true, false, _&&_, List, [], _∷_, _++_, map, append-nil, append-assoc, add-one, take-suc-set, splice-nil, put-more, Field}
 use Rattle.lists.specs.Lists.{splice, all}
-use Rattle.lists.specs.Laws.Parts.{splice-nil}
-use Rattle.lists.specs.Laws.Search.{put-more}
 use Rattle.levels_text.specs.Lines.{valueFrom, isDecimal, isLine, letter, numbers}
-use Rattle.levels_text.specs.declared.Field.{Field}
 use Rattle.levels_text.specs.declared.Field.the-variants.{Wrong as NoField, Decimal}
 use Rattle.levels_text.specs.declared.Parsed.the-variants.{Wrong, Line}
 use Rattle.levels_text.specs.inner.Reading.{fieldAt, FieldIs, LineIs, read-wrong, read-right}

@@ -1,8 +1,5 @@
 -- Numbers that rise up to a place: the loop of `first_misplaced`. Assumes nothing.
-use Rattle.listing_check.proofs.Prelude.{ℕ, _+_, _-_, _≤_, _<_, _≡_, List, decLt, arith, length, getD}
-use Rattle.lists.specs.Laws.Rising.{rising-of}
-use Rattle.listing_check.specs.inner.Scanning.{MisplacedAt}
-use Rattle.listing_check.specs.Laws.Numbers.{misplaced-rising, misplaced-at}
+use Rattle.listing_check.proofs.Prelude.{ℕ, _+_, _-_, _≤_, _<_, _≡_, List, decLt, arith, length, getD, rising-of, MisplacedAt, misplaced-rising, misplaced-at}
 
 abbrev pub Risen : List ℕ → ℕ → Type 0
 Risen given at = (i : ℕ) → 0 < i → i < at → getD given (i - 1) 0 < getD given i 0

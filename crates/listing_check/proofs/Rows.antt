@@ -1,20 +1,11 @@
 -- A D line that is read: what `row_at` finds. Assumes nothing.
-use Rattle.listing_check.proofs.Prelude.{ℕ, suc, _+_, _-_, _≤_, _<_, _≡_, refl, sym, ap, subst, _∙_, true, List, [], _∷_, arith, leb-true, le-leb, length, take, drop, getD, length-drop, length-take-le}
-use mathlib.Core.Logic.{inl, inr}
-use lib.Dec.{leb}
+use Rattle.listing_check.proofs.Prelude.{ℕ, suc, _+_, _-_, _≤_, _<_, _≡_, refl, sym, ap, subst, _∙_, true, List, [], _∷_, arith, leb-true, le-leb, length, take, drop, getD, length-drop, length-take-le, inl, inr, leb, all-head, and-right, take-put, some-number, pieces, Found, LineAt, RowRead}
 use Rattle.lists.specs.Lists.{splice, above, rising}
-use Rattle.lists.specs.Laws.All.{all-head}
-use Rattle.lists.specs.Laws.Filter.{and-right}
-use Rattle.lists.specs.Laws.Search.{take-put}
-use Rattle.refusals.specs.Laws.Replies.{some-number}
 use Rattle.cells.specs.Cells.{isDead}
 use Rattle.constraints.specs.Constraints.{isLive}
 use Rattle.listing_spec.specs.Listings.{prefixWidth, areNumbers, isRow, rowNumbers}
-use Rattle.listing_spec.specs.inner.Checking.{pieces}
 use Rattle.listing_spec.specs.Laws.Texts.{risingFrom, rising-from, RowsFit, row-parts, rows-shown}
-use Rattle.listing_parse.specs.inner.Lines.{Found, LineAt}
 use Rattle.listing_parse.specs.Laws.Steps.{rowsFrom, ValidRows, valid-rows-line, valid-rows-next, valid-rows-row}
-use Rattle.listing_check.specs.inner.Scanning.{RowRead}
 
 -- rows that fit, the first of them
 module _ (columns count least left n : ℕ) (cells : List ℕ) (rows : List (List ℕ)) (r : RowsFit true columns count least left ((n ∷ cells) ∷ rows)) where

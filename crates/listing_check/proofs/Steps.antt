@@ -1,28 +1,14 @@
 -- The transitions of the scan: its start, one row processed, and its final state. Assumes nothing.
-use Rattle.listing_check.proofs.Prelude.{ℕ, suc, _+_, _-_, _≤_, _<_, _≡_, refl, sym, ap, _∙_, Bool, true, false, cond, not, Bool·beq, false≢true, List, [], _∷_, decLt, ℕ-discrete, arith, lt-ltb, le-ltb, eq-eqb, ne-eqb, eqb-true, length, take, drop, getD, drop-of-length-le, List·getD-eq-default, drop-cons}
-use mathlib.Core.Option.{Option, none, some}
-use native.Mathlib.Numerals.{add-one}
-use lib.Dec.{eqb}
+use Rattle.listing_check.proofs.Prelude.{ℕ, suc, _+_, _-_, _≤_, _<_, _≡_, refl, sym, ap, _∙_, Bool, true, false, cond, not, Bool·beq, false≢true, List, [], _∷_, decLt, ℕ-discrete, arith, lt-ltb, le-ltb, eq-eqb, ne-eqb, eqb-true, length, take, drop, getD, drop-of-length-le, List·getD-eq-default, drop-cons, Option, none, some, add-one, eqb, above-head, above-cons, above-weaker, Constraint, textGood, listingIn, text-shown, text-wrong, shown-listing, Survey, Right, Misplaced, Wrong, CheckAnswer, Refused, Checked, CheckScan, misplaced-none, above-kept, right-rising}
 use Rattle.lists.specs.Lists.{filter, all, above}
-use Rattle.lists.specs.Laws.Rising.{above-head, above-cons, above-weaker}
 use Rattle.refusals.specs.Refusals.{firstRefusal, accepted, reply}
-use Rattle.constraints.specs.declared.Constraint.{Constraint}
 use Rattle.constraints.specs.Constraints.{known, met, meets}
 use Rattle.listing_spec.specs.Listings.{rowNumbers}
-use Rattle.listing_spec.specs.inner.Checking.{textGood, listingIn}
-use Rattle.listing_spec.specs.Laws.Texts.{text-shown, text-wrong, shown-listing}
-use Rattle.listing_parse.specs.declared.Survey.{Survey}
 use Rattle.listing_parse.specs.inner.Surveys.{headOf, Listed}
 use Rattle.listing_parse.specs.Laws.Steps.{rowsFrom, none-from}
-use Rattle.listing_check.specs.declared.Verdict.the-variants.{Right, Misplaced, Wrong}
-use Rattle.listing_check.specs.declared.CheckAnswer.{CheckAnswer}
-use Rattle.listing_check.specs.declared.CheckAnswer.the-variants.{Refused, Checked}
 use Rattle.listing_check.specs.declared.Row.{Row}
-use Rattle.listing_check.specs.declared.CheckScan.{CheckScan}
 use Rattle.listing_check.specs.Answers.{rightNumbers, misplaced, wrongNumbers, lowest, findingOf, verdictOn, verdictOf, verdictView, checkRefusal, checkView, AnswersChecked}
 use Rattle.listing_check.specs.inner.Scanning.{firstApart, rightAmong, unlessWrong, RowRead, rowsLeft, Underway, finishedAs, Stepped, closed}
-use Rattle.listing_check.specs.Laws.Numbers.{misplaced-none}
-use Rattle.listing_check.specs.Laws.Verdicts.{above-kept, right-rising}
 use Rattle.listing_check.proofs.Apart.{apart-same, apart-left, apart-right, lowest-first}
 
 -- ---- the final state

@@ -1,4 +1,5 @@
 -- What follows from the definitions.
+mod Prelude
 pub mod Numbers
 pub mod Verdicts
 pub mod Determined

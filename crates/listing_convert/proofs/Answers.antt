@@ -1,23 +1,7 @@
 -- The ways through `write_converted`, `lacks_room` and `convert_found`. Assumes nothing.
-use Rattle.listing_convert.proofs.Prelude.{ℕ, _+_, _-_, _≤_, _<_, _≡_, refl, sym, ap, _∙_, Bool, true, false, not, _&&_, false≢true, List, [], _∷_, _++_, map, arith, length, drop, getD, length-append}
-use mathlib.Core.Logic.{inl, inr}
-use mathlib.Core.Option.{none, some}
-use native.Mathlib.Decide.{ℕ-discrete}
-use lib.Dec.{ltb, eqb}
-use borrow.Author.Tests.{eq-eqb, ne-eqb, lt-ltb, le-ltb, ltb-true, ltb-false}
-use Rattle.lists.specs.Lists.{flatten}
-use Rattle.lists.specs.Laws.Filter.{split}
-use Rattle.lists.specs.Laws.Rising.{bool-ext}
+use Rattle.listing_convert.proofs.Prelude.{ℕ, _+_, _-_, _≤_, _<_, _≡_, refl, sym, ap, _∙_, Bool, true, false, not, _&&_, false≢true, List, [], _∷_, _++_, map, arith, length, drop, getD, length-append, inl, inr, none, some, ℕ-discrete, ltb, eqb, eq-eqb, ne-eqb, lt-ltb, le-ltb, ltb-true, ltb-false, flatten, split, bool-ext, reply-refused, textLine, Appended, appended-then, appended-put, Refused, Written, textGood, listingIn, shown-listing, shown-text, text-shown, text-wrong, lacks-none, lacks-no-row, fieldsLength, numbered-longer, plain-shorter, Survey}
 use Rattle.refusals.specs.Refusals.{firstRefusal, refused, reply}
-use Rattle.refusals.specs.Laws.Replies.{reply-refused}
-use Rattle.levels_text.specs.Written.{textLine}
-use Rattle.levels_text.specs.inner.Appending.{Appended, appended-then, appended-put}
-use Rattle.listing_spec.specs.declared.TextAnswer.the-variants.{Refused, Written}
 use Rattle.listing_spec.specs.Listings.{Listing, headLetter, listingText, numberedFrom, toNumbered, fromNumbered, lacksRow, convertedText, convertRefusal, textView, ListingConverted}
-use Rattle.listing_spec.specs.inner.Checking.{textGood, listingIn}
-use Rattle.listing_spec.specs.Laws.Texts.{shown-listing, shown-text, text-shown, text-wrong}
-use Rattle.listing_spec.specs.Laws.Conversions.{lacks-none, lacks-no-row, fieldsLength, numbered-longer, plain-shorter}
-use Rattle.listing_parse.specs.declared.Survey.{Survey}
 use Rattle.listing_parse.specs.inner.Surveys.{headOf, Listed}
 use Rattle.listing_parse.specs.Laws.Steps.{rowsFrom, ValidRows}
 use Rattle.listing_convert.specs.inner.Converting.{convertedRow, convertedFrom, convertedHead, convertedLength}

@@ -1,12 +1,6 @@
 -- The ways through `convert_rows`: what is to be written from a place on ends where all of it does. Assumes nothing.
-use Rattle.listing_convert.proofs.Prelude.{ℕ, _+_, _≤_, _<_, _≡_, refl, ap, _∙_, Bool, List, _∷_, _++_, map, arith, length, take, length-append}
-use native.Mathlib.Numerals.{add-one}
+use Rattle.listing_convert.proofs.Prelude.{ℕ, _+_, _≤_, _<_, _≡_, refl, ap, _∙_, Bool, List, _∷_, _++_, map, arith, length, take, length-append, add-one, textLine, Appended, appended-none, appended-then, prefixWidth, Found, rowsFrom, ValidRows, valid-rows-next, valid-rows-row, none-from}
 use Rattle.lists.specs.Lists.{flatten}
-use Rattle.levels_text.specs.Written.{textLine}
-use Rattle.levels_text.specs.inner.Appending.{Appended, appended-none, appended-then}
-use Rattle.listing_spec.specs.Listings.{prefixWidth}
-use Rattle.listing_parse.specs.inner.Lines.{Found}
-use Rattle.listing_parse.specs.Laws.Steps.{rowsFrom, ValidRows, valid-rows-next, valid-rows-row, none-from}
 use Rattle.listing_convert.specs.inner.Converting.{convertedRow, convertedFrom}
 
 -- the text of the rows from a place on, in the other form

@@ -1,11 +1,6 @@
 -- The ways through `numbers_length` and `convert_row`. Assumes nothing.
-use Rattle.listing_convert.proofs.Prelude.{ℕ, _+_, _-_, _*_, _≤_, _<_, _≡_, refl, Bool, true, false, List, _∷_, map, arith, length, take, drop, length-append}
-use native.Mathlib.Nat.{zero-add}
+use Rattle.listing_convert.proofs.Prelude.{ℕ, _+_, _-_, _*_, _≤_, _<_, _≡_, refl, Bool, true, false, List, _∷_, map, arith, length, take, drop, length-append, zero-add, take-drop, iota-snoc, length-iota, field, fields-more, length-fields}
 use Rattle.lists.specs.Lists.{flatten, iota}
-use Rattle.lists.specs.Laws.Parts.{take-drop}
-use Rattle.lists.specs.Laws.Rising.{iota-snoc, length-iota}
-use Rattle.levels_text.specs.Written.{field}
-use Rattle.levels_text.specs.Laws.Decimals.{fields-more, length-fields}
 use Rattle.listing_spec.specs.Listings.{prefixWidth}
 use Rattle.listing_spec.specs.Laws.Conversions.{fieldsLength}
 use Rattle.listing_convert.specs.inner.Converting.{convertedRow}

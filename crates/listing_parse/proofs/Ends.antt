@@ -1,14 +1,7 @@
 -- The ways through `line_end` and `line_at`. Assumes nothing.
-use Rattle.listing_parse.proofs.Prelude.{ℕ, suc, _+_, _-_, _≤_, _<_, _≡_, refl, sym, ap, _∙_, false, _&&_, _||_, and-false, List, [], _∷_, _++_, arith, length, take, drop, getD, length-drop, ne-eqb, eq-eqb, eqb, take-suc, split-at, drop-drop, getD-drop, take-all}
+use Rattle.listing_parse.proofs.Prelude.{ℕ, suc, _+_, _-_, _≤_, _<_, _≡_, refl, sym, ap, _∙_, false, _&&_, _||_, and-false, List, [], _∷_, _++_, arith, length, take, drop, getD, length-drop, ne-eqb, eq-eqb, eqb, take-suc, split-at, drop-drop, getD-drop, take-all, elem-append, take-put, Parsed, Wrong, Line, isLine, letter, numbers, LineIs, read-refused, read-taken, read-letter, read-count, read-put, read-fits, pieces-some, pieces-line, pieces-last}
 use Rattle.lists.specs.Lists.{splice, elem}
-use Rattle.lists.specs.Laws.Rising.{elem-append}
-use Rattle.lists.specs.Laws.Search.{take-put}
-use Rattle.levels_text.specs.declared.Parsed.{Parsed}
-use Rattle.levels_text.specs.declared.Parsed.the-variants.{Wrong, Line}
-use Rattle.levels_text.specs.Lines.{isLine, letter, numbers}
-use Rattle.levels_text.specs.inner.Reading.{LineIs, read-refused, read-taken, read-letter, read-count, read-put, read-fits}
 use Rattle.listing_spec.specs.inner.Checking.{pieces, isNil, begins}
-use Rattle.listing_spec.specs.Laws.Pieces.{pieces-some, pieces-line, pieces-last}
 use Rattle.listing_parse.specs.inner.Lines.{LineEnd, lineIn, LineAt}
 
 -- ---- up to the newline

@@ -1,11 +1,7 @@
 -- The ways through `keeps_bounds`, `head_at` and `scan_text`. Assumes nothing.
-use Rattle.listing_parse.proofs.Prelude.{ℕ, _≤_, _<_, _≡_, refl, sym, ap, _∙_, Bool, true, false, cond, not, _&&_, and-false, false≢true, List, [], _∷_, arith, length, take, drop, getD, List·getD-eq-default, eq-eqb, ne-eqb, le-leb, lt-leb, lt-ltb, le-ltb, leb, eqb, getD-take, length-take-le, take-suc}
-use native.Mathlib.Decide.{ℕ-discrete}
+use Rattle.listing_parse.proofs.Prelude.{ℕ, _≤_, _<_, _≡_, refl, sym, ap, _∙_, Bool, true, false, cond, not, _&&_, and-false, false≢true, List, [], _∷_, arith, length, take, drop, getD, List·getD-eq-default, eq-eqb, ne-eqb, le-leb, lt-leb, lt-ltb, le-ltb, leb, eqb, getD-take, length-take-le, take-suc, ℕ-discrete, bounds-columns, Survey, lineIn, Found, LineAt}
 use Rattle.listing_spec.specs.Listings.{headLetter, headWidth, keepsBounds, isHead}
 use Rattle.listing_spec.specs.inner.Checking.{pieces, begins, rowsGood, linesToRows, piecesGood, listingOf, textGood, listingIn}
-use Rattle.listing_spec.specs.Laws.Texts.{bounds-columns}
-use Rattle.listing_parse.specs.declared.Survey.{Survey}
-use Rattle.listing_parse.specs.inner.Lines.{lineIn, Found, LineAt}
 use Rattle.listing_parse.specs.inner.Surveys.{Counted, HeadFound, HeadAt, headOf, Surveyed}
 
 module _ (columns keys sort rule : ℕ) where

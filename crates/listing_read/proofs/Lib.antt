@@ -1,2 +1,3 @@
+mod Prelude
 pub mod Writing
 pub mod Reading

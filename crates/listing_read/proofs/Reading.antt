@@ -1,28 +1,11 @@
 -- The ways out of `read_found` and `read`. Assumes nothing.
-use Prim.Native.Nat.{ℕ, _+_, _*_, _≤_, _<_}
-use mathlib.Core.Path.{_≡_, refl, sym, ap, _∙_}
-use mathlib.Core.Bool.{Bool, true, false, not}
-use mathlib.Core.List.{List}
-use mathlib.Core.Option.{none, some}
-use native.Mathlib.Nat.{mul-le-mul}
-use native.Mathlib.Omega.{arith}
-use lib.Dec.{eqb}
-use lib.ListN.{length, getD}
-use borrow.Author.Tests.{lt-ltb, le-ltb}
-use Rattle.lists.specs.Lists.{splice, flatten}
-use Rattle.lists.specs.Laws.All.{all-weaker}
-use Rattle.lists.specs.Laws.Filter.{and-left}
-use Rattle.lists.specs.Laws.Rows.{widths, length-flatten}
+use Rattle.listing_read.proofs.Prelude.{ℕ, _+_, _*_, _≤_, _<_, _≡_, refl, sym, ap, _∙_, Bool, true, false, not, List, none, some, mul-le-mul, arith, eqb, length, getD, lt-ltb, le-ltb, splice, flatten, all-weaker, and-left, widths, length-flatten, pieces, linesToRows, textGood, listingIn, rows-shown, text-shown, text-wrong, Survey, ReadResult}
 use Rattle.refusals.specs.Refusals.{firstRefusal, reply}
 use Rattle.listing_spec.specs.Listings.{Listing, prefixWidth, isRow, listingCells, readRefusal, readWords, listingView, numberedView, ListingRead}
-use Rattle.listing_spec.specs.inner.Checking.{pieces, linesToRows, textGood, listingIn}
-use Rattle.listing_spec.specs.Laws.Texts.{rows-shown, text-shown, text-wrong}
 use Rattle.listing_spec.specs.declared.ListingAnswer.the-variants.{Refused as ListingRefused, Listing as ListingFound}
 use Rattle.listing_spec.specs.declared.NumberedAnswer.the-variants.{Refused as NumberedRefused, Listing as NumberedFound}
-use Rattle.listing_parse.specs.declared.Survey.{Survey}
 use Rattle.listing_parse.specs.inner.Surveys.{headOf, Listed}
 use Rattle.listing_parse.specs.Laws.Steps.{rowsFrom, ValidRows}
-use Rattle.listing_read.specs.declared.ReadResult.{ReadResult}
 use Rattle.listing_read.specs.declared.ReadResult.the-variants.{Refused, Found}
 use Rattle.listing_read.specs.inner.ReadResults.{readView}
 

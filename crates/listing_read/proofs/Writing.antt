@@ -1,16 +1,6 @@
 -- The ways through `write_rows`: what is to be written from a place on ends where all of it does. Assumes nothing.
-use Prim.Native.Nat.{ℕ, _+_, _≤_}
-use mathlib.Core.Path.{_≡_, refl, sym, ap, _∙_}
-use mathlib.Core.Bool.{Bool}
-use mathlib.Core.List.{List, [], _++_}
-use native.Mathlib.Omega.{arith}
-use lib.ListN.{length, take, length-append}
-use lib.Seq.{length-take-le}
+use Rattle.listing_read.proofs.Prelude.{ℕ, _+_, _≤_, _≡_, refl, sym, ap, _∙_, Bool, List, [], _++_, arith, length, take, length-append, length-take-le, length-splice, splice-nil, splice-then, prefixWidth, Found, rowsFrom, ValidRows, valid-rows-next, valid-rows-row, none-from}
 use Rattle.lists.specs.Lists.{splice, flatten}
-use Rattle.lists.specs.Laws.Parts.{length-splice, splice-nil, splice-then}
-use Rattle.listing_spec.specs.Listings.{prefixWidth}
-use Rattle.listing_parse.specs.inner.Lines.{Found}
-use Rattle.listing_parse.specs.Laws.Steps.{rowsFrom, ValidRows, valid-rows-next, valid-rows-row, none-from}
 
 pub record Writing (numbered : Bool) (columns : ℕ) (text : List ℕ) (start : ℕ) (lent output₀ stored output : List ℕ) (at used : ℕ) : Type 0 where
   pub inside : at ≤ length text

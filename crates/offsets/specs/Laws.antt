@@ -1,4 +1,5 @@
 -- What follows from the definitions.
+mod Prelude
 pub mod Subsets
 pub mod Forms
 pub mod Answers

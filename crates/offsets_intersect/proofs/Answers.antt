@@ -1,7 +1,5 @@
 -- The reply that each answer encodes. Assumes nothing.
-use Rattle.offsets_intersect.proofs.Prelude.{ℕ, zero, suc, _≤_, _<_, min, max, _≡_, refl, sym, _∙_, Bool, true, false, _&&_, List, [], _∷_, arith, leb, length, lt-leb, le-leb, filter, within, splice-nil, and-left, and-right, length-filter}
-use Rattle.offsets_intersect.proofs.Prelude.{count-le, Refused, Range, subsetOf, Answered, roomNeeded, intersectRefusal, intersectReply, Wrote, Fitting, Searchable, common, answered-refused as refused-answered, refusal-first, refusal-second}
-use Rattle.offsets_intersect.proofs.Prelude.{refusal-none, Allowed, allowed, dense-is, sparse-is, answered-range, answered-list, formed-order, formed-rising, formed-short}
+use Rattle.offsets_intersect.proofs.Prelude.{ℕ, zero, suc, _≤_, _<_, min, max, _≡_, refl, sym, _∙_, Bool, true, false, _&&_, List, [], _∷_, arith, leb, length, lt-leb, le-leb, filter, within, splice-nil, and-left, and-right, length-filter, count-le, Refused, Range, subsetOf, Answered, roomNeeded, intersectRefusal, intersectReply, Wrote, Fitting, Searchable, common, answered-refused as refused-answered, refusal-first, refusal-second, refusal-none, Allowed, allowed, dense-is, sparse-is, answered-range, answered-list, formed-order, formed-rising, formed-short}
 use Rattle.refusals.specs.Refusals.{refused, accepted, reply}
 use Rattle.offsets.specs.declared.SubsetHead.{SubsetHead}
 use Rattle.offsets.specs.declared.SubsetAnswer.{SubsetAnswer}

@@ -1,7 +1,5 @@
 -- The ids that are copied, those within a range, and what two lists have in common from either side. Assumes nothing.
-use Rattle.offsets_intersect.proofs.Prelude.{ℕ, _+_, _-_, _≤_, _<_, _≡_, refl, sym, ap, _∙_, true, List, add-one, arith, length, take, drop, getD, set, length-drop, length-set, take-suc, take-all, length-take-le, splice, filter, rising, within}
-use Rattle.offsets_intersect.proofs.Prelude.{splice-nil, filter-elem-comm, notBelow-le, filter-within-places, put-more, common, Wrote}
-use Rattle.lists.specs.inner.Searching.{firstNotBelow}
+use Rattle.offsets_intersect.proofs.Prelude.{ℕ, _+_, _-_, _≤_, _<_, _≡_, refl, sym, ap, _∙_, true, List, add-one, arith, length, take, drop, getD, set, length-drop, length-set, take-suc, take-all, length-take-le, splice, filter, rising, within, splice-nil, filter-elem-comm, notBelow-le, filter-within-places, put-more, common, Wrote, firstNotBelow}
 
 -- ---- the copy
 

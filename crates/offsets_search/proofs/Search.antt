@@ -1,14 +1,5 @@
 -- The loops of the searches, one step at a time, and the result of each return of a scan. Assumes nothing.
-use Prim.Native.Nat.{ℕ, _+_, _-_, _*_, _≤_, _<_}
-use mathlib.Core.Path.{_≡_, sym, ap}
-use mathlib.Core.Bool.{true, false}
-use mathlib.Core.List.{List}
-use native.Mathlib.Decide.{decLt}
-use native.Mathlib.Omega.{arith}
-use lib.ListN.{length, getD}
-use Rattle.lists.specs.Lists.{rising, elem}
-use Rattle.lists.specs.inner.Searching.{firstNotBelow}
-use Rattle.lists.specs.Laws.Search.{notBelow-le, notBelow-past, notBelow-upto, notBelow-at, elem-notBelow, elem-not-notBelow}
+use Rattle.offsets_search.proofs.Prelude.{ℕ, _+_, _-_, _*_, _≤_, _<_, _≡_, sym, ap, true, false, List, decLt, arith, length, getD, rising, elem, firstNotBelow, notBelow-le, notBelow-past, notBelow-upto, notBelow-at, elem-notBelow, elem-not-notBelow}
 use Rattle.offsets_search.specs.declared.Scan.{Scan}
 use Rattle.offsets_search.specs.declared.Scan.the-variants.{Hit, Next}
 use Rattle.offsets_search.specs.Laws.Strides.{stride-bound}

@@ -1,22 +1,8 @@
 -- The checks one by one, and what is known if nothing is refused. Assumes nothing.
-use Rattle.precedence.proofs.Prelude.{ℕ, _/_, _%_, _≤_, _<_, _≡_, refl, sym, ap, _∙_, arith, length, leb-false, ltb-false, le-leb, lt-leb, lt-ltb, le-ltb, eq-eqb, ne-eqb}
-use mathlib.Core.Logic.{inl, inr}
-use mathlib.Core.Bool.{false, not, _||_}
-use mathlib.Core.List.{List, [], _∷_}
-use mathlib.Core.Option.{none, some}
-use lib.Dec.{leb, ltb, eqb}
-use Rattle.lists.specs.Laws.Filter.{split}
-use Rattle.lists.specs.Laws.All.{or-no-right}
+use Rattle.precedence.proofs.Prelude.{ℕ, _/_, _%_, _≤_, _<_, _≡_, refl, sym, ap, _∙_, arith, length, leb-false, ltb-false, le-leb, lt-leb, lt-ltb, le-ltb, eq-eqb, ne-eqb, inl, inr, false, not, _||_, List, [], _∷_, none, some, leb, ltb, eqb, split, or-no-right, outcome-refused, outcome-accepted, firstRefusal-no, firstRefusal-rest, Header, ofRows, lookup-accepted, inside-fits, Refused, Met, Fails, Tested, OnTable}
 use Rattle.refusals.specs.Refusals.{check, firstRefusal, accepted}
-use Rattle.refusals.specs.Laws.Replies.{outcome-refused, outcome-accepted}
-use Rattle.plain_table.specs.Laws.Calls.{firstRefusal-no, firstRefusal-rest}
-use Rattle.table.specs.declared.Header.{Header}
 use Rattle.table.specs.Refusing.{outside, rowsShort, pairsShort, lookupChecks, lookupRefusal}
-use Rattle.table.specs.Contracts.{ofRows}
-use Rattle.table.specs.Laws.Refusals.{lookup-accepted, inside-fits}
-use Rattle.precedence.specs.declared.PrecedenceAnswer.the-variants.{Refused, Met, Fails}
 use Rattle.precedence.specs.Precedence.{pairsOf, precedenceFailure, precedenceRefusal, precedenceView, PrecedenceChecked}
-use Rattle.precedence.specs.inner.Checking.{Tested, OnTable}
 
 module _ (h : Header) (rows keys column words : ℕ) where
   -- what a lookup refuses, with the same number

@@ -1,39 +1,11 @@
 -- The steps of the check: what each function answers, against the scans. Assumes nothing.
-use Rattle.precedence.proofs.Prelude.{ℕ, suc, _+_, _-_, _*_, _/_, _≤_, _<_, _≡_, refl, sym, ap, ap₂, _∙_, arith, length, take, drop, getD, set, length-set, drop-of-length-le, eq-eqb, ne-eqb}
-use mathlib.Core.Logic.{inl, inr}
-use mathlib.Core.Bool.{Bool, true, false, not, _&&_}
-use mathlib.Core.List.{List, _∷_}
-use mathlib.Core.Option.{Option, none, some}
-use native.Mathlib.Nat.{suc-mul, add-zero, mul-le-mul}
-use native.Mathlib.Numerals.{add-one}
-use lib.Dec.{leb}
-use lib.Seq.{length-take-le, drop-cons, take-set-lt}
-use Rattle.lists.specs.Lists.{splice, rowAt}
-use Rattle.lists.specs.Laws.Filter.{split}
-use Rattle.lists.specs.Laws.Parts.{length-splice}
-use Rattle.lists.specs.Laws.Rising.{same-refl, same-eq}
-use Rattle.lists.specs.Laws.Rows.{row-in, length-rowAt, getD-rowAt}
-use Rattle.lists.specs.Laws.Search.{take-put}
+use Rattle.precedence.proofs.Prelude.{ℕ, suc, _+_, _-_, _*_, _/_, _≤_, _<_, _≡_, refl, sym, ap, ap₂, _∙_, arith, length, take, drop, getD, set, length-set, drop-of-length-le, eq-eqb, ne-eqb, inl, inr, Bool, true, false, not, _&&_, List, _∷_, Option, none, some, suc-mul, add-zero, mul-le-mul, add-one, leb, length-take-le, drop-cons, take-set-lt, splice, rowAt, split, length-splice, same-refl, same-eq, row-in, length-rowAt, getD-rowAt, take-put, key-row, IndexShape, Found, None, At, LiveAt, keyAt, Fits, FoundIs, noRow, live-below, Header, openingOf, rowsIn, indexShapeOf, KeysDiffer, ofRows, rowOfCells, length-rowsIn, getD-rowsIn, anyLive, any-live, none-live, any-same, key-replaced, length-pairsOf, getD-pairsOf, fails-here, fails-later, failure-here, failure-later, failure-dead}
 use Rattle.cells.specs.Cells.{isDead, compactHash, keyHash}
 use Rattle.constraints.specs.Constraints.{isLive}
-use Rattle.row_buffer.specs.Laws.Rows.{key-row}
-use Rattle.key_index.specs.declared.IndexShape.{IndexShape}
-use Rattle.key_index.specs.declared.Found.{Found}
-use Rattle.key_index.specs.declared.Found.the-variants.{None, At}
-use Rattle.key_index.specs.Slots.{LiveAt, keyAt}
-use Rattle.key_index.specs.inner.Index.{Fits, FoundIs}
 use Rattle.plain_table.specs.Staged.{hasKey}
 use Rattle.plain_table.specs.Plain.{Row, liveFrom, liveRows}
-use Rattle.plain_table.specs.Laws.Rows.{noRow, live-below}
-use Rattle.table.specs.declared.Header.{Header}
-use Rattle.table.specs.Numbers.{openingOf}
-use Rattle.table.specs.Stores.{rowsIn}
-use Rattle.table.specs.Sound.{indexShapeOf, KeysDiffer}
-use Rattle.table.specs.Contracts.{ofRows}
-use Rattle.table.specs.Laws.Live.{rowOfCells, length-rowsIn, getD-rowsIn}
 use Rattle.precedence.specs.Precedence.{Pair, pairsOf, precedes, meetsPair, firstFailing, failingPair, Failure, failureAmong, precedenceFailure}
 use Rattle.precedence.specs.inner.Checking.{Tested, filedBy, OnTable, rowFiled, rowMeets, rowFailing, PlaceIs}
-use Rattle.precedence.specs.Laws.Scan.{anyLive, any-live, none-live, any-same, key-replaced, length-pairsOf, getD-pairsOf, fails-here, fails-later, failure-here, failure-later, failure-dead}
 
 -- ---- rows in their store
 

@@ -6,8 +6,7 @@
 --     tokens-out, tokens-in       tokens, each an entry, the last first; and back
 --     owns-out, owns-in           what parameters own, likewise
 -- Assumes `Given`.
-use Rattle.query_borrowed.proofs.Prelude.{ℕ, zero, suc, _≡_, Option, just, List, [], _∷_, URA, T, Lifetime, Ty, place, deref, addrOf, Body, seq, assign, Val, WT, hasTy, vptr, id⊢, Lft, Fml, ftrue, fsep, flft, fres, Heap, Calls, Loops, spotOf, Atoms, Lfts, Shares, toks, Given, Item, ‵, raw, _⊛_, Post}
-use Rattle.query_borrowed.proofs.Prelude.{Goal, runs, Step, step, _$_, move, use0, use1, split, join, fsplit, fjoin, drop, hop, stop, from, addr, assigns, look-in, RattleType, Array, RefT, ShrRef, MutRef, ptr-vals, shr-tells, shr-lawful, mut-tells, mut-lawful, nothing}
+use Rattle.query_borrowed.proofs.Prelude.{ℕ, zero, suc, _≡_, Option, just, List, [], _∷_, URA, T, Lifetime, Ty, place, deref, addrOf, Body, seq, assign, Val, WT, hasTy, vptr, id⊢, Lft, Fml, ftrue, fsep, flft, fres, Heap, Calls, Loops, spotOf, Atoms, Lfts, Shares, toks, Given, Item, ‵, raw, _⊛_, Post, Goal, runs, Step, step, _$_, move, use0, use1, split, join, fsplit, fjoin, drop, hop, stop, from, addr, assigns, look-in, RattleType, Array, RefT, ShrRef, MutRef, ptr-vals, shr-tells, shr-lawful, mut-tells, mut-lawful, nothing}
 use Rattle.query_borrowed.proofs.Locals.{Locals, held, set, Within, cell, fills}
 use Rattle.query_borrowed.proofs.Walking.{Known}
 

@@ -36,3 +36,6 @@ pub use denote.Triple.Statement.{Triple, Contract}
 pub use Rattle.constraints.specs.declared.Constraint.{Constraint}
 pub use denote.Struct.Rest.{all-own, ownAt, rest, own-open, own-out, own-shut}
 pub use Rattle.query_spec.specs.Queries.{Matched, matchView, PageRead, pageView, RefinedOne, RefinedList}
+pub use mathlib.Core.Bool.{Bool, false, true}
+pub use Rattle.query_borrowed.specs.declared.SubsetRef.{SubsetRef}
+pub use Rattle.query_borrowed.specs.Borrowed.{headOf}

@@ -10,10 +10,7 @@
 --     proved           from a function's code to its entry in the table of calls
 -- Assumes `Given`.
 pub use Rattle.query_borrowed.proofs.Prelude.{URA, SProp, id⊢, Memory, Routine, Heap, Calls, Loops, WpFn, Atoms, Lfts, Fun, FmC, Given, _$_, !, move, drop, fsplit, u32, typesAt, Meets, tripleOf, Triple}
-use Rattle.query_borrowed.proofs.Prelude.{ℕ, zero, suc, _≡_, Option, just, List, [], _∷_, T as T′, Lifetime, Width, Ty, place, Operand, Body, seq, call, Fn, Name, Val, WT, hasTy, ent, sep, emp, via, fst∗, monoR, Lft, Fml, ftrue, fsep, Env, Closed, spotOf, sem, Shares, AllOutlive, fmOf, Go, Item, ‵, raw}
-use Rattle.query_borrowed.proofs.Prelude.{_⊛_, some, later, Post, Goal, prop, runs, Seq, Step, step, use0, use1, split, join, fjoin, frame, await, pick, updating, at-once, show, done, from, stop, land, look-in, RattleType, owns, flat, mirs, Is, Tells, Lawful, Typed, Are, Ises, Spells, valss, Tellss}
-use Rattle.query_borrowed.proofs.Prelude.{Lawfuls, all-typed, shows, UInt, Boolean, uint-vals, uint-tells, uint-lawful, bool-vals, bool-tells, bool-lawful, ShrSlice, MutSlice, slice-vals, shr-slice-tells, shr-slice-lawful, mut-slice-tells, mut-slice-lawful, Signature, typeAt, said, peeks, nothing}
-use Rattle.query_borrowed.proofs.Prelude.{Contract}
+use Rattle.query_borrowed.proofs.Prelude.{ℕ, zero, suc, _≡_, Option, just, List, [], _∷_, T as T′, Lifetime, Width, Ty, place, Operand, Body, seq, call, Fn, Name, Val, WT, hasTy, ent, sep, emp, via, fst∗, monoR, Lft, Fml, ftrue, fsep, Env, Closed, spotOf, sem, Shares, AllOutlive, fmOf, Go, Item, ‵, raw, _⊛_, some, later, Post, Goal, prop, runs, Seq, Step, step, use0, use1, split, join, fjoin, frame, await, pick, updating, at-once, show, done, from, stop, land, look-in, RattleType, owns, flat, mirs, Is, Tells, Lawful, Typed, Are, Ises, Spells, valss, Tellss, Lawfuls, all-typed, shows, UInt, Boolean, uint-vals, uint-tells, uint-lawful, bool-vals, bool-tells, bool-lawful, ShrSlice, MutSlice, slice-vals, shr-slice-tells, shr-slice-lawful, mut-slice-tells, mut-slice-lawful, Signature, typeAt, said, peeks, nothing, Contract}
 pub use contract.Running.{givenOf}
 pub use denote.Enum.Laws.{lawful as enum-lawful}
 pub use denote.Triple.Table.{cited}

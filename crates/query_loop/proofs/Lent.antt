@@ -1,8 +1,7 @@
 -- What a query is lent and passes on: a table's header and rows, a subset's head and ids, and conditions; and the output, which is
 -- lent and returned. Their machine values, what owning them is, and the steps by which a manual proof makes what a call requires of
 -- them. Assumes `Given`.
-use Rattle.query_loop.proofs.Prelude.{refl, ℕ, _<_, _^_, List, [], _∷_, length, URA, named, w64, Val, vint, Lft, Share, GName, Fml, fsep, flft, Heap, Atoms, Given, Goal, Item, Step, step, ‵, _⊛_, _$_, move, drop, split, join, fsplit, fjoin, u32, Is, uint-makes, RefT, now, sliceVal}
-use Rattle.query_loop.proofs.Prelude.{ShrSlice, MutSlice, Room, Width, Fits, Constraint, Header, Scan, QueryKind, Test}
+use Rattle.query_loop.proofs.Prelude.{refl, ℕ, _<_, _^_, List, [], _∷_, length, URA, named, w64, Val, vint, Lft, Share, GName, Fml, fsep, flft, Heap, Atoms, Given, Goal, Item, Step, step, ‵, _⊛_, _$_, move, drop, split, join, fsplit, fjoin, u32, Is, uint-makes, RefT, now, sliceVal, ShrSlice, MutSlice, Room, Width, Fits, Constraint, Header, Scan, QueryKind, Test}
 use Rattle.offsets.specs.declared.SubsetHead.{SubsetHead}
 use Rattle.offsets.specs.Answers.{subsetOf}
 use denote.Plain.{UInt, uint-lawful, uint-tells}

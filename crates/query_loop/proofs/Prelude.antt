@@ -59,3 +59,12 @@ pub use native.Mathlib.Numerals.{add-one, add-one-dec}
 pub use lib.Seq.{take-all, take-suc, length-take-le}
 pub use Rattle.query_scan.proofs.AnswerSteps.{scanned-all, kept-all, can-write, retained-range, retained-list, one-refused, one-answered, can-close, list-answered}
 pub use Rattle.query_scan.specs.declared.QueryKind.the-variants.{Match, Page, Refine}
+pub use mathlib.Core.WellFounded.{InvImage·wf, WellFounded}
+pub use lib.WfN.{Nat·lt-wfRel}
+pub use borrow.Rule.Slice.Shared.{Sh, parts-cells}
+pub use Rattle.lists.specs.Laws.All.{all-cons, all-head, all-more, all-tail}
+pub use borrow.Table.Elements.{at, cut-app, join-app}
+pub use mathlib.Core.Logic.{inl, inr}
+pub use borrow.Table.OneValue.{part-in}
+pub use borrow.Rule.Array.Init.{part-room}
+pub use borrow.Rule.Array.Share.{room-take}

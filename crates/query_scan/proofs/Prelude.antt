@@ -27,3 +27,16 @@ pub use Rattle.query_spec.specs.inner.Tests.{Queryable, RefineRefused, MatchRef
 pub use Rattle.refusals.specs.Laws.Replies.{reply-refused, reply-accepted}
 pub use Rattle.refusals.specs.Refusals.{refused, accepted, reply}
 pub use Rattle.table.specs.declared.Header.{Header}
+pub use Rattle.query_spec.specs.declared.NextPlace.the-variants.{At, None}
+pub use Rattle.query_spec.specs.declared.MatchAnswer.{MatchAnswer}
+pub use Rattle.query_spec.specs.declared.NextPlace.{NextPlace}
+pub use mathlib.Core.Option.{Option, none, some}
+pub use Rattle.query_spec.specs.declared.PageAnswer.{PageAnswer}
+pub use Rattle.query_scan.specs.declared.QueryKind.{QueryKind}
+pub use native.Mathlib.Numerals.{add-one}
+pub use lib.Seq.{drop-cons, getD-drop, take-all, take-suc}
+pub use Rattle.constraints.specs.Laws.Rows.{live-first}
+pub use Rattle.table.specs.Laws.Refusals.{outside-inside, rows-long-of}
+pub use Rattle.lists.specs.Laws.Parts.{part-width}
+pub use Rattle.lists.specs.Laws.Rising.{rising-drop, rising-filter, rising-take}
+pub use Rattle.lists.specs.Laws.Rows.{row-in}

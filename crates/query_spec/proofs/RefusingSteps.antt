@@ -1,24 +1,11 @@
 -- The tests of the queries one by one: what each exit of a function proves of its refusal. Assumes nothing.
-use Prim.Native.Nat.{ℕ, _-_, _≤_, _<_, min}
-use mathlib.Core.Path.{_≡_, sym, ap, _∙_}
-use mathlib.Core.Logic.{inl, inr}
-use mathlib.Core.Bool.{Bool, true, false, not, _||_}
-use mathlib.Core.List.{List, [], _∷_}
-use native.Mathlib.Omega.{arith}
-use lib.Dec.{ltb}
-use borrow.Author.Tests.{lt-ltb, le-ltb}
-use Rattle.lists.specs.Lists.{all}
-use Rattle.lists.specs.Laws.Filter.{split}
+use Rattle.query_spec.proofs.Prelude.{ℕ, _-_, _≤_, _<_, min, _≡_, sym, ap, _∙_, inl, inr, Bool, true, false, not, _||_, List, [], _∷_, arith, ltb, lt-ltb, le-ltb, all, split, Constraint, known, Header, outside, rowsShort}
 use Rattle.refusals.specs.Refusals.{Check, check, firstRefusal}
 use Rattle.offsets.specs.declared.BoundsAnswer.{BoundsAnswer}
 use Rattle.offsets.specs.declared.BoundsAnswer.the-variants.{None, Ends}
 use Rattle.offsets.specs.Subsets.{Subset, wellFormed, size}
 use Rattle.offsets.specs.Laws.Forms.{end-none, end-some}
 use Rattle.offsets.specs.inner.Writing.{bounds, boundsView}
-use Rattle.constraints.specs.declared.Constraint.{Constraint}
-use Rattle.constraints.specs.Constraints.{known}
-use Rattle.table.specs.declared.Header.{Header}
-use Rattle.table.specs.Refusing.{outside, rowsShort}
 use Rattle.query_spec.specs.Queries.{pastRows, queryChecks, refineRefusal, matchRefusal, pageRefusal}
 use Rattle.query_spec.specs.inner.Tests.{Queryable, subsetRefusal, RefineRefused, MatchRefused, PageRefused}
 

@@ -1,16 +1,10 @@
 -- The header that an answer leaves. Assumes nothing.
-use Prim.Native.Nat.{ℕ}
-use mathlib.Core.Path.{_≡_}
-use Rattle.table.specs.declared.Header.{Header}
-use Rattle.table.specs.declared.TableAnswer.{TableAnswer}
+use Rattle.replay_calls.proofs.Prelude.{ℕ, _≡_, Header, TableAnswer, Merge, MergeAnswer, RefreshAnswer}
 use Rattle.table.specs.declared.TableAnswer.the-variants.{Refused as TableRefused, Table}
-use Rattle.table.specs.declared.Merge.{Merge}
-use Rattle.table.specs.declared.MergeAnswer.{MergeAnswer}
 use Rattle.table.specs.declared.MergeAnswer.the-variants.{Refused as MergeRefused, Merged}
 use Rattle.table.specs.Numbers.{tableView, mergeView}
 use Rattle.table.specs.Contracts.{headerAfter, headerMerged}
 use Rattle.refresh_spec.specs.declared.Refreshed.{Refreshed as RefreshedTable}
-use Rattle.refresh_spec.specs.declared.RefreshAnswer.{RefreshAnswer}
 use Rattle.refresh_spec.specs.declared.RefreshAnswer.the-variants.{Refused as RefreshRefused, Refreshed}
 use Rattle.refresh_spec.specs.Refreshes.{refreshView, headerRefreshed}
 

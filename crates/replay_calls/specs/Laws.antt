@@ -1,4 +1,5 @@
 -- What follows from the definitions.
+mod Prelude
 pub mod Encoding
 pub mod Requests
 pub mod Making

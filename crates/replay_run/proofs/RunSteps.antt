@@ -1,24 +1,9 @@
 -- A run, query by query. Assumes nothing.
-use Prim.Native.Nat.{ℕ, zero, suc, _+_, _-_, _≤_, min}
-use mathlib.Core.Path.{_≡_, refl, sym, ap, _∙_}
-use mathlib.Core.Bool.{Bool, false, _||_}
-use mathlib.Core.List.{List, [], _∷_, _++_, append-assoc, append-nil}
-use native.Mathlib.Omega.{arith}
-use lib.ListN.{length, take, drop, getD, length-take, length-append}
+use Rattle.replay_run.proofs.Prelude.{ℕ, zero, suc, _+_, _-_, _≤_, min, _≡_, refl, sym, ap, _∙_, Bool, false, _||_, List, [], _∷_, _++_, append-assoc, append-nil, arith, length, take, drop, getD, length-take, length-append, Cut, Whole, framed-end, framed-next, Header, Query, refines, Outcome, outcome, or-assoc, or-false, any-both, RunAnswer, queryOf, queriesIn, shorter, RunMade, QueriesExecuted, QueryExecuted, queried-then}
 use Rattle.lists.specs.Lists.{any}
-use Rattle.replay_frames.specs.inner.Lengths.{Cut, Whole}
-use Rattle.replay_frames.specs.Laws.Frames.{framed-end, framed-next}
 use Rattle.offsets.specs.declared.SubsetHead.{SubsetHead}
 use Rattle.offsets.specs.Answers.{subsetOf}
-use Rattle.table.specs.declared.Header.{Header}
-use Rattle.history.specs.Runs.{Query, refines, Outcome, outcome}
-use Rattle.history.specs.Laws.Narrowing.{or-assoc, or-false, any-both}
-use Rattle.replay_queries.specs.declared.RunAnswer.{RunAnswer}
-use Rattle.replay_queries.specs.Encoding.{queryOf, queriesIn}
 use Rattle.replay_queries.specs.Outcomes.{idsAt, subsetLeft, behind, QueriedAll, end}
-use Rattle.replay_run.specs.RunQueries.{shorter, RunMade}
-use Rattle.replay_run.specs.inner.Executing.{QueriesExecuted, QueryExecuted}
-use Rattle.replay_run.specs.Laws.Executing.{queried-then}
 
 -- the first ids of a list, as they are lent
 pub lent-count : (n : ℕ) (l : List ℕ) → n ≤ length l → n ≡ length (take n l)

@@ -1,4 +1,5 @@
 -- What follows from the definitions.
+mod Prelude
 pub mod Steps
 pub mod Numbers
 pub mod Blocks

@@ -1,15 +1,6 @@
 -- The ways out of the entry points: refused, or all written. Assumes nothing.
-use Rattle.vault.proofs.Prelude.{ℕ, zero, suc, _+_, _*_, _/_, _%_, _<_, _≡_, refl, sym, _∙_, Bool, true, false, arith}
-use mathlib.Core.List.{List}
-use native.Mathlib.Nat.{mul-comm, mul-zero, div-add-mod', mod-lt, div-lt-iff-lt-mul}
-use lib.ListN.{length}
-use Rattle.lists.specs.Lists.{splice}
-use Rattle.refusals.specs.Laws.Replies.{reply-refused, reply-accepted}
-use Rattle.vault.specs.declared.ColumnsAnswer.the-variants.{Refused, Written}
+use Rattle.vault.proofs.Prelude.{ℕ, zero, suc, _+_, _*_, _/_, _%_, _<_, _≡_, refl, sym, _∙_, Bool, true, false, arith, List, mul-comm, mul-zero, div-add-mod', mod-lt, div-lt-iff-lt-mul, length, splice, reply-refused, reply-accepted, Refused, Written, Shaped, Filled, ordered, placed, multiple, toColumns-length, fromColumns-length, Accepted, accepted}
 use Rattle.vault.specs.Columns.{columnsRefusal, columnsView, Rearranged}
-use Rattle.vault.specs.inner.Filling.{Shaped, Filled, ordered, placed}
-use Rattle.vault.specs.Laws.Inverse.{multiple, toColumns-length, fromColumns-length}
-use Rattle.vault.specs.Laws.Refusals.{Accepted, accepted}
 use Rattle.vault.proofs.Filling.{filled-all}
 
 -- a place among n lists of m cells: which list, and where in it

@@ -1,19 +1,7 @@
 -- The output filled cell by cell, column by column, block by block, and all of it. Assumes nothing.
-use Rattle.vault.proofs.Prelude.{ℕ, zero, suc, _+_, _-_, _*_, _%_, _^_, _≤_, _<_, _≡_, refl, sym, ap, subst, _∙_, Bool, true, arith}
-use mathlib.Core.List.{List}
-use native.Mathlib.Nat.{zero-add, zero-mul, suc-mul, mul-comm, mul-le-mul-right}
-use native.Mathlib.Decide.{decLt, ℕ-discrete}
-use native.Mathlib.Numerals.{add-one}
-use lib.ListN.{length, getD, set, length-set}
-use lib.Seq.{getD-set-same, getD-set-other, ext-getD}
-use Rattle.lists.specs.Lists.{splice}
-use Rattle.lists.specs.Laws.Parts.{length-splice, getD-splice-in, getD-splice-after}
-use Rattle.lists.specs.Laws.Rows.{row-in}
+use Rattle.vault.proofs.Prelude.{ℕ, zero, suc, _+_, _-_, _*_, _%_, _^_, _≤_, _<_, _≡_, refl, sym, ap, subst, _∙_, Bool, true, arith, List, zero-add, zero-mul, suc-mul, mul-comm, mul-le-mul-right, decLt, ℕ-discrete, add-one, length, getD, set, length-set, getD-set-same, getD-set-other, ext-getD, splice, length-splice, getD-splice-in, getD-splice-after, row-in, Cells, length-to, length-from, to-place, from-place}
 use Rattle.vault.specs.Columns.{minus, plus, toColumns, fromColumns}
 use Rattle.vault.specs.inner.Filling.{cellAbove, Shaped, Within, byColumns, byRows, Filled, ordered, placed, Begun}
-use Rattle.vault.specs.Laws.Differences.{Cells}
-use Rattle.vault.specs.Laws.Inverse.{length-to, length-from}
-use Rattle.vault.specs.Laws.Places.{to-place, from-place}
 
 module _ {target : List ℕ} {place : ℕ → ℕ → ℕ} where
   -- no row, or no column

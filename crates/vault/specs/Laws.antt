@@ -1,4 +1,5 @@
 -- What follows from the definitions.
+mod Prelude
 pub mod Differences
 pub mod Transposed
 pub mod Inverse

@@ -1,9 +1,7 @@
 -- `abi::store_page` meets its contract. Assumes nothing.
-use mathlib.Core.Path.{refl}
+use Rattle.abi.proofs.Prelude.{refl, stored-as, needs}
 use Rattle.query_spec.specs.Queries.{pageView, nextView}
 use Rattle.abi.specs.Encoding.{encodeOption, encodePage, returned, stored}
-use Rattle.abi.specs.Laws.Encoding.{stored-as}
-use borrow.Author.Needs.{needs}
 use Rattle.abi.proofs.store_page.Statement.{statement}
 use Rattle.abi.proofs.store_page.Tie as tie
 

@@ -1,9 +1,7 @@
 -- `abi::store_range` meets its contract. Assumes nothing.
-use mathlib.Core.Path.{refl}
+use Rattle.abi.proofs.Prelude.{refl, stored-as, needs}
 use Rattle.table.specs.Numbers.{rangeView}
 use Rattle.abi.specs.Encoding.{encodeRange, returned, stored}
-use Rattle.abi.specs.Laws.Encoding.{stored-as}
-use borrow.Author.Needs.{needs}
 use Rattle.abi.proofs.store_range.Statement.{statement}
 use Rattle.abi.proofs.store_range.Tie as tie
 

@@ -1,8 +1,6 @@
 -- `abi::store_subset` meets its contract. Assumes nothing.
-use mathlib.Core.Path.{refl}
+use Rattle.abi.proofs.Prelude.{refl, stored-as, needs}
 use Rattle.abi.specs.Encoding.{subsetView, encodeSubset, returned, stored}
-use Rattle.abi.specs.Laws.Encoding.{stored-as}
-use borrow.Author.Needs.{needs}
 use Rattle.abi.proofs.store_subset.Statement.{statement}
 use Rattle.abi.proofs.store_subset.Tie as tie
 

@@ -1,7 +1,6 @@
 -- `abi_listing::mouldgrey_check_answers` meets its contract: a manual proof over its MIR. The shared borrows are passed on whole;
 -- ownership of the verdict passes to `store_check`. Assumes nothing.
-use mathlib.Core.Path.{refl}
-use mathlib.Core.List.{[], _∷_}
+use Rattle.abi_listing.proofs.Prelude.{refl, [], _∷_, checkView, AnswersChecked, Stored, encodeFinding}
 use mir.Syntax.{named, w32}
 use base.Logic.{emp}
 use base.Fml.{ftrue, fsep}
@@ -16,16 +15,13 @@ use denote.Steps.{heard}
 use Rattle.constraints.proofs.Constraint as CT
 use Rattle.listing_check.proofs.CheckAnswer as AT
 use Rattle.listing_check.proofs.CheckAnswer.Laws as AT′
-use Rattle.listing_check.specs.Answers.{checkView, AnswersChecked}
 use Rattle.query_borrowed.proofs.Locals.{enters, leaves}
 use Rattle.query_borrowed.proofs.Walking.{URA, SProp, id⊢, Memory, Routine, Heap, Calls, Loops, WpFn, Atoms, Lfts, Fun, FmC, givenOf, Given, _$_, !, move, u32, typesAt, enum-lawful, Meets, tripleOf, Triple, cited, Knowns, reads, machine, met, ends-ensuring, answers, skips, pads, proved}
 use Rattle.query_borrowed.proofs.Arrays.{lent-array, FinalArray, lends-array, tokens-out, tokens-in, owns-out, owns-in}
-use Rattle.abi.specs.Encoding.{Stored}
 use Rattle.abi.specs.Laws.Encoding.{answers as answered}
 use Rattle.listing_check.proofs.check_answers as chk
 use Rattle.listing_check.proofs.check_answers.Symbol as chk-def
 use Rattle.listing_check.proofs.check_answers.Met as chk-thm
-use Rattle.abi_listing.specs.Encoding.{encodeFinding}
 use Rattle.abi_listing.proofs.store_check as sto
 use Rattle.abi_listing.proofs.store_check.Symbol as sto-def
 use Rattle.abi_listing.proofs.store_check.Met as sto-thm

@@ -1,7 +1,5 @@
 -- `abi_listing::mouldgrey_write_listing` meets its contract. Assumes nothing.
-use mathlib.Core.Path.{sym}
-use Rattle.abi.specs.Laws.Encoding.{answers}
-use borrow.Author.Needs.{needs}
+use Rattle.abi_listing.proofs.Prelude.{sym, answers, needs}
 use Rattle.abi_listing.proofs.mouldgrey_write_listing.Statement.{statement}
 use Rattle.abi_listing.proofs.mouldgrey_write_listing.Tie as tie
 

@@ -1,9 +1,7 @@
 -- `abi_listing::store_check` meets its contract. Assumes nothing.
-use mathlib.Core.Path.{refl}
+use Rattle.abi_listing.proofs.Prelude.{refl, stored-as, needs}
 use Rattle.listing_check.specs.Answers.{checkView}
 use Rattle.abi.specs.Encoding.{returned, stored}
-use Rattle.abi.specs.Laws.Encoding.{stored-as}
-use borrow.Author.Needs.{needs}
 use Rattle.abi_listing.proofs.store_check.Statement.{statement}
 use Rattle.abi_listing.proofs.store_check.Tie as tie
 

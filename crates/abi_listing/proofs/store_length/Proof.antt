@@ -1,9 +1,7 @@
 -- `abi_listing::store_length` meets its contract. Assumes nothing.
-use mathlib.Core.Path.{refl}
+use Rattle.abi_listing.proofs.Prelude.{refl, stored-as, needs}
 use Rattle.listing_spec.specs.Listings.{textView}
 use Rattle.abi.specs.Encoding.{encodeNumber, returned, stored}
-use Rattle.abi.specs.Laws.Encoding.{stored-as}
-use borrow.Author.Needs.{needs}
 use Rattle.abi_listing.proofs.store_length.Statement.{statement}
 use Rattle.abi_listing.proofs.store_length.Tie as tie
 

@@ -1,7 +1,5 @@
 -- `abi_read::mouldgrey_intersect` meets its contract. Assumes nothing.
-use mathlib.Core.Path.{sym}
-use Rattle.abi.specs.Laws.Encoding.{answers}
-use borrow.Author.Needs.{needs}
+use Rattle.abi_read.proofs.Prelude.{sym, answers, needs}
 use Rattle.abi_read.proofs.mouldgrey_intersect.Statement.{statement}
 use Rattle.abi_read.proofs.mouldgrey_intersect.Tie as tie
 

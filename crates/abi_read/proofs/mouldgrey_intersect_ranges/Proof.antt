@@ -1,6 +1,5 @@
 -- `abi_read::mouldgrey_intersect_ranges` meets its contract. Assumes nothing.
-use Rattle.abi.specs.Laws.Encoding.{answers}
-use borrow.Author.Needs.{needs}
+use Rattle.abi_read.proofs.Prelude.{answers, needs}
 use Rattle.abi_read.proofs.mouldgrey_intersect_ranges.Statement.{statement}
 use Rattle.abi_read.proofs.mouldgrey_intersect_ranges.Tie as tie
 

@@ -1,7 +1,5 @@
 -- `abi_read::mouldgrey_updates_since` meets its contract. Assumes nothing.
-use mathlib.Core.Path.{sym}
-use Rattle.abi.specs.Laws.Encoding.{answers}
-use borrow.Author.Needs.{needs}
+use Rattle.abi_read.proofs.Prelude.{sym, answers, needs}
 use Rattle.abi_read.proofs.mouldgrey_updates_since.Statement.{statement}
 use Rattle.abi_read.proofs.mouldgrey_updates_since.Tie as tie
 

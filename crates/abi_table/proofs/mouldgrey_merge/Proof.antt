@@ -1,6 +1,5 @@
 -- `abi_table::mouldgrey_merge` meets its contract. Assumes nothing.
-use mathlib.Core.Path.{sym}
-use borrow.Author.Needs.{needs}
+use Rattle.abi_table.proofs.Prelude.{sym, needs}
 use Rattle.abi_table.proofs.mouldgrey_merge.Statement.{statement}
 use Rattle.abi_table.proofs.mouldgrey_merge.Tie as tie
 

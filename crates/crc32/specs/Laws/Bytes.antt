@@ -1,10 +1,5 @@
 -- The bytes of words. Assumes nothing.
-use Prim.Native.Nat.{ℕ, zero, suc, _+_, _*_, _/_, _%_, _^_, _<_}
-use mathlib.Core.Path.{_≡_, refl, sym, ap, ap₂, _∙_}
-use mathlib.Core.List.{List, [], _∷_, _++_, append-assoc}
-use native.Mathlib.Omega.{arith}
-use lib.ListN.{length, getD, take, drop, length-append}
-use lib.Seq.{take-at, drop-at}
+use Rattle.crc32.specs.Laws.Prelude.{ℕ, zero, suc, _+_, _*_, _/_, _%_, _^_, _<_, _≡_, refl, sym, ap, ap₂, _∙_, List, [], _∷_, _++_, append-assoc, arith, length, getD, take, drop, length-append, take-at, drop-at}
 use Rattle.lists.specs.Lists.{flatten}
 use Rattle.crc32.specs.Crc.{wordBytes, bytesOf}
 use Rattle.crc32.specs.Bytes.{Below, numberOf}

@@ -1,10 +1,5 @@
 -- What a checksum shows of damaged bytes. Assumes nothing.
-use Prim.Native.Nat.{ℕ, suc, _*_, _^_, _<_}
-use mathlib.Core.Path.{_≡_, refl, sym, ap, _∙_}
-use mathlib.Core.List.{List, [], _∷_, _++_, foldl, foldl-append}
-use native.Mathlib.Omega.{arith}
-use lib.Bits.{bitXor, xor-lt}
-use lib.ListN.{length}
+use Rattle.crc32.specs.Laws.Prelude.{ℕ, suc, _*_, _^_, _<_, _≡_, refl, sym, ap, _∙_, List, [], _∷_, _++_, foldl, foldl-append, arith, bitXor, xor-lt, length}
 use Rattle.crc32.specs.Crc.{bitStep, bitSteps, byteStep, register, crc32, wordBytes}
 use Rattle.crc32.specs.Bytes.{Below, numberOf}
 use Rattle.crc32.specs.Laws.Xor.{xor-cancel, xor-cancel-right, xor-twice}

@@ -1,11 +1,5 @@
 -- The register over bytes: bytes in one number, added at once. Assumes nothing.
-use Prim.Native.Nat.{ℕ, suc, _+_, _*_, _^_, _<_}
-use mathlib.Core.Path.{_≡_, refl, sym, ap, ap₂, _∙_}
-use mathlib.Core.List.{List, [], _∷_, foldl}
-use native.Mathlib.Nat.{suc-mul, add-comm}
-use native.Mathlib.Omega.{arith}
-use lib.Bits.{bitXor, xor-shifted, xor-zero-r, xor-comm, xor-lt}
-use lib.ListN.{length}
+use Rattle.crc32.specs.Laws.Prelude.{ℕ, suc, _+_, _*_, _^_, _<_, _≡_, refl, sym, ap, ap₂, _∙_, List, [], _∷_, foldl, suc-mul, add-comm, arith, bitXor, xor-shifted, xor-zero-r, xor-comm, xor-lt, length}
 use Rattle.crc32.specs.Crc.{bitStep, bitSteps, byteStep, register, crc32, wordBytes}
 use Rattle.crc32.specs.Bytes.{Below, numberOf}
 use Rattle.crc32.specs.Laws.Xor.{xor-assoc}

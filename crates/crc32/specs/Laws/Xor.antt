@@ -1,10 +1,5 @@
 -- Laws of `bitXor` that the kit does not have. Assumes nothing.
-use Prim.Native.Nat.{ℕ, zero, suc, _+_, _*_, _/_, _%_, _<_}
-use mathlib.Core.Path.{_≡_, refl, sym, ap, _∙_}
-use mathlib.Core.Logic.{_⊎_, inl, inr}
-use native.Mathlib.Omega.{arith}
-use lib.Arith.{bin-ind}
-use lib.Bits.{bitXor, differ, xor-step, xor-shr, xor-comm, xor-self}
+use Rattle.crc32.specs.Laws.Prelude.{ℕ, zero, suc, _+_, _*_, _/_, _%_, _<_, _≡_, refl, sym, ap, _∙_, _⊎_, inl, inr, arith, bin-ind, bitXor, differ, xor-step, xor-shr, xor-comm, xor-self}
 
 -- A number is even or odd.
 pub parity : (n : ℕ) → (n % 2 ≡ 0) ⊎ (n % 2 ≡ 1)

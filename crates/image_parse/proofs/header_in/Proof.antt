@@ -1,6 +1,5 @@
 -- `image_parse::header_in` meets its contract. Assumes nothing.
-use mathlib.Core.Path.{_∙_, refl}
-use borrow.Author.Needs.{needs}
+use Rattle.image_parse.proofs.Prelude.{_∙_, refl, needs}
 use Rattle.image_parse.proofs.ParsingSteps.{header-of}
 use Rattle.image_parse.proofs.header_in.Statement.{statement}
 use Rattle.image_parse.proofs.header_in.Tie as tie

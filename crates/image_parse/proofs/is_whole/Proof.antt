@@ -1,7 +1,5 @@
 -- `image_parse::is_whole` meets its contract. Assumes nothing.
-use native.Mathlib.Omega.{arith}
-use borrow.Author.Needs.{needs}
-use borrow.Author.Tests.{not-true, not-false}
+use Rattle.image_parse.proofs.Prelude.{arith, needs, not-true, not-false}
 use Rattle.image_parse.proofs.ParsingSteps.{whole-other-count, whole-unfilled, whole-measured, whole-part, whole-checked}
 use Rattle.image_parse.proofs.is_whole.Statement.{statement}
 use Rattle.image_parse.proofs.is_whole.Tie as tie

@@ -1,7 +1,5 @@
 -- `image_parse::layout_for` meets its contract. Assumes nothing.
-use mathlib.Core.Path.{refl}
-use native.Mathlib.Omega.{arith}
-use borrow.Author.Needs.{needs}
+use Rattle.image_parse.proofs.Prelude.{refl, arith, needs}
 use Rattle.image_parse.proofs.ParsingSteps.{few, layout-is}
 use Rattle.image_parse.proofs.layout_for.Statement.{statement}
 use Rattle.image_parse.proofs.layout_for.Tie as tie

@@ -1,9 +1,5 @@
 -- `image_parse::parse` meets its contract. Assumes nothing.
-use mathlib.Core.Path.{sym, _∙_}
-use native.Mathlib.Omega.{arith}
-use borrow.Author.Needs.{needs}
-use borrow.Author.Tests.{not-true, not-false}
-use Rattle.image_parse.specs.Laws.Images.{placed-of}
+use Rattle.image_parse.proofs.Prelude.{sym, _∙_, arith, needs, not-true, not-false, placed-of}
 use Rattle.image_parse.proofs.ParsingSteps.{parsed-none, parsed-outside, parsed-broken, parsed-whole}
 use Rattle.image_parse.proofs.parse.Statement.{statement}
 use Rattle.image_parse.proofs.parse.Tie as tie

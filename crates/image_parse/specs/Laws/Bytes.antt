@@ -1,19 +1,8 @@
 -- The bytes of words and words of bytes: each is read back from the other. Assumes nothing.
-use Prim.Native.Nat.{ℕ, zero, suc, _+_, _*_, _/_, _%_, _≤_, _<_}
-use mathlib.Core.Path.{_≡_, refl, sym, ap, _∙_}
-use mathlib.Core.Bool.{Bool, true}
-use mathlib.Core.List.{List, [], _∷_, _++_, append-nil}
-use native.Mathlib.Omega.{arith}
-use lib.Dec.{ltb}
-use lib.ListN.{length, take, drop, getD}
-use lib.Seq.{take-suc, drop-cons, getD-at, length-take-le}
-use borrow.Author.Tests.{ltb-true, lt-ltb, ltb-false}
+use Rattle.image_parse.specs.Laws.Prelude.{ℕ, zero, suc, _+_, _*_, _/_, _%_, _≤_, _<_, _≡_, refl, sym, ap, _∙_, Bool, true, List, [], _∷_, _++_, append-nil, arith, ltb, length, take, drop, getD, take-suc, drop-cons, getD-at, length-take-le, ltb-true, lt-ltb, ltb-false, all-head, all-tail, Decides, Words, Filled}
 use Rattle.lists.specs.Lists.{all, flatten}
-use Rattle.lists.specs.Laws.All.{all-head, all-tail}
-use Rattle.sort_entries.specs.inner.Checks.{Decides}
 use Rattle.crc32.specs.Crc.{bytesOf, wordBytes}
 use Rattle.image_spec.specs.Image.{packed}
-use Rattle.image_parse.specs.inner.Parsed.{Words, Filled}
 
 -- ---- the bytes of words
 

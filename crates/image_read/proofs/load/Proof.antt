@@ -1,7 +1,6 @@
 -- `image_read::load` meets its contract. Assumes nothing.
 use Rattle.image_read.proofs.LoadingSteps.{loading-refused, parts-fit, keys-fit, loading-done}
-use Rattle.table.specs.Contracts.{body}
-use borrow.Author.Needs.{needs}
+use Rattle.image_read.proofs.Prelude.{body, needs}
 use Rattle.image_read.proofs.load.Statement.{statement}
 use Rattle.image_read.proofs.load.Tie as tie
 

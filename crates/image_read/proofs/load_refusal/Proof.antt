@@ -1,9 +1,6 @@
 -- `image_read::load_refusal` meets its contract. Assumes nothing.
-use mathlib.Core.Path.{sym, _∙_}
-use native.Mathlib.Omega.{arith}
-use Rattle.table.specs.inner.Lent.{lengthsOf}
+use Rattle.image_read.proofs.Prelude.{sym, _∙_, arith, lengthsOf, needs}
 use Rattle.image_read.proofs.LoadingSteps.{load-outside, capacity-few, load-rows, load-keys, load-sorts, load-pending, load-none}
-use borrow.Author.Needs.{needs}
 use Rattle.image_read.proofs.load_refusal.Statement.{statement}
 use Rattle.image_read.proofs.load_refusal.Tie as tie
 

@@ -1,7 +1,6 @@
 -- `image_read::read_image` meets its contract. Assumes nothing.
 use Rattle.image_read.proofs.LoadingSteps.{read-refused, read-loaded}
-use Rattle.table.specs.Contracts.{body}
-use borrow.Author.Needs.{needs}
+use Rattle.image_read.proofs.Prelude.{body, needs}
 use Rattle.image_read.proofs.read_image.Statement.{statement}
 use Rattle.image_read.proofs.read_image.Tie as tie
 

@@ -1,7 +1,6 @@
 -- `image_read::read_text` meets its contract. Assumes nothing.
-use native.Mathlib.Omega.{arith}
+use Rattle.image_read.proofs.Prelude.{arith, needs}
 use Rattle.image_read.proofs.TextSteps.{text-none, text-in, text-short, text-written}
-use borrow.Author.Needs.{needs}
 use Rattle.image_read.proofs.read_text.Statement.{statement}
 use Rattle.image_read.proofs.read_text.Tie as tie
 

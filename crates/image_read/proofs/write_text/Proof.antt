@@ -1,12 +1,6 @@
 -- `image_read::write_text` meets its contract. The loop's invariant: the first i bytes are the text's, the others as they were. Assumes nothing.
-use Prim.Native.Nat.{ℕ, _-_, _≤_}
-use mathlib.Core.Path.{_≡_, refl, ap, _∙_}
-use mathlib.Core.List.{List, _++_}
-use native.Mathlib.Omega.{arith}
-use lib.ListN.{length, take, drop, set, length-set}
-use Rattle.crc32.specs.Crc.{bytesOf}
+use Rattle.image_read.proofs.Prelude.{ℕ, _-_, _≤_, _≡_, refl, ap, _∙_, List, _++_, arith, length, take, drop, set, length-set, bytesOf, needs}
 use Rattle.image_read.proofs.TextSteps.{text-before, text-step, text-end}
-use borrow.Author.Needs.{needs}
 use Rattle.image_read.proofs.write_text.Statement.{statement}
 use Rattle.image_read.proofs.write_text.Tie as tie
 

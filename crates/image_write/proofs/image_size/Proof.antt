@@ -1,6 +1,5 @@
 -- `image_write::image_size` meets its contract. Assumes nothing.
-use Rattle.image_write.proofs.Prelude.{sym, _∙_, needs}
-use Rattle.image_write.specs.Laws.Checks.{size-accepted}
+use Rattle.image_write.proofs.Prelude.{sym, _∙_, needs, size-accepted}
 use Rattle.image_write.proofs.Answers.{sized-refused, sized-accepted}
 use Rattle.image_write.proofs.image_size.Statement.{statement}
 use Rattle.image_write.proofs.image_size.Tie as tie

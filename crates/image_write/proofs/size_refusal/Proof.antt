@@ -1,6 +1,5 @@
 -- `image_write::size_refusal` meets its contract. Assumes nothing.
-use Rattle.image_write.proofs.Prelude.{sym, _∙_, needs}
-use Rattle.image_write.specs.Laws.Checks.{size-outside, size-long, size-none}
+use Rattle.image_write.proofs.Prelude.{sym, _∙_, needs, size-outside, size-long, size-none}
 use Rattle.image_write.proofs.size_refusal.Statement.{statement}
 use Rattle.image_write.proofs.size_refusal.Tie as tie
 

@@ -1,9 +1,5 @@
 -- `image_write::write_image` meets its contract. Assumes nothing.
-use Rattle.image_write.proofs.Prelude.{_+_, _-_, _≡_, sym, _∙_, arith, length, needs}
-use Rattle.image_spec.specs.Image.{imageLength}
-use Rattle.image_spec.specs.Contracts.{writeRefusal}
-use Rattle.image_write.specs.Laws.Bodies.{image-written}
-use Rattle.image_write.specs.Laws.Checks.{length-is, Accepted, write-accepted, accepted-holds}
+use Rattle.image_write.proofs.Prelude.{_+_, _-_, _≡_, sym, _∙_, arith, length, needs, imageLength, writeRefusal, image-written, length-is, Accepted, write-accepted, accepted-holds}
 use Rattle.image_write.proofs.Answers.{written-refused, written-accepted}
 use Rattle.image_write.proofs.write_image.Statement.{statement}
 use Rattle.image_write.proofs.write_image.Tie as tie

@@ -1,8 +1,5 @@
 -- `image_write::write_refusal` meets its contract. Assumes nothing.
-use Rattle.image_write.proofs.Prelude.{_≡_, sym, _∙_, needs}
-use mathlib.Core.Bool.{false}
-use Rattle.table.specs.Refusing.{pendingOutside, rowsShort}
-use Rattle.image_write.specs.Laws.Checks.{pending-outside-no, write-outside, write-rows, write-sorts, write-long, write-short, write-none}
+use Rattle.image_write.proofs.Prelude.{_≡_, sym, _∙_, needs, false, pendingOutside, rowsShort, pending-outside-no, write-outside, write-rows, write-sorts, write-long, write-short, write-none}
 use Rattle.image_write.proofs.write_refusal.Statement.{statement}
 use Rattle.image_write.proofs.write_refusal.Tie as tie
 

@@ -1,22 +1,9 @@
 -- The checks of *Image size* and *Write image* one by one, and what is known where none refuses. Assumes nothing.
-use Prim.Native.Nat.{ℕ, _+_, _*_, _/_, _≤_, _<_}
-use mathlib.Core.Path.{_≡_}
-use mathlib.Core.Bool.{true, false}
-use mathlib.Core.List.{List}
-use native.Mathlib.Nat.{mul-le-mul, mul-le-mul-right, le-trans}
-use native.Mathlib.Omega.{arith}
-use lib.Dec.{ltb}
-use lib.ListN.{length}
-use borrow.Author.Tests.{lt-ltb, le-ltb, ltb-false}
-use Rattle.lists.specs.Laws.All.{or-no-left, or-no-right}
+use Rattle.image_write.specs.Laws.Prelude.{ℕ, _+_, _*_, _/_, _≤_, _<_, _≡_, true, false, List, mul-le-mul, mul-le-mul-right, le-trans, arith, ltb, length, lt-ltb, le-ltb, ltb-false, or-no-left, or-no-right, firstRefusal-no, firstRefusal-rest, Header, Inside, outside-inside, wordsInUse, Holds}
 use Rattle.refusals.specs.Refusals.{firstRefusal}
-use Rattle.plain_table.specs.Laws.Calls.{firstRefusal-no, firstRefusal-rest}
-use Rattle.table.specs.declared.Header.{Header}
 use Rattle.table.specs.Refusing.{outside, pendingOutside, rowsShort, pairsShort}
-use Rattle.table.specs.Laws.Refusals.{Inside, outside-inside}
 use Rattle.image_spec.specs.Image.{imageLength}
 use Rattle.image_spec.specs.Contracts.{sizeRefusal, writeRefusal}
-use Rattle.image_write.specs.inner.Parts.{wordsInUse, Holds}
 
 -- the cells in use are within those of the capacity
 rows-within : (h : Header) → Inside h → h .rows * h .columns ≤ h .capacity * h .columns

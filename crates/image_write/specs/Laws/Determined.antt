@@ -1,14 +1,5 @@
 -- The contracts of *Image size* and *Write image* determine the outcome. Assumes nothing.
-use Prim.Native.Nat.{ℕ}
-use mathlib.Core.Path.{_≡_, sym, _∙_}
-use mathlib.Core.Logic.{⊎-elim}
-use mathlib.Core.List.{List}
-use lib.ListN.{length}
-use Rattle.refusals.specs.Laws.Replies.{some-number}
-use Rattle.refusals.specs.Laws.Determined.{Same}
-use Rattle.table.specs.declared.Header.{Header}
-use Rattle.image_spec.specs.declared.LengthAnswer.{LengthAnswer}
-use Rattle.image_spec.specs.declared.LengthAnswer.the-variants.{Refused, Length}
+use Rattle.image_write.specs.Laws.Prelude.{ℕ, _≡_, sym, _∙_, ⊎-elim, List, length, some-number, Same, Header, LengthAnswer, Refused, Length}
 use Rattle.image_spec.specs.Contracts.{lengthView, ImageSized, writeRefusal, ImageWritten}
 
 -- two answers with the same reply are the same

@@ -1,18 +1,5 @@
 -- What *Write image* writes is an image, and reads as what was handed in. Assumes nothing.
-use Prim.Native.Nat.{ℕ}
-use mathlib.Core.Path.{_≡_, sym, ap, ap₂, _∙_}
-use mathlib.Core.Bool.{true}
-use mathlib.Core.List.{List}
-use mathlib.Core.Option.{some}
-use native.Mathlib.Omega.{arith}
-use lib.Dec.{ltb}
-use lib.ListN.{length, take}
-use borrow.Author.Tests.{le-leb, eq-eqb}
-use Rattle.lists.specs.Lists.{splice, all}
-use Rattle.lists.specs.Laws.Parts.{part-splice}
-use Rattle.table.specs.declared.Header.{Header}
-use Rattle.table.specs.Laws.Replies.{accepted-number, accepted-same}
-use Rattle.image_spec.specs.declared.LengthAnswer.the-variants.{Length}
+use Rattle.image_write.specs.Laws.Prelude.{ℕ, _≡_, sym, ap, ap₂, _∙_, true, List, some, arith, ltb, length, take, le-leb, eq-eqb, splice, all, part-splice, Header, accepted-number, accepted-same, Length}
 use Rattle.image_spec.specs.Image.{isImage, imageWords, Reads, reads, imageOf, imageLength}
 use Rattle.image_spec.specs.Contracts.{lengthView, writeRefusal, ImageWritten}
 use Rattle.image_write.specs.Laws.Bodies.{length-cells, length-pairs, length-records, length-image}

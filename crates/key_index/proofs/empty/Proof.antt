@@ -1,7 +1,5 @@
 -- `key_index::empty` meets its contract. The loop's invariant: the slots passed are free, the others as they were. Assumes nothing.
-use Rattle.key_index.proofs.Prelude.{ℕ, _-_, _*_, _≤_, _≡_, refl, ap, _∙_, List, arith, length, set, needs}
-use Rattle.lists.specs.Lists.{splice}
-use Rattle.key_index.specs.inner.Index.{zeros}
+use Rattle.key_index.proofs.Prelude.{ℕ, _-_, _*_, _≤_, _≡_, refl, ap, _∙_, List, arith, length, set, needs, splice, zeros}
 use Rattle.key_index.proofs.PutSteps.{empty-begin, empty-step, empty-end}
 use Rattle.key_index.proofs.empty.Statement.{statement}
 use Rattle.key_index.proofs.empty.Tie as tie

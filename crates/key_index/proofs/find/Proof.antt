@@ -1,8 +1,6 @@
 -- `key_index::find` meets its contract. The loop's invariant: each slot passed leads to no row with the key.
 -- Assumes nothing.
-use Rattle.key_index.proofs.Prelude.{_-_, _≤_, arith, needs}
-use Rattle.key_index.specs.inner.Ring.{spread}
-use Rattle.key_index.specs.Laws.Index.{rows-in}
+use Rattle.key_index.proofs.Prelude.{_-_, _≤_, arith, needs, spread, rows-in}
 use Rattle.key_index.proofs.ScanSteps.{ScannedSlots, begin, on}
 use Rattle.key_index.proofs.FindSteps.{Past, leads-some, found-free, found-round, found-row}
 use Rattle.key_index.proofs.find.Statement.{statement}

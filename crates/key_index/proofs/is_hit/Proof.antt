@@ -1,7 +1,5 @@
 -- `key_index::is_hit` meets its contract. Assumes nothing.
-use Rattle.key_index.proofs.Prelude.{ℕ, _-_, _*_, _%_, _^_, _≤_, refl, sym, ap, _∙_, List, arith, take, drop, not-true, not-false, needs}
-use Rattle.lists.specs.Lists.{same}
-use Rattle.row_buffer.specs.Laws.Rows.{key-row}
+use Rattle.key_index.proofs.Prelude.{ℕ, _-_, _*_, _%_, _^_, _≤_, refl, sym, ap, _∙_, List, arith, take, drop, not-true, not-false, needs, same, key-row}
 use Rattle.key_index.proofs.WordSteps.{Named, named, hit-bits, hit-nameless, hit-cells}
 use Rattle.key_index.proofs.is_hit.Statement.{statement}
 use Rattle.key_index.proofs.is_hit.Tie as tie

@@ -1,6 +1,5 @@
 -- `key_index::look_up` meets its contract. Assumes nothing.
-use Rattle.key_index.proofs.Prelude.{_+_, _%_, _^_, _≤_, _<_, arith, getD, needs}
-use Rattle.key_index.specs.Laws.Index.{rows-in}
+use Rattle.key_index.proofs.Prelude.{_+_, _%_, _^_, _≤_, _<_, arith, getD, needs, rows-in}
 use Rattle.key_index.proofs.ScanSteps.{begin}
 use Rattle.key_index.proofs.FindSteps.{leads-some, found-free, passed-to, found-row}
 use Rattle.key_index.proofs.look_up.Statement.{statement}

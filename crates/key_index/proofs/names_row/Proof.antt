@@ -1,6 +1,5 @@
 -- `key_index::names_row` meets its contract. Assumes nothing.
-use mathlib.Core.Path.{sym}
-use Rattle.key_index.specs.Laws.Ring.{names-none}
+use Rattle.key_index.proofs.Prelude.{sym, names-none}
 use Rattle.key_index.proofs.WordSteps.{names-some}
 use Rattle.key_index.proofs.names_row.Statement.{statement}
 use Rattle.key_index.proofs.names_row.Tie as tie

@@ -1,6 +1,5 @@
 -- `key_index::next_slot` meets its contract. Assumes nothing.
-use Rattle.key_index.proofs.Prelude.{sym, arith, needs}
-use Rattle.key_index.specs.Laws.Ring.{slot-low, slot-wraps}
+use Rattle.key_index.proofs.Prelude.{sym, arith, needs, slot-low, slot-wraps}
 use Rattle.key_index.proofs.next_slot.Statement.{statement}
 use Rattle.key_index.proofs.next_slot.Tie as tie
 

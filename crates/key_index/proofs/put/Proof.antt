@@ -1,6 +1,5 @@
 -- `key_index::put` meets its contract. The loop's invariant: nothing is written, and no slot passed is free. Assumes nothing.
-use Rattle.key_index.proofs.Prelude.{_-_, _≡_, refl, arith, length, length-set, needs}
-use Rattle.key_index.specs.inner.Ring.{spread}
+use Rattle.key_index.proofs.Prelude.{_-_, _≡_, refl, arith, length, length-set, needs, spread}
 use Rattle.key_index.proofs.ScanSteps.{ScannedSlots, begin-past, on}
 use Rattle.key_index.proofs.PutSteps.{put-here, put-none}
 use Rattle.key_index.proofs.WindowSteps.{Taken}

@@ -1,6 +1,5 @@
 -- `key_index::some_bits` meets its contract. Assumes nothing.
-use Rattle.key_index.proofs.Prelude.{_-_, needs}
-use Rattle.key_index.specs.inner.Window.{hasBits}
+use Rattle.key_index.proofs.Prelude.{_-_, needs, hasBits}
 use Rattle.key_index.proofs.WindowSteps.{Looked, looked-begin, looked-more, looked-all}
 use Rattle.key_index.proofs.some_bits.Statement.{statement}
 use Rattle.key_index.proofs.some_bits.Tie as tie

@@ -1,6 +1,5 @@
 -- `key_index::some_free` meets its contract. Assumes nothing.
-use Rattle.key_index.proofs.Prelude.{_-_, needs}
-use Rattle.key_index.specs.inner.Window.{isFree}
+use Rattle.key_index.proofs.Prelude.{_-_, needs, isFree}
 use Rattle.key_index.proofs.WindowSteps.{Looked, looked-begin, looked-more, looked-all}
 use Rattle.key_index.proofs.some_free.Statement.{statement}
 use Rattle.key_index.proofs.some_free.Tie as tie

@@ -1,25 +1,10 @@
 -- Laws of a sound key store: a slot is free, the functions preserve soundness, and a lookup finds what a scan of the rows finds.
 -- Assumes nothing.
-use Prim.Native.Nat.{ℕ, zero, suc, _+_, _*_, _≤_, _<_}
-use mathlib.Core.Path.{_≡_, refl, sym, ap, _∙_}
-use mathlib.Core.Logic.{_⊎_, inl, inr}
-use mathlib.Core.Bool.{Bool, true}
-use mathlib.Core.List.{List}
-use native.Mathlib.Nat.{zero-add}
-use native.Mathlib.Decide.{decLt, ℕ-discrete}
-use native.Mathlib.Omega.{arith}
-use lib.ListN.{length, drop, getD, set, length-replicate, getD-replicate}
-use lib.Seq.{drop-set-lt, getD-set-same, getD-set-other}
-use Rattle.lists.specs.Lists.{splice, same}
-use Rattle.lists.specs.Laws.Filter.{split}
-use Rattle.lists.specs.Laws.Parts.{getD-splice-in}
+use Rattle.key_index.specs.Laws.Prelude.{ℕ, zero, suc, _+_, _*_, _≤_, _<_, _≡_, refl, sym, ap, _∙_, _⊎_, inl, inr, Bool, true, List, zero-add, decLt, ℕ-discrete, arith, length, drop, getD, set, length-replicate, getD-replicate, drop-set-lt, getD-set-same, getD-set-other, splice, same, split, getD-splice-in, IndexShape, LiveAt, keyAt, slots, word, home, slotFrom, ReachableAt, KeysSound, RowsIn, Fits, FirstFree, FoundAt, FirstHit, PutIs, zeros, EmptyIs}
 use Rattle.cells.specs.Cells.{compactHash, keyHash}
-use Rattle.key_index.specs.declared.IndexShape.{IndexShape}
-use Rattle.key_index.specs.Slots.{LiveAt, keyAt, slots, word, home, slotFrom, ReachableAt, KeysSound}
 use Rattle.key_index.specs.inner.Ring.{tagged, rowNamed}
 use Rattle.key_index.specs.Laws.Ring.{home-spread, word-tagged, word-some, word-row, word-same, slot-below}
 use Rattle.key_index.specs.Laws.Pigeonhole.{pigeonhole}
-use Rattle.key_index.specs.inner.Index.{RowsIn, Fits, FirstFree, FoundAt, FirstHit, PutIs, zeros, EmptyIs}
 
 pub rows-in : (t : IndexShape) (rows store : List ℕ) → Fits t rows store → RowsIn t rows
 rows-in t rows store f =

@@ -1,13 +1,5 @@
 -- A sound key store as a line of slots that starts at a free slot: the ring unrolled, and the converse. Assumes nothing.
-use Prim.Native.Nat.{ℕ, _+_, _-_, _^_, _≤_, _<_}
-use mathlib.Core.Path.{_≡_, refl, sym, ap, _∙_}
-use mathlib.Core.List.{List}
-use native.Mathlib.Decide.{decLt, ℕ-discrete}
-use native.Mathlib.Omega.{arith}
-use lib.ListN.{getD}
-use Rattle.key_index.specs.declared.IndexShape.{IndexShape}
-use Rattle.key_index.specs.Slots.{LiveAt, keyAt, slots, word, home, slotFrom, ReachableAt, KeysSound}
-use Rattle.key_index.specs.inner.Ring.{away}
+use Rattle.key_index.specs.Laws.Prelude.{ℕ, _+_, _-_, _^_, _≤_, _<_, _≡_, refl, sym, ap, _∙_, List, decLt, ℕ-discrete, arith, getD, IndexShape, LiveAt, keyAt, slots, word, home, slotFrom, ReachableAt, KeysSound, away}
 use Rattle.key_index.specs.Laws.Ring.{word-some, word-row, home-below, slot-below, slot-then, slot-zero, slot-round, slot-one, away-below, away-slot}
 use Rattle.key_index.specs.inner.Index.{Fits, homeOf}
 use Rattle.key_index.specs.Laws.Unrolled.{line, Line}

@@ -1,12 +1,6 @@
 -- The pigeonhole principle on numbers: if m numbers are mapped injectively to numbers below n, then m is at most n. It implies that
 -- not all slots of a sound store are taken. Assumes nothing.
-use Prim.Native.Nat.{ℕ, zero, suc, _≤_, _<_}
-use mathlib.Core.Path.{_≡_, sym, _∙_}
-use mathlib.Core.Bool.{cond}
-use native.Mathlib.Decide.{ℕ-discrete}
-use native.Mathlib.Omega.{arith}
-use lib.Dec.{eqb}
-use borrow.Author.Tests.{eq-eqb, ne-eqb}
+use Rattle.key_index.specs.Laws.Prelude.{ℕ, zero, suc, _≤_, _<_, _≡_, sym, _∙_, cond, ℕ-discrete, arith, eqb, eq-eqb, ne-eqb}
 
 -- f on the numbers below m, with the value n replaced by f m
 moved : (ℕ → ℕ) → ℕ → ℕ → ℕ → ℕ

@@ -1,16 +1,5 @@
 -- Positions of a row and of its key in the row store; stores of the same length fit a table too. Assumes nothing.
-use Prim.Native.Nat.{ℕ, _+_, _-_, _*_, _≤_, _<_}
-use mathlib.Core.Path.{_≡_, sym, _∙_}
-use mathlib.Core.List.{List}
-use native.Mathlib.Nat.{mul-le-mul}
-use native.Mathlib.Omega.{arith}
-use lib.ListN.{length, take, drop}
-use Rattle.lists.specs.Laws.Parts.{part-width}
-use Rattle.lists.specs.Laws.Rows.{row-in}
-use Rattle.row_buffer.specs.Laws.Rows.{key-row}
-use Rattle.key_index.specs.declared.IndexShape.{IndexShape}
-use Rattle.key_index.specs.Slots.{keyAt}
-use Rattle.key_index.specs.inner.Index.{RowsIn, Fits}
+use Rattle.key_index.specs.Laws.Prelude.{ℕ, _+_, _-_, _*_, _≤_, _<_, _≡_, sym, _∙_, List, mul-le-mul, arith, length, take, drop, part-width, row-in, key-row, IndexShape, keyAt, RowsIn, Fits}
 
 -- a row is inside the store, and its position fits a word
 pub record Inside (rows : List ℕ) (columns row : ℕ) : Type 0 where

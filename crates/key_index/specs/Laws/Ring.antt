@@ -1,16 +1,7 @@
 -- The ring of slots and the words in it. Assumes nothing.
-use Prim.Native.Nat.{ℕ, _+_, _-_, _*_, _/_, _%_, _^_, _≤_, _<_}
-use mathlib.Core.Path.{_≡_, refl, sym, ap, _∙_}
-use mathlib.Core.Bool.{true, false}
-use mathlib.Core.List.{List}
-use native.Mathlib.Nat.{add-assoc, add-zero, mod-self, mod-lt, mod-eq-of-lt, mod-add-mod, add-mod-mod, add-mod-right, mul-lt-mul-of-pos-right}
-use native.Mathlib.Omega.{arith}
-use lib.Dec.{ltb}
-use borrow.Author.Tests.{lt-ltb, ltb-true, le-leb, leb-true}
-use Rattle.lists.specs.Laws.Filter.{and-left, and-right}
+use Rattle.key_index.specs.Laws.Prelude.{ℕ, _+_, _-_, _*_, _/_, _%_, _^_, _≤_, _<_, _≡_, refl, sym, ap, _∙_, true, false, List, add-assoc, add-zero, mod-self, mod-lt, mod-eq-of-lt, mod-add-mod, add-mod-mod, add-mod-right, mul-lt-mul-of-pos-right, arith, ltb, lt-ltb, ltb-true, le-leb, leb-true, and-left, and-right, IndexShape}
 use Rattle.cells.specs.Cells.{compactHash, keyHash}
 use Rattle.cells.specs.Laws.Cells.{key-hash-fits}
-use Rattle.key_index.specs.declared.IndexShape.{IndexShape}
 use Rattle.key_index.specs.Slots.{word, home, slotFrom}
 use Rattle.key_index.specs.inner.Ring.{tagged, spread, rowNamed, namesRow, away}
 

@@ -1,17 +1,6 @@
 -- From what a change does to each row of the store to the premises of the soundness laws in Laws/Index.antt: one row more, or one
 -- row more in place of another. Assumes nothing.
-use Prim.Native.Nat.{ℕ, _+_, _<_}
-use mathlib.Core.Path.{_≡_, sym, ap, _∙_}
-use mathlib.Core.Logic.{inl, inr}
-use mathlib.Core.Bool.{true, false, false≢true}
-use mathlib.Core.List.{List}
-use native.Mathlib.Decide.{decLt}
-use native.Mathlib.Omega.{arith}
-use lib.ListN.{take}
-use Rattle.lists.specs.Lists.{rowAt}
-use Rattle.constraints.specs.Constraints.{isLive}
-use Rattle.key_index.specs.declared.IndexShape.{IndexShape}
-use Rattle.key_index.specs.Slots.{LiveAt, keyAt}
+use Rattle.key_index.specs.Laws.Prelude.{ℕ, _+_, _<_, _≡_, sym, ap, _∙_, inl, inr, true, false, false≢true, List, decLt, arith, take, rowAt, isLive, IndexShape, LiveAt, keyAt}
 use Rattle.key_index.specs.Laws.Index.{Grown, Swapped}
 
 -- the same table with n rows

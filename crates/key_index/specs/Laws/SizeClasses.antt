@@ -1,18 +1,6 @@
 -- The slots in use suffice for the rows, and are inside the key store. Assumes nothing.
-use Prim.Native.Nat.{ℕ, _+_, _-_, _*_, _≤_}
-use mathlib.Core.Path.{_≡_, sym, ap, _∙_}
-use mathlib.Core.Logic.{inl, inr}
-use mathlib.Core.List.{List}
-use native.Mathlib.Nat.{mul-le-mul-right}
-use native.Mathlib.Omega.{arith}
-use lib.Dec.{leb}
-use lib.ListN.{drop}
-use lib.Seq.{drop-drop}
-use borrow.Author.Tests.{leb-true}
-use Rattle.lists.specs.Laws.Filter.{split}
-use Rattle.key_index.specs.declared.IndexShape.{IndexShape}
+use Rattle.key_index.specs.Laws.Prelude.{ℕ, _+_, _-_, _*_, _≤_, _≡_, sym, ap, _∙_, inl, inr, List, mul-le-mul-right, arith, leb, drop, drop-drop, leb-true, split, IndexShape, Fits}
 use Rattle.key_index.specs.Slots.{sizeClass, sizeClassFor}
-use Rattle.key_index.specs.inner.Index.{Fits}
 
 record Step (rows step : ℕ) : Type 0 where
   some : 1 ≤ step

@@ -1,15 +1,7 @@
 -- The ring of slots, unrolled into a line at a free slot. No path from a home to its row's slot passes a free slot. So each path is
 -- a contiguous part of the line, and closing a hole needs only plain arithmetic. Re-exports the laws of distances on the ring from
 -- Ring.antt. Assumes nothing.
-use Prim.Native.Nat.{ℕ, _+_, _≤_, _<_}
-use mathlib.Core.Path.{_≡_, refl, sym, ap, _∙_}
-use mathlib.Core.Logic.{_⊎_, inl, inr}
-use mathlib.Core.List.{List}
-use native.Mathlib.Decide.{decLt, ℕ-discrete}
-use native.Mathlib.Omega.{arith}
-use lib.ListN.{length, getD, set}
-use lib.Seq.{getD-set-same, getD-set-other}
-use Rattle.key_index.specs.Slots.{slotFrom}
+use Rattle.key_index.specs.Laws.Prelude.{ℕ, _+_, _≤_, _<_, _≡_, refl, sym, ap, _∙_, _⊎_, inl, inr, List, decLt, ℕ-discrete, arith, length, getD, set, getD-set-same, getD-set-other, slotFrom}
 unfoldable pub use Rattle.key_index.specs.inner.Ring.{away}
 pub use Rattle.key_index.specs.Laws.Ring.{slot-below, slot-then, slot-zero, slot-round, slot-one, away-below, away-slot, away-of, away-line}
 

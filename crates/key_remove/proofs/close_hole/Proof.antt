@@ -1,9 +1,5 @@
 -- `key_remove::close_hole` meets its contract. Assumes nothing.
-use mathlib.Core.Path.{sym, _∙_}
-use native.Mathlib.Omega.{arith}
-use borrow.Author.Needs.{needs}
-use borrow.Author.Tests.{not-true, not-false}
-use Rattle.key_index.specs.Laws.Index.{rows-in}
+use Rattle.key_remove.proofs.Prelude.{sym, _∙_, arith, needs, not-true, not-false, rows-in}
 use Rattle.key_remove.proofs.ShiftSteps.{ShiftInvariant, begin, finish, stop, turn}
 use Rattle.key_remove.proofs.close_hole.Statement.{statement}
 use Rattle.key_remove.proofs.close_hole.Tie as tie

@@ -1,11 +1,5 @@
 -- `key_remove::home_away` meets its contract. Assumes nothing.
-use Prim.Native.Nat.{ℕ}
-use mathlib.Core.Path.{ap, _∙_}
-use native.Mathlib.Omega.{arith}
-use borrow.Author.Needs.{needs}
-use Rattle.key_index.specs.Slots.{slots}
-use Rattle.key_index.specs.inner.Ring.{away}
-use Rattle.key_index.specs.Laws.Ring.{names-number}
+use Rattle.key_remove.proofs.Prelude.{ℕ, ap, _∙_, arith, needs, slots, away, names-number}
 use Rattle.key_remove.proofs.ShiftSteps.{home-hash}
 use Rattle.key_remove.proofs.home_away.Statement.{statement}
 use Rattle.key_remove.proofs.home_away.Tie as tie

@@ -1,9 +1,5 @@
 -- `levels::advance` meets its contract. Assumes nothing.
-use mathlib.Core.Path.{refl}
-use native.Mathlib.Omega.{arith}
-use Rattle.levels.specs.inner.Advancing.{found, more, ended, nothing-left}
-use borrow.Author.Tests.{not-true, not-false}
-use borrow.Author.Needs.{needs}
+use Rattle.levels.proofs.Prelude.{refl, arith, found, more, ended, nothing-left, not-true, not-false, needs}
 use Rattle.levels.proofs.advance.Statement.{statement}
 use Rattle.levels.proofs.advance.Tie as tie
 

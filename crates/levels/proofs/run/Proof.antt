@@ -1,8 +1,5 @@
 -- `levels::run` meets its contract, and ends by the reads that are left. Assumes nothing.
-use Rattle.levels.specs.Run.{machine}
-use Rattle.levels.specs.inner.Stepping.{inputLeft}
-use Rattle.levels.specs.inner.Running.{Running, running-begin, running-again, run-ends}
-use borrow.Author.Needs.{needs}
+use Rattle.levels.proofs.Prelude.{machine, inputLeft, Running, running-begin, running-again, run-ends, needs}
 use Rattle.levels.proofs.run.Statement.{statement}
 use Rattle.levels.proofs.run.Tie as tie
 

@@ -1,12 +1,5 @@
 -- `levels::step` meets its contract. Assumes nothing.
-use mathlib.Core.Path.{ap, sym, _∙_}
-use mathlib.Core.Bool.{false≢true}
-use Prim.Native.Nat.{ℕ, _-_}
-use native.Mathlib.Omega.{arith}
-use borrow.Author.Tests.{not-true, not-false}
-use Rattle.table.specs.Contracts.{stores}
-use Rattle.levels.specs.inner.Stepping.{lent-program, stepped-silent, stepped-line, handed-used, room-for-line, step-shorter}
-use borrow.Author.Needs.{needs}
+use Rattle.levels.proofs.Prelude.{ap, sym, _∙_, false≢true, ℕ, _-_, arith, not-true, not-false, stores, lent-program, stepped-silent, stepped-line, handed-used, room-for-line, step-shorter, needs}
 use Rattle.levels.proofs.step.Statement.{statement}
 use Rattle.levels.proofs.step.Tie as tie
 

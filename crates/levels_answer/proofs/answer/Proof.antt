@@ -1,7 +1,5 @@
 -- `levels_answer::answer` meets its contract. Assumes nothing.
-use native.Mathlib.Omega.{arith}
-use Rattle.levels_answer.specs.inner.Reading.{encoded-answers}
-use borrow.Author.Needs.{needs}
+use Rattle.levels_answer.proofs.Prelude.{arith, encoded-answers, needs}
 use Rattle.levels_answer.proofs.answer.Statement.{statement}
 use Rattle.levels_answer.proofs.answer.Tie as tie
 

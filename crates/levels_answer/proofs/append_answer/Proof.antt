@@ -1,9 +1,5 @@
 -- `levels_answer::append_answer` meets its contract. Assumes nothing.
-use Prim.Native.Nat.{_-_}
-use native.Mathlib.Omega.{arith}
-use lib.ListN.{length, drop, length-take, length-drop}
-use Rattle.levels_answer.specs.inner.Reading.{answer-appended}
-use borrow.Author.Needs.{needs}
+use Rattle.levels_answer.proofs.Prelude.{_-_, arith, length, drop, length-take, length-drop, answer-appended, needs}
 use Rattle.levels_answer.proofs.append_answer.Statement.{statement}
 use Rattle.levels_answer.proofs.append_answer.Tie as tie
 

@@ -1,9 +1,5 @@
 -- `levels_answer::respond` meets its contract. Assumes nothing.
-use lib.ListN.{length-take}
-use native.Mathlib.Omega.{arith}
-use Rattle.levels_text.specs.inner.Reading.{read-fits, parsed-numbers}
-use Rattle.levels_answer.specs.inner.Reading.{wrong-responds, line-responds}
-use borrow.Author.Needs.{needs}
+use Rattle.levels_answer.proofs.Prelude.{length-take, arith, read-fits, parsed-numbers, wrong-responds, line-responds, needs}
 use Rattle.levels_answer.proofs.respond.Statement.{statement}
 use Rattle.levels_answer.proofs.respond.Tie as tie
 

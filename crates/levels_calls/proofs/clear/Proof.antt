@@ -1,6 +1,5 @@
 -- `levels_calls::clear` meets its contract. Assumes nothing.
-use Rattle.levels_calls.specs.inner.Calling.{clear-served}
-use borrow.Author.Needs.{needs}
+use Rattle.levels_calls.proofs.Prelude.{clear-served, needs}
 use Rattle.levels_calls.proofs.clear.Statement.{statement}
 use Rattle.levels_calls.proofs.clear.Tie as tie
 

@@ -1,7 +1,5 @@
 -- `levels_calls::compact` meets its contract. Assumes nothing.
-use mathlib.Core.Path.{refl}
-use Rattle.levels_calls.specs.inner.Calling.{compact-served}
-use borrow.Author.Needs.{needs}
+use Rattle.levels_calls.proofs.Prelude.{refl, compact-served, needs}
 use Rattle.levels_calls.proofs.compact.Statement.{statement}
 use Rattle.levels_calls.proofs.compact.Tie as tie
 

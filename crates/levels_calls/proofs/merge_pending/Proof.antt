@@ -1,7 +1,5 @@
 -- `levels_calls::merge_pending` meets its contract. Assumes nothing.
-use mathlib.Core.Path.{refl}
-use Rattle.levels_calls.specs.inner.Calling.{merge-served}
-use borrow.Author.Needs.{needs}
+use Rattle.levels_calls.proofs.Prelude.{refl, merge-served, needs}
 use Rattle.levels_calls.proofs.merge_pending.Statement.{statement}
 use Rattle.levels_calls.proofs.merge_pending.Tie as tie
 

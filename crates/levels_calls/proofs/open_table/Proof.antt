@@ -1,6 +1,5 @@
 -- `levels_calls::open_table` meets its contract. Assumes nothing.
-use Rattle.levels_calls.specs.inner.Calling.{large-served, open-served}
-use borrow.Author.Needs.{needs}
+use Rattle.levels_calls.proofs.Prelude.{large-served, open-served, needs}
 use Rattle.levels_calls.proofs.open_table.Statement.{statement}
 use Rattle.levels_calls.proofs.open_table.Tie as tie
 

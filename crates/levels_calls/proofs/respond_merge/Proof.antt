@@ -1,6 +1,5 @@
 -- `levels_calls::respond_merge` meets its contract. Assumes nothing.
-use Rattle.levels_calls.specs.inner.Calling.{merge-refused, merge-table}
-use borrow.Author.Needs.{needs}
+use Rattle.levels_calls.proofs.Prelude.{merge-refused, merge-table, needs}
 use Rattle.levels_calls.proofs.respond_merge.Statement.{statement}
 use Rattle.levels_calls.proofs.respond_merge.Tie as tie
 

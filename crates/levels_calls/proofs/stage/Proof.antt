@@ -1,6 +1,5 @@
 -- `levels_calls::stage` meets its contract. Assumes nothing.
-use Rattle.levels_calls.specs.inner.Calling.{insert-served, by-key-served, row-letter, by-row-letter}
-use borrow.Author.Needs.{needs}
+use Rattle.levels_calls.proofs.Prelude.{insert-served, by-key-served, row-letter, by-row-letter, needs}
 use Rattle.levels_calls.proofs.stage.Statement.{statement}
 use Rattle.levels_calls.proofs.stage.Tie as tie
 

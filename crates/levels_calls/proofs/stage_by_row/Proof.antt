@@ -1,6 +1,5 @@
 -- `levels_calls::stage_by_row` meets its contract. Assumes nothing.
-use Rattle.levels_calls.specs.inner.Calling.{by-row-served}
-use borrow.Author.Needs.{needs}
+use Rattle.levels_calls.proofs.Prelude.{by-row-served, needs}
 use Rattle.levels_calls.proofs.stage_by_row.Statement.{statement}
 use Rattle.levels_calls.proofs.stage_by_row.Tie as tie
 

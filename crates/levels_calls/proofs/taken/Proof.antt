@@ -1,6 +1,5 @@
 -- `levels_calls::taken` meets its contract. Assumes nothing.
-use Rattle.levels_calls.specs.inner.Calling.{served-refused, served-table}
-use borrow.Author.Needs.{needs}
+use Rattle.levels_calls.proofs.Prelude.{served-refused, served-table, needs}
 use Rattle.levels_calls.proofs.taken.Statement.{statement}
 use Rattle.levels_calls.proofs.taken.Tie as tie
 

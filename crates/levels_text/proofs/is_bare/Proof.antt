@@ -1,7 +1,6 @@
 -- `levels_text::is_bare` meets its contract. Assumes nothing.
-use mathlib.Core.Path.{sym}
+use Rattle.levels_text.proofs.Prelude.{sym, bare-last}
 use Rattle.levels_text.specs.Lines.{isBare}
-use Rattle.levels_text.specs.Laws.Lines.{bare-last}
 use Rattle.levels_text.proofs.is_bare.Statement.{statement}
 use Rattle.levels_text.proofs.is_bare.Tie as tie
 

@@ -1,6 +1,5 @@
 -- `levels_text::parse` meets its contract. Assumes nothing.
-use borrow.Author.Needs.{needs}
-use Rattle.levels_text.specs.inner.Reading.{parsed-no-line, parsed-right, parsed-wrong}
+use Rattle.levels_text.proofs.Prelude.{needs, parsed-no-line, parsed-right, parsed-wrong}
 use Rattle.levels_text.proofs.parse.Statement.{statement}
 use Rattle.levels_text.proofs.parse.Tie as tie
 

@@ -1,7 +1,5 @@
 -- `levels_text::read_field` meets its contract. Assumes nothing.
-use Rattle.levels_text.proofs.Prelude.{_-_, length, needs}
-use mathlib.Core.Logic.{⊎-elim}
-use Rattle.levels_text.specs.Laws.Lines.{first-end, first-at-comma}
+use Rattle.levels_text.proofs.Prelude.{_-_, length, needs, ⊎-elim, first-end, first-at-comma}
 use Rattle.levels_text.proofs.Digits.{Digits, digits-begin, digits-more, wrong-below, wrong-above, wrong-zero, wrong-large, first-digit, later-digit, field-empty, field-read}
 use Rattle.levels_text.proofs.read_field.Statement.{statement}
 use Rattle.levels_text.proofs.read_field.Tie as tie

@@ -1,17 +1,6 @@
 -- `io::decimal` gives the digits that the definition gives. Assumes nothing.
-use Prim.Native.Nat.{ℕ, zero, suc, _+_, _-_, _*_, _/_, _%_, _^_, _≤_, _<_}
-use mathlib.Core.Path.{_≡_, ap, _∙_}
-use mathlib.Core.Logic.{inl, inr}
-use mathlib.Core.List.{List, [], _∷_, _++_, map, map-append, append-nil}
-use native.Mathlib.Nat.{pow-succ', one-le-pow, pow-le-pow-right, mod-lt, mod-eq-of-lt}
-use native.Mathlib.Omega.{arith}
-use lib.ListN.{length, take, getD, length-append}
-use lib.Dec.{leb, ltb}
-use borrow.Author.Tests.{lt-ltb, le-ltb, leb-true, leb-false}
+use Rattle.levels_text.specs.Laws.Prelude.{ℕ, zero, suc, _+_, _-_, _*_, _/_, _%_, _^_, _≤_, _<_, _≡_, ap, _∙_, inl, inr, List, [], _∷_, _++_, map, map-append, append-nil, pow-succ', one-le-pow, pow-le-pow-right, mod-lt, mod-eq-of-lt, arith, length, take, getD, length-append, leb, ltb, lt-ltb, le-ltb, leb-true, leb-false, split, flatten-append, digits, glyph, Fewest}
 use Rattle.lists.specs.Lists.{flatten}
-use Rattle.lists.specs.Laws.Filter.{split}
-use Rattle.lists.specs.Laws.Rows.{flatten-append}
-use Rattle.io.specs.Digits.{digits, glyph, Fewest}
 use Rattle.levels_text.specs.Written.{digitsIn, decimal, field, textLine}
 
 -- a digit

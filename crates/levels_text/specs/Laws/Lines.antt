@@ -1,18 +1,7 @@
 -- Laws of fields and decimals in the order in which a reader needs them: byte by byte up to a comma or the end, and field by field.
 -- Assumes nothing.
-use Prim.Native.Nat.{ℕ, zero, suc, _+_, _-_, _*_, _≤_, _<_}
-use mathlib.Core.Path.{_≡_, refl, sym, ap, _∙_}
-use mathlib.Core.Logic.{inl, inr}
-use mathlib.Core.Bool.{Bool, true, false, not, _&&_, _||_, and-true, and-false, false≢true}
-use mathlib.Core.List.{List, [], _∷_}
-use native.Mathlib.Numerals.{add-one}
-use native.Mathlib.Omega.{arith}
-use lib.Dec.{leb, ltb, eqb}
-use lib.ListN.{length, drop, getD, length-drop, drop-of-length-le}
-use lib.Seq.{drop-cons, drop-drop}
-use borrow.Author.Tests.{eq-eqb, ne-eqb, le-leb, lt-leb, lt-ltb, eqb-true, eqb-false, leb-true, leb-false}
+use Rattle.levels_text.specs.Laws.Prelude.{ℕ, zero, suc, _+_, _-_, _*_, _≤_, _<_, _≡_, refl, sym, ap, _∙_, inl, inr, Bool, true, false, not, _&&_, _||_, and-true, and-false, false≢true, List, [], _∷_, add-one, arith, leb, ltb, eqb, length, drop, getD, length-drop, drop-of-length-le, drop-cons, drop-drop, eq-eqb, ne-eqb, le-leb, lt-leb, lt-ltb, eqb-true, eqb-false, leb-true, leb-false, split, and-left, and-right}
 use Rattle.lists.specs.Lists.{all}
-use Rattle.lists.specs.Laws.Filter.{split, and-left, and-right}
 use Rattle.levels_text.specs.Lines.{fields, valueFrom, isDecimal, isLine, letter, numbers, isBare, isForm, ofForms}
 
 -- ---- the first field, and the others

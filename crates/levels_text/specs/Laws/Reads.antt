@@ -1,16 +1,6 @@
 -- A decimal that is written is read back: `levels` reads it, and its value is the number. Assumes nothing.
-use Prim.Native.Nat.{ℕ, zero, suc, _+_, _-_, _*_, _/_, _%_, _^_, _≤_, _<_}
-use mathlib.Core.Path.{_≡_, refl}
-use mathlib.Core.Logic.{inl, inr}
-use mathlib.Core.Bool.{Bool, true, not, _&&_, _||_, or-true, false≢true}
-use mathlib.Core.List.{List, [], _∷_, _++_}
-use native.Mathlib.Nat.{pow-succ', mod-lt}
-use native.Mathlib.Omega.{arith}
-use lib.Dec.{leb, ltb, eqb}
-use lib.ListN.{length, getD, length-append, List·getD-append}
-use borrow.Author.Tests.{ne-eqb, le-leb, lt-ltb, ltb-true, ltb-false}
+use Rattle.levels_text.specs.Laws.Prelude.{ℕ, zero, suc, _+_, _-_, _*_, _/_, _%_, _^_, _≤_, _<_, _≡_, refl, inl, inr, Bool, true, not, _&&_, _||_, or-true, false≢true, List, [], _∷_, _++_, pow-succ', mod-lt, arith, leb, ltb, eqb, length, getD, length-append, List·getD-append, ne-eqb, le-leb, lt-ltb, ltb-true, ltb-false, split}
 use Rattle.lists.specs.Lists.{all}
-use Rattle.lists.specs.Laws.Filter.{split}
 use Rattle.levels_text.specs.Lines.{valueFrom, isDecimal}
 use Rattle.levels_text.specs.Written.{digitsIn, decimal}
 

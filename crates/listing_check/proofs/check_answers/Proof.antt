@@ -3,36 +3,23 @@
 use Rattle.query_loop.proofs.Prelude.{_≡_, refl, sym, ap, subst, _∙_, ℕ, _<_, _≤_, Bool, true, false, List, [], _∷_, ltb, length, URA, fullShare, named, tyBool, w32, w64, Val, vbool, vint, SProp, ent, emp, id⊢, via, fst∗, Lft, Share, Fml, ftrue, fsep, flft, fat, Memory, Routine, Heap, Env, Tables, Wp, WpFn, afterBlock, afterSeq}
 use Rattle.query_loop.proofs.Prelude.{atReturn, afterTurn, Atoms, Fun, givenOf, tables, tablesOf, Given, Item, Sq, anyQ, atRet, runs, ‵, raw, ⋆, _$_, _∵_, !, qed, move, drop, group, use1, split, join, rewrite, fsplit, fjoin, suffices, frame, done, agg, whole, sub, look-in, Below, look, store, init, forget, stop, fld, from}
 use Rattle.query_loop.proofs.Prelude.{load, lit, bin, and-then, no-more, assigns, land, again, blocks, exec, first, leaves-loop, loops, goes-on, returns, enter, alloc1, alloc0, params1, pass1, pass0, free1, free0, fmOf, u32, bool, Is, bool-makes, RefT, now, ShrSlice, Room, owned, nothing, Clauses, onEntry, cited, says, ends-at}
-use Rattle.listing_check.proofs.Prelude.{_-_, map, map-id, le-ltb, lt-ltb, ltb-false, ltb-true, take}
-use mathlib.Core.WellFounded.{InvImage·wf}
-use lib.WfN.{Nat·lt-wfRel}
+use Rattle.listing_check.proofs.Prelude.{_-_, map, map-id, le-ltb, lt-ltb, ltb-false, ltb-true, take, InvImage·wf, Nat·lt-wfRel, all, Constraint, known, meets, Header, Known, allPass, Survey, Surveyed, CheckScan, AnswersChecked, Due, RowRead, Underway, Begun, Stepped, closed}
 use ghost.Atoms.{sem}
 use types.Kit as Kit
 use types.Run.{land-last, true-lit}
 use denote.Builtin.{u8}
 use denote.Enum.Laws as EL
 use denote.Struct.Laws as LL
-use Rattle.lists.specs.Lists.{all}
-use Rattle.constraints.specs.declared.Constraint.{Constraint}
-use Rattle.constraints.specs.Constraints.{known, meets}
 use Rattle.constraints.proofs.Constraint as CT
-use Rattle.table.specs.declared.Header.{Header}
 use Rattle.table.proofs.Header as HT
 use Rattle.table.proofs.Header.Laws as HT′
-use Rattle.query_scan.specs.declared.Test.the-variants.{Known}
-use Rattle.query_scan.specs.inner.Scanning.{allPass}
 use Rattle.query_scan.proofs.Test as TT
 use Rattle.query_scan.proofs.Test.Laws as TT′
-use Rattle.listing_parse.specs.declared.Survey.{Survey}
-use Rattle.listing_parse.specs.inner.Surveys.{Surveyed}
 use Rattle.listing_parse.proofs.Survey as VT
 use Rattle.query_loop.proofs.Lent.{fits, header-val, headers, numbers, slice-val, test-val, tests}
 use Rattle.query_loop.proofs.LoopSteps.{all-known}
 use Rattle.query_loop.proofs.Walking.{AllPassed, Callee, Cell, Cells, Cites, Tokens, Walked, arg, bool-lands, calls, calls-last, empty, env-of, holds, lent-slice, own, stays, twice, typed, value-lands, value-settles, walk-runs}
-use Rattle.listing_check.specs.declared.CheckScan.{CheckScan}
 use Rattle.listing_check.specs.declared.Row.{Row}
-use Rattle.listing_check.specs.Answers.{AnswersChecked}
-use Rattle.listing_check.specs.inner.Scanning.{Due, RowRead, Underway, Begun, Stepped, closed}
 use Rattle.listing_check.proofs.Steps.{finish}
 use Rattle.listing_check.proofs.Values.{answers, arrays, cells-val, rows, surveys, walks}
 use Rattle.listing_check.proofs.Row as RT

@@ -3,18 +3,13 @@
 use Rattle.query_loop.proofs.Prelude.{_≡_, refl, sym, _∙_, ℕ, Bool, List, [], _∷_, lit<, length, URA, fullShare, Ty, erased, imm, named, tyRef, vbool, SProp, ent, id⊢, Lft, Share, GName, Fml, ftrue, fsep, flft, fat, froom, Memory, Routine, Heap, Tables, WpFn, Atoms, Fun, givenOf, tables, tablesOf}
 use Rattle.query_loop.proofs.Prelude.{Given, ‵, raw, _⊛_, ⋆, some, later, _$_, _∵_, !, qed, move, drop, group, use1, use2, split, join, pick, rewrite, fsplit, fjoin, suffices, frame, await, done, agg, look, init, forget, stop, from}
 use Rattle.query_loop.proofs.Prelude.{load, addr, lit, of-opd, and-then, no-more, assigns, land, returns, enter, alloc1, alloc0, params1, pass1, pass0, free1, free0, lft-new, lft-end, fmOf, u32, bool, Is, bool-makes, pointee, RefT, now, sliceTy, sliceVal, ShrSlice, Room, owned, nothing, Clauses, onEntry, cited, says, needs, ends-at}
-use Rattle.listing_check.proofs.Prelude.{_≤_, arith, take, length-take-le}
+use Rattle.listing_check.proofs.Prelude.{_≤_, arith, take, length-take-le, Constraint, meets, Header, Row, allPass}
 use package.mir.Syntax.{tyArray}
 use denote.Array.{Array}
 use denote.Memory.{lone}
 use denote.Enum.Laws as EL
-use Rattle.constraints.specs.declared.Constraint.{Constraint}
-use Rattle.constraints.specs.Constraints.{meets}
 use Rattle.constraints.proofs.Constraint as CT
-use Rattle.table.specs.declared.Header.{Header}
 use Rattle.table.proofs.Header as HT
-use Rattle.query_scan.specs.declared.Test.the-variants.{Row}
-use Rattle.query_scan.specs.inner.Scanning.{allPass}
 use Rattle.query_scan.proofs.Test as TT
 use Rattle.query_scan.proofs.Test.Laws as TT′
 use Rattle.query_loop.proofs.Lent.{fits, header-val, headers, slice-val, test-val, tests}

@@ -1,15 +1,5 @@
 -- The contract determines the answer. Assumes nothing.
-use Prim.Native.Nat.{ℕ}
-use mathlib.Core.Path.{_≡_, refl, sym, ap, _∙_}
-use mathlib.Core.Bool.{true}
-use mathlib.Core.List.{List}
-use native.Mathlib.Omega.{arith}
-use Rattle.constraints.specs.declared.Constraint.{Constraint}
-use Rattle.listing_spec.specs.Laws.Texts.{parses-determined}
-use Rattle.listing_check.specs.declared.Verdict.{Verdict}
-use Rattle.listing_check.specs.declared.Verdict.the-variants.{Right, Misplaced, Wrong}
-use Rattle.listing_check.specs.declared.CheckAnswer.{CheckAnswer}
-use Rattle.listing_check.specs.declared.CheckAnswer.the-variants.{Refused, Checked}
+use Rattle.listing_check.specs.Laws.Prelude.{ℕ, _≡_, refl, sym, ap, _∙_, true, List, arith, Constraint, parses-determined, Verdict, Right, Misplaced, Wrong, CheckAnswer, Refused, Checked}
 use Rattle.listing_check.specs.Answers.{verdictView, checkView, AnswersChecked}
 
 -- the view of an answer determines the answer

@@ -1,10 +1,7 @@
 -- A listing with the rows 2, 5 and 8, of which 2 and 8 meet the condition that the first cell is 7, and the findings for some given
 -- numbers. Assumes nothing.
-use mathlib.Core.Path.{_≡_, refl}
-use mathlib.Core.List.{[], _∷_, map}
-use mathlib.Core.Option.{some}
+use Rattle.listing_check.specs.Laws.Prelude.{_≡_, refl, [], _∷_, map, some, Constraint}
 use Rattle.lists.specs.Lists.{filter, all, elem}
-use Rattle.constraints.specs.declared.Constraint.{Constraint}
 use Rattle.constraints.specs.Constraints.{compares, met}
 use Rattle.listing_spec.specs.Listings.{Listing, rowNumbers}
 use Rattle.listing_check.specs.Answers.{correct, outOfOrder, lowestWrong, rightNumbers, misplacedBehind, misplaced, wrongNumbers, lowest, findingOf, verdictOn, verdictOf}

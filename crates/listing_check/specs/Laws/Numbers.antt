@@ -1,20 +1,6 @@
 -- The lowest number that exactly one of two lists has, and the first number that is not above the one before. Assumes nothing.
-use Prim.Native.Nat.{ℕ, zero, suc, _+_, _-_, _≤_, _<_, min}
-use mathlib.Core.Path.{_≡_, refl, sym, ap, _∙_}
-use mathlib.Core.Logic.{_⊎_, inl, inr}
-use mathlib.Core.Bool.{Bool, true, false, not, _&&_, _||_, false≢true}
-use mathlib.Core.List.{List, [], _∷_, foldl}
-use mathlib.Core.Option.{Option, none, some}
-use native.Mathlib.Decide.{decLt, ℕ-discrete}
-use native.Mathlib.Nat.{min-le-left, min-le-right, min-eq-left, min-eq-right}
-use native.Mathlib.Omega.{arith}
-use lib.Dec.{eqb}
-use lib.ListN.{length, getD}
-use borrow.Author.Tests.{lt-ltb, le-ltb}
+use Rattle.listing_check.specs.Laws.Prelude.{ℕ, zero, suc, _+_, _-_, _≤_, _<_, min, _≡_, refl, sym, ap, _∙_, _⊎_, inl, inr, Bool, true, false, not, _&&_, _||_, false≢true, List, [], _∷_, foldl, Option, none, some, decLt, ℕ-discrete, min-le-left, min-le-right, min-eq-left, min-eq-right, arith, eqb, length, getD, lt-ltb, le-ltb, or-right, split, above-head, above-tail, above-cons, elem-here, elem-there, elem-append, elem-filter, rising-at}
 use Rattle.lists.specs.Lists.{filter, above, rising, elem}
-use Rattle.lists.specs.Laws.All.{or-right}
-use Rattle.lists.specs.Laws.Filter.{split}
-use Rattle.lists.specs.Laws.Rising.{above-head, above-tail, above-cons, elem-here, elem-there, elem-append, elem-filter, rising-at}
 use Rattle.listing_check.specs.Answers.{misplacedBehind, misplaced, wrongNumbers, lowest}
 
 found : (o : Option ℕ) → (o ≡ none) ⊎ ((n : ℕ) × (o ≡ some n))

@@ -1,19 +1,7 @@
 -- What each verdict implies about the numbers given and the right ones. Assumes nothing.
-use Prim.Native.Nat.{ℕ}
-use mathlib.Core.Path.{_≡_, refl, _∙_}
-use mathlib.Core.Logic.{inl, inr}
-use mathlib.Core.Bool.{Bool, true}
-use mathlib.Core.List.{List, [], _∷_}
-use mathlib.Core.Option.{Option, none, some}
-use native.Mathlib.Omega.{arith}
-use lib.ListN.{drop, getD}
+use Rattle.listing_check.specs.Laws.Prelude.{ℕ, _≡_, refl, _∙_, inl, inr, Bool, true, List, [], _∷_, Option, none, some, arith, drop, getD, split, above-head, above-tail, above-cons, above-weaker, above-rising, rising-ext, Constraint, met, rising-from, listing-parts}
 use Rattle.lists.specs.Lists.{filter, all, above, rising}
-use Rattle.lists.specs.Laws.Filter.{split}
-use Rattle.lists.specs.Laws.Rising.{above-head, above-tail, above-cons, above-weaker, above-rising, rising-ext}
-use Rattle.constraints.specs.declared.Constraint.{Constraint}
-use Rattle.constraints.specs.Constraints.{met}
 use Rattle.listing_spec.specs.Listings.{Listing, rowNumbers, isListing}
-use Rattle.listing_spec.specs.Laws.Texts.{rising-from, listing-parts}
 use Rattle.listing_check.specs.Answers.{correct, outOfOrder, lowestWrong, rightNumbers, misplaced, wrongNumbers, lowest, findingOf, verdictOn, verdictOf}
 use Rattle.listing_check.specs.Laws.Numbers.{Apart, wrong-none, wrong-some, wrong-same, FirstNotAbove, misplaced-none, misplaced-rising, misplaced-some, misplaced-at}
 

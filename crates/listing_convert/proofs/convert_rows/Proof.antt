@@ -1,7 +1,5 @@
 -- `listing_convert::convert_rows` meets its contract. Assumes nothing.
-use Rattle.listing_convert.proofs.Prelude.{_-_, _+_, _≡_, arith, length, needs}
-use Rattle.listing_spec.specs.Listings.{prefixWidth}
-use Rattle.listing_parse.specs.Laws.Steps.{valid-rows-line}
+use Rattle.listing_convert.proofs.Prelude.{_-_, _+_, _≡_, arith, length, needs, prefixWidth, valid-rows-line}
 use Rattle.listing_convert.proofs.Converting.{Converting, converting-begin, converting-wide, converting-room, converting-number, converting-more, converting-end}
 use Rattle.listing_convert.proofs.convert_rows.Statement.{statement}
 use Rattle.listing_convert.proofs.convert_rows.Tie as tie

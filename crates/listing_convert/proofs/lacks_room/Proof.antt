@@ -1,6 +1,5 @@
 -- `listing_convert::lacks_room` meets its contract. Assumes nothing.
-use Rattle.listing_convert.proofs.Prelude.{arith, needs}
-use Rattle.levels_text.specs.Laws.Decimals.{length-field}
+use Rattle.listing_convert.proofs.Prelude.{arith, needs, length-field}
 use Rattle.listing_convert.proofs.Lengths.{numbers-few, fields-sum}
 use Rattle.listing_convert.proofs.Answers.{length-back, length-under, length-forth}
 use Rattle.listing_convert.proofs.lacks_room.Statement.{statement}

@@ -1,7 +1,6 @@
 -- `listing_convert::numbers_length` meets its contract. Assumes nothing.
-use Rattle.listing_convert.proofs.Prelude.{_-_, arith, needs}
+use Rattle.listing_convert.proofs.Prelude.{_-_, arith, needs, length-field}
 use Rattle.listing_convert.proofs.Lengths.{Summing, summing-begin, summing-few, summing-more, summing-end}
-use Rattle.levels_text.specs.Laws.Decimals.{length-field}
 use Rattle.listing_convert.proofs.numbers_length.Statement.{statement}
 use Rattle.listing_convert.proofs.numbers_length.Tie as tie
 

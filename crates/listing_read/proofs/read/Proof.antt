@@ -1,7 +1,6 @@
 -- `listing_read::read` meets its contract. Assumes nothing.
-use mathlib.Core.Path.{sym, _∙_}
+use Rattle.listing_read.proofs.Prelude.{sym, _∙_, needs}
 use Rattle.listing_read.proofs.Reading.{read-wrong}
-use borrow.Author.Needs.{needs}
 use Rattle.listing_read.proofs.read.Statement.{statement}
 use Rattle.listing_read.proofs.read.Tie as tie
 

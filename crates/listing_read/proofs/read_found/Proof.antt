@@ -1,8 +1,6 @@
 -- `listing_read::read_found` meets its contract. Assumes nothing.
-use native.Mathlib.Omega.{arith}
-use Rattle.listing_spec.specs.Laws.Texts.{lead-few}
+use Rattle.listing_read.proofs.Prelude.{arith, lead-few, needs}
 use Rattle.listing_read.proofs.Reading.{valid-rows, cells-count, read-short, read-done, cells-few}
-use borrow.Author.Needs.{needs}
 use Rattle.listing_read.proofs.read_found.Statement.{statement}
 use Rattle.listing_read.proofs.read_found.Tie as tie
 

@@ -1,12 +1,6 @@
 -- `listing_read::write_rows` meets its contract. Assumes nothing.
-use Prim.Native.Nat.{_-_, _+_}
-use mathlib.Core.Path.{_≡_}
-use native.Mathlib.Omega.{arith}
-use lib.ListN.{length, length-take}
-use Rattle.listing_spec.specs.Listings.{prefixWidth}
-use Rattle.listing_parse.specs.Laws.Steps.{valid-rows-line}
+use Rattle.listing_read.proofs.Prelude.{_-_, _+_, _≡_, arith, length, length-take, prefixWidth, valid-rows-line, needs}
 use Rattle.listing_read.proofs.Writing.{Writing, writing-begin, writing-room, writing-more, writing-end}
-use borrow.Author.Needs.{needs}
 use Rattle.listing_read.proofs.write_rows.Statement.{statement}
 use Rattle.listing_read.proofs.write_rows.Tie as tie
 

@@ -1,20 +1,7 @@
 -- Consequences of the answer of a call that writes a listing. Assumes nothing.
-use Prim.Native.Nat.{ℕ, _≤_}
-use mathlib.Core.Path.{_≡_, ap, _∙_}
-use mathlib.Core.Bool.{Bool, false}
-use mathlib.Core.List.{List, [], _∷_}
-use native.Mathlib.Omega.{arith}
-use lib.Dec.{ltb}
-use lib.ListN.{length, take}
-use borrow.Author.Tests.{ltb-false, le-ltb}
-use Rattle.lists.specs.Laws.Search.{take-put}
+use Rattle.listing_write.specs.Laws.Prelude.{ℕ, _≤_, _≡_, ap, _∙_, Bool, false, List, [], _∷_, arith, ltb, length, take, ltb-false, le-ltb, take-put, firstRefusal-no, firstRefusal-rest, Header, outside, rowsShort, Refused, Written, accepted-number, accepted-same}
 use Rattle.refusals.specs.Refusals.{Check, check, firstRefusal, reply}
-use Rattle.plain_table.specs.Laws.Calls.{firstRefusal-no, firstRefusal-rest}
-use Rattle.table.specs.declared.Header.{Header}
-use Rattle.table.specs.Refusing.{outside, rowsShort}
-use Rattle.listing_spec.specs.declared.TextAnswer.the-variants.{Refused, Written}
 use Rattle.listing_spec.specs.Listings.{textView}
-use Rattle.listing_spec.specs.Laws.Restored.{accepted-number, accepted-same}
 use Rattle.listing_write.specs.Writing.{storedText, writeRefusal, ListingWritten}
 
 -- an accepted call

@@ -1,16 +1,5 @@
 -- The contract determines the outcome. Assumes nothing.
-use mathlib.Core.Path.{sym, _∙_}
-use mathlib.Core.Logic.{⊎-elim}
-use mathlib.Core.Bool.{Bool}
-use mathlib.Core.List.{List}
-use Prim.Native.Nat.{ℕ}
-use lib.ListN.{length}
-use Rattle.refusals.specs.Laws.Replies.{some-number}
-use Rattle.refusals.specs.Laws.Determined.{Same}
-use Rattle.table.specs.declared.Header.{Header}
-use Rattle.listing_spec.specs.declared.TextAnswer.{TextAnswer}
-use Rattle.listing_spec.specs.Laws.Determined.{text-view-injective}
-use Rattle.listing_write.specs.Writing.{writeRefusal, ListingWritten}
+use Rattle.listing_write.specs.Laws.Prelude.{sym, _∙_, ⊎-elim, Bool, List, ℕ, length, some-number, Same, Header, TextAnswer, text-view-injective, writeRefusal, ListingWritten}
 
 pub written-determined : {numbered : Bool} {h : Header} {rows output output₁ output₂ : List ℕ} {a b : TextAnswer} → ListingWritten numbered h rows output a output₁
     → ListingWritten numbered h rows output b output₂ → Same a b output₁ output₂

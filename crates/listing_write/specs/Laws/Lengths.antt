@@ -1,16 +1,5 @@
 -- Upper bounds of the lengths of a listing's lines. Assumes nothing.
-use Prim.Native.Nat.{ℕ, zero, suc, _+_, _*_, _≤_}
-use mathlib.Core.Path.{_≡_, ap}
-use mathlib.Core.Logic.{inl, inr}
-use mathlib.Core.Bool.{Bool, true, false}
-use mathlib.Core.List.{List, [], _∷_}
-use native.Mathlib.Omega.{arith}
-use lib.ListN.{length, take, drop, length-append, length-take}
-use Rattle.lists.specs.Laws.Filter.{split}
-use Rattle.constraints.specs.Constraints.{isLive}
-use Rattle.table.specs.declared.Header.{Header}
-use Rattle.levels_text.specs.Written.{textLine}
-use Rattle.levels_text.specs.Laws.Decimals.{length-written}
+use Rattle.listing_write.specs.Laws.Prelude.{ℕ, zero, suc, _+_, _*_, _≤_, _≡_, ap, inl, inr, Bool, true, false, List, [], _∷_, arith, length, take, drop, length-append, length-take, split, isLive, Header, textLine, length-written}
 use Rattle.listing_spec.specs.Listings.{headLetter}
 use Rattle.listing_write.specs.Writing.{headNumbers, storedText}
 use Rattle.listing_write.specs.inner.Lines.{headLine, rowLine, rowLines}

@@ -1,23 +1,9 @@
 -- The text of a table's listing is its head line and the lines of its live rows, row by row. Assumes nothing.
-use Prim.Native.Nat.{ℕ, zero, suc, _*_}
-use mathlib.Core.Path.{_≡_, refl}
-use mathlib.Core.Logic.{inl, inr}
-use mathlib.Core.Bool.{Bool, false}
-use mathlib.Core.List.{List, _++_, map}
-use native.Mathlib.Nat.{mul-le-mul-right}
-use native.Mathlib.Omega.{arith}
-use lib.ListN.{length, take, drop}
-use borrow.Author.Tests.{ltb-false}
+use Rattle.listing_write.specs.Laws.Prelude.{ℕ, zero, suc, _*_, _≡_, refl, inl, inr, Bool, false, List, _++_, map, mul-le-mul-right, arith, length, take, drop, ltb-false, split, isLive, Header, rowOfCells, length-rowsIn, outside-inside, textLine}
 use Rattle.lists.specs.Lists.{rowsOf, flatten}
-use Rattle.lists.specs.Laws.Filter.{split}
-use Rattle.constraints.specs.Constraints.{isLive}
 use Rattle.plain_table.specs.Plain.{liveFrom}
-use Rattle.table.specs.declared.Header.{Header}
 use Rattle.table.specs.Refusing.{outside, rowsShort}
 use Rattle.table.specs.Stores.{rowsIn}
-use Rattle.table.specs.Laws.Live.{rowOfCells, length-rowsIn}
-use Rattle.table.specs.Laws.Refusals.{outside-inside}
-use Rattle.levels_text.specs.Written.{textLine}
 use Rattle.listing_spec.specs.Listings.{listingText}
 use Rattle.listing_write.specs.Writing.{rowFields, tableListing, storedListing, storedText}
 use Rattle.listing_write.specs.inner.Lines.{headLine, rowLine, rowLines, Stored}

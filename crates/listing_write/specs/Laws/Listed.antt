@@ -1,24 +1,10 @@
 -- The listing of a table is within all bounds of document 02, change 11, if its numbers are within theirs and every cell of a live
 -- row is a u32. Assumes nothing.
-use Prim.Native.Nat.{ℕ, suc, _+_, _-_, _≤_, _<_}
-use mathlib.Core.Path.{_≡_, refl}
-use mathlib.Core.Logic.{inl, inr}
-use mathlib.Core.Bool.{Bool, true, false, cond, not, _||_, false≢true}
-use mathlib.Core.List.{List, [], _∷_, map}
-use mathlib.Core.Option.{some}
-use native.Mathlib.Omega.{arith}
-use lib.Dec.{leb, eqb}
-use lib.ListN.{length, getD}
-use borrow.Author.Tests.{eqb-true, le-leb, lt-ltb}
+use Rattle.listing_write.specs.Laws.Prelude.{ℕ, suc, _+_, _-_, _≤_, _<_, _≡_, refl, inl, inr, Bool, true, false, cond, not, _||_, false≢true, List, [], _∷_, map, some, arith, leb, eqb, length, getD, eqb-true, le-leb, lt-ltb, all-head, all-tail, all-cons, or-second, split, Opening, Bounds, RowsFit, fit-none, fit-more, row-of, listing-of}
 use Rattle.lists.specs.Lists.{all}
-use Rattle.lists.specs.Laws.All.{all-head, all-tail, all-cons, or-second}
-use Rattle.lists.specs.Laws.Filter.{split}
 use Rattle.cells.specs.Cells.{isDead}
-use Rattle.plain_table.specs.Staged.{Opening}
 use Rattle.plain_table.specs.Plain.{Row, liveFrom}
-use Rattle.plain_table.specs.Laws.Proper.{Bounds}
 use Rattle.listing_spec.specs.Listings.{headWidth, prefixWidth, listingText, areNumbers, keepsBounds, isHead, ParsesAs, parses}
-use Rattle.listing_spec.specs.Laws.Texts.{RowsFit, fit-none, fit-more, row-of, listing-of}
 use Rattle.listing_write.specs.Writing.{headNumbers, rowFields, tableListing}
 
 -- every cell of a row is a u32, if the row is live

@@ -1,20 +1,7 @@
 -- A listing that is written is read back. Assumes nothing.
-use Prim.Native.Nat.{ℕ, _≤_, _<_}
-use mathlib.Core.Path.{_≡_, ap, _∙_}
-use mathlib.Core.Bool.{Bool, true}
-use mathlib.Core.List.{List, [], _∷_, _++_}
-use mathlib.Core.Option.{Option, some}
-use native.Mathlib.Omega.{arith}
-use lib.Dec.{ltb}
-use lib.ListN.{length, take}
-use borrow.Author.Tests.{lt-ltb, le-ltb}
-use Rattle.lists.specs.Lists.{splice, flatten}
+use Rattle.listing_write.specs.Laws.Prelude.{ℕ, _≤_, _<_, _≡_, ap, _∙_, Bool, true, List, [], _∷_, _++_, Option, some, arith, ltb, length, take, lt-ltb, le-ltb, splice, flatten, Header, Written, parses-determined, storedListing, ListingWritten}
 use Rattle.refusals.specs.Refusals.{check, firstRefusal, Reply, reply}
-use Rattle.table.specs.declared.Header.{Header}
-use Rattle.listing_spec.specs.declared.TextAnswer.the-variants.{Written}
 use Rattle.listing_spec.specs.Listings.{Listing, areNumbers, ParsesAs, listingCells, readRefusal, readWords, ListingRead}
-use Rattle.listing_spec.specs.Laws.Texts.{parses-determined}
-use Rattle.listing_write.specs.Writing.{storedListing, ListingWritten}
 use Rattle.listing_write.specs.Laws.Answers.{inside, stored, written-taken}
 use Rattle.listing_write.specs.Laws.Represented.{stored-listed}
 

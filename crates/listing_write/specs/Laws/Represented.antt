@@ -1,29 +1,13 @@
 -- What is written for a table in lent stores: a listing within all bounds; if the stores represent a plain table, the listing of
 -- that table. Assumes nothing.
-use Prim.Native.Nat.{ℕ, zero, suc, _*_, _≤_}
-use mathlib.Core.Path.{_≡_, refl}
-use mathlib.Core.Bool.{Bool, true, false, not, _||_}
-use mathlib.Core.List.{List, [], _∷_, map}
-use mathlib.Core.Option.{some}
-use native.Mathlib.Omega.{arith}
-use lib.Dec.{leb, ltb, eqb}
-use lib.ListN.{length, take, drop, getD}
-use borrow.Author.Tests.{le-ltb}
+use Rattle.listing_write.specs.Laws.Prelude.{ℕ, zero, suc, _*_, _≤_, _≡_, refl, Bool, true, false, not, _||_, List, [], _∷_, map, some, arith, leb, ltb, eqb, length, take, drop, getD, le-ltb, all-head, all-tail, all-cons, or-right, rowsOf-widths, Header, openingOf, Stores, Represents, rowOfCells, length-rowsIn, live-shown, outside-inside, represents-inside, represents-long}
 use Rattle.lists.specs.Lists.{all, rowsOf}
-use Rattle.lists.specs.Laws.All.{all-head, all-tail, all-cons, or-right}
-use Rattle.lists.specs.Laws.Rows.{rowsOf-widths}
 use Rattle.refusals.specs.Refusals.{check, firstRefusal}
 use Rattle.cells.specs.Cells.{isDead}
 use Rattle.constraints.specs.Constraints.{isLive}
 use Rattle.plain_table.specs.Plain.{Plain, liveRows}
-use Rattle.table.specs.declared.Header.{Header}
-use Rattle.table.specs.Numbers.{openingOf}
 use Rattle.table.specs.Refusing.{outside, rowsShort}
 use Rattle.table.specs.Stores.{rowsIn}
-use Rattle.table.specs.Contracts.{Stores, Represents}
-use Rattle.table.specs.Laws.Live.{rowOfCells, length-rowsIn, live-shown}
-use Rattle.table.specs.Laws.Refusals.{outside-inside}
-use Rattle.table.specs.Laws.Shown.{represents-inside, represents-long}
 use Rattle.listing_spec.specs.Listings.{listingText, areNumbers, ParsesAs}
 use Rattle.listing_write.specs.Writing.{tableListing, storedListing, storedText, writeRefusal}
 use Rattle.listing_write.specs.Laws.Lines.{stored-rows}

@@ -1,18 +1,7 @@
 -- Laws of decoding an answer, and of what it writes. A refused answer writes nothing, an accepted one at most the ids of its
 -- subset, and an intersection no more than its output has room for. Every reply has an answer. The members of an accepted
 -- intersection. Assumes nothing.
-use Prim.Native.Nat.{ℕ, zero, suc, _≤_, _<_}
-use mathlib.Core.Path.{_≡_, refl, sym, ap, _∙_}
-use mathlib.Core.Logic.{inl, inr}
-use mathlib.Core.Bool.{Bool, true, false}
-use mathlib.Core.List.{List, [], _∷_}
-use native.Mathlib.Decide.{decLt}
-use native.Mathlib.Omega.{arith}
-use lib.ListN.{length, take, length-take}
-use borrow.Author.Tests.{lt-ltb, le-ltb}
-use Rattle.lists.specs.Lists.{splice, filter, elem, within}
-use Rattle.lists.specs.Laws.Parts.{splice-nil}
-use Rattle.lists.specs.Laws.Filter.{split, length-filter, count-le}
+use Rattle.offsets.specs.Laws.Prelude.{ℕ, zero, suc, _≤_, _<_, _≡_, refl, sym, ap, _∙_, inl, inr, Bool, true, false, List, [], _∷_, decLt, arith, length, take, length-take, lt-ltb, le-ltb, splice, filter, elem, within, splice-nil, split, length-filter, count-le}
 use Rattle.refusals.specs.Refusals.{firstRefusal, Reply, refused, accepted, reply}
 use Rattle.offsets.specs.declared.SubsetAnswer.{SubsetAnswer}
 use Rattle.offsets.specs.declared.SubsetAnswer.the-variants.{Refused, Range, List as Ids}

@@ -1,14 +1,6 @@
 -- Subsets by their two forms, as code distinguishes them: size, ends and members of each, and the results of `retain` and
 -- `narrowed`. Crates above use only these laws and the set laws of a subset. Assumes nothing.
-use Prim.Native.Nat.{ℕ, _+_, _-_, _≤_, _<_}
-use mathlib.Core.Path.{_≡_, refl, sym, ap, _∙_}
-use mathlib.Core.Bool.{Bool, true, false}
-use mathlib.Core.List.{List, [], _∷_}
-use mathlib.Core.Option.{Option, none, some}
-use lib.ListN.{length, getD}
-use borrow.Author.Tests.{le-leb}
-use Rattle.lists.specs.Lists.{filter, all, elem, within}
-use Rattle.lists.specs.Laws.Rising.{length-iota, getD-iota, elem-iota}
+use Rattle.offsets.specs.Laws.Prelude.{ℕ, _+_, _-_, _≤_, _<_, _≡_, refl, sym, ap, _∙_, Bool, true, false, List, [], _∷_, Option, none, some, length, getD, le-leb, filter, all, elem, within, length-iota, getD-iota, elem-iota}
 use Rattle.offsets.specs.Subsets.{Subset, range, list, wellFormed, members, size, endOf, shaped, retain, narrowed}
 use Rattle.offsets.specs.declared.BoundsAnswer.{BoundsAnswer}
 use Rattle.offsets.specs.declared.BoundsAnswer.the-variants.{None as NoEnds, Ends as BothEnds}

@@ -1,21 +1,7 @@
 -- The set laws of subsets: what crates above this one may use of `intersect`, `retain` and `narrowed`; the reply that an answer
 -- encodes once its ids are written; and that a reply determines the answer. Assumes nothing.
-use Prim.Native.Nat.{ℕ, zero, suc, _+_, _-_, _≤_, _<_, min, max}
-use mathlib.Core.Path.{_≡_, refl, sym, ap, _∙_}
-use mathlib.Core.Logic.{_⊎_, inl, inr}
-use mathlib.Core.Bool.{Bool, true, false}
-use mathlib.Core.List.{List, [], _∷_}
-use native.Mathlib.Decide.{decLt}
-use native.Mathlib.Omega.{arith}
-use lib.ListN.{length, take, getD, length-take, length-append}
-use borrow.Author.Tests.{leb-true, le-leb}
+use Rattle.offsets.specs.Laws.Prelude.{ℕ, zero, suc, _+_, _-_, _≤_, _<_, min, max, _≡_, refl, sym, ap, _∙_, _⊎_, inl, inr, Bool, true, false, List, [], _∷_, decLt, arith, length, take, getD, length-take, length-append, leb-true, le-leb, splice-nil, split, and-left, and-right, filter-same, filter-all, length-filter, count-le, same-refl, same-eq, same-ne, length-iota, getD-iota, rising-filter, rising-iota, rising-at, elem-iota, filter-elem-comm, filter-within-iota, take-put, Reply, accepted, Same}
 use Rattle.lists.specs.Lists.{splice, filter, all, iota, rising, elem, within, same}
-use Rattle.lists.specs.Laws.Parts.{splice-nil}
-use Rattle.lists.specs.Laws.Filter.{split, and-left, and-right, filter-same, filter-all, length-filter, count-le}
-use Rattle.lists.specs.Laws.Rising.{same-refl, same-eq, same-ne, length-iota, getD-iota, rising-filter, rising-iota, rising-at, elem-iota, filter-elem-comm, filter-within-iota}
-use Rattle.lists.specs.Laws.Search.{take-put}
-use Rattle.refusals.specs.Refusals.{Reply, accepted}
-use Rattle.refusals.specs.Laws.Determined.{Same}
 use Rattle.offsets.specs.declared.SubsetHead.{SubsetHead}
 use Rattle.offsets.specs.declared.SubsetAnswer.{SubsetAnswer}
 use Rattle.offsets.specs.declared.SubsetAnswer.the-variants.{Refused, Range, List as Ids}

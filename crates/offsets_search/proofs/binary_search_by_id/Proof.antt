@@ -1,6 +1,5 @@
 -- `offsets_search::binary_search_by_id` meets its contract. Assumes nothing.
-use native.Mathlib.Omega.{arith}
-use borrow.Author.Needs.{needs}
+use Rattle.offsets_search.proofs.Prelude.{arith, needs}
 use Rattle.offsets_search.proofs.binary_search_by_id.Statement.{statement}
 use Rattle.offsets_search.proofs.binary_search_by_id.Tie as tie
 

@@ -1,8 +1,5 @@
 -- `offsets_search::binary_search_cells` meets its contract. Assumes nothing.
-use Prim.Native.Nat.{_+_, _-_, _*_, _/_, _<_}
-use lib.ListN.{length}
-use native.Mathlib.Omega.{arith}
-use borrow.Author.Needs.{needs}
+use Rattle.offsets_search.proofs.Prelude.{_+_, _-_, _*_, _/_, _<_, length, arith, needs}
 use Rattle.offsets_search.specs.inner.Search.{Bracketed}
 use Rattle.offsets_search.proofs.Search.{bracket, bracket-up, bracket-down, bracket-end}
 use Rattle.offsets_search.proofs.binary_search_cells.Statement.{statement}

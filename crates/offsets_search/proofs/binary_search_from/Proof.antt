@@ -1,6 +1,5 @@
 -- `offsets_search::binary_search_from` meets its contract. Assumes nothing.
-use borrow.Author.Needs.{needs}
-use Rattle.lists.specs.Laws.Search.{notBelow-le}
+use Rattle.offsets_search.proofs.Prelude.{needs, notBelow-le}
 use Rattle.offsets_search.proofs.binary_search_from.Statement.{statement}
 use Rattle.offsets_search.proofs.binary_search_from.Tie as tie
 

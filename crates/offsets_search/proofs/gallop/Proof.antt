@@ -1,6 +1,5 @@
 -- `offsets_search::gallop` meets its contract. Assumes nothing.
-use native.Mathlib.Omega.{arith}
-use borrow.Author.Needs.{needs}
+use Rattle.offsets_search.proofs.Prelude.{arith, needs}
 use Rattle.offsets_search.specs.inner.Search.{Reached}
 use Rattle.offsets_search.proofs.Search.{Strides, stride-more, stride-over, stride-end}
 use Rattle.offsets_search.proofs.gallop.Statement.{statement}

@@ -1,7 +1,5 @@
 -- `offsets_search::scan_for_offset` meets its contract. Assumes nothing.
-use native.Mathlib.Omega.{arith}
-use borrow.Author.Needs.{needs}
-use Rattle.lists.specs.Laws.Search.{notBelow-past}
+use Rattle.offsets_search.proofs.Prelude.{arith, needs, notBelow-past}
 use Rattle.offsets_search.specs.inner.Search.{Reached}
 use Rattle.offsets_search.proofs.Search.{scanned-end, scanned-hit, scanned-before, scanned-part}
 use Rattle.offsets_search.proofs.scan_for_offset.Statement.{statement}

@@ -1,6 +1,5 @@
 -- `precedence::check_precedence` meets its contract. The loop's invariant: the rows from here on give what all give. Assumes nothing.
-use Rattle.precedence.proofs.Prelude.{_-_, _≤_, _≡_, refl, sym, _∙_, arith, length, needs}
-use Rattle.precedence.specs.inner.Checking.{OnTable}
+use Rattle.precedence.proofs.Prelude.{_-_, _≤_, _≡_, refl, sym, _∙_, arith, length, needs, OnTable}
 use Rattle.precedence.proofs.Checks.{Accepted, passed-accepted, check-refused, check-met, check-fails}
 use Rattle.precedence.proofs.Steps.{fromRow, rows-begin, row-fails, row-meets, rows-end}
 use Rattle.precedence.proofs.check_precedence.Statement.{statement}

@@ -1,6 +1,5 @@
 -- `precedence::failing_pair` meets its contract. The loop's invariant: the pairs from here on give what all give. Assumes nothing.
-use Rattle.precedence.proofs.Prelude.{_/_, _-_, _≤_, _≡_, refl, sym, _∙_, arith, length, not-true, not-false}
-use Rattle.precedence.specs.inner.Checking.{OnTable}
+use Rattle.precedence.proofs.Prelude.{_/_, _-_, _≤_, _≡_, refl, sym, _∙_, arith, length, not-true, not-false, OnTable}
 use Rattle.precedence.proofs.Steps.{RowInStore, row-in-store, fromPair, pair-fails, pair-met, pairs-end, dead-row, place-fails, place-meets}
 use Rattle.precedence.proofs.failing_pair.Statement.{statement}
 use Rattle.precedence.proofs.failing_pair.Tie as tie

@@ -1,13 +1,5 @@
 -- The contract determines the outcome. Assumes nothing.
-use Prim.Native.Nat.{ℕ}
-use mathlib.Core.Path.{_≡_, sym, ap, ap₂, _∙_}
-use mathlib.Core.List.{List}
-use lib.ListN.{length}
-use Rattle.refusals.specs.Laws.Determined.{SameAnswer, answer-same}
-use Rattle.table.specs.declared.Header.{Header}
-use Rattle.table.specs.Laws.Determined.{KnownKeys}
-use Rattle.precedence.specs.declared.PrecedenceAnswer.{PrecedenceAnswer}
-use Rattle.precedence.specs.declared.PrecedenceAnswer.the-variants.{Refused, Met, Fails}
+use Rattle.precedence.specs.Laws.Prelude.{ℕ, _≡_, sym, ap, ap₂, _∙_, List, length, SameAnswer, answer-same, Header, KnownKeys, PrecedenceAnswer, Refused, Met, Fails}
 use Rattle.precedence.specs.Precedence.{Failure, precedenceRefusal, precedenceView, PrecedenceChecked}
 
 pub precedence-view-injective : (a b : PrecedenceAnswer) → precedenceView a ≡ precedenceView b → a ≡ b

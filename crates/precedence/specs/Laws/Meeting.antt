@@ -1,30 +1,7 @@
 -- What the answer implies for each live row and pair; that equal values are met; and that the check of the lent rows is the check
 -- of the plain table that the stores represent. Assumes nothing.
-use Prim.Native.Nat.{ℕ, zero, suc, _+_, _≤_, _<_}
-use mathlib.Core.Path.{_≡_, refl, sym, ap, ap₂, _∙_}
-use mathlib.Core.Logic.{_⊎_, inl, inr}
-use mathlib.Core.Bool.{Bool, true, false, not, _&&_, _||_, false≢true}
-use mathlib.Core.List.{List, [], _∷_}
-use mathlib.Core.Option.{Option, none, some}
-use native.Mathlib.Omega.{arith}
-use lib.Dec.{eqb}
-use lib.ListN.{length, getD}
-use borrow.Author.Tests.{eqb-true, leb-true, eq-eqb, le-leb}
-use Rattle.lists.specs.Lists.{any, same}
-use Rattle.lists.specs.Laws.Filter.{split, and-left, and-right}
-use Rattle.lists.specs.Laws.All.{or-right, or-second}
-use Rattle.lists.specs.Laws.Rising.{same-refl, same-eq}
-use Rattle.refusals.specs.Refusals.{accepted}
-use Rattle.plain_table.specs.Staged.{Opening}
+use Rattle.precedence.specs.Laws.Prelude.{ℕ, zero, suc, _+_, _≤_, _<_, _≡_, refl, sym, ap, ap₂, _∙_, _⊎_, inl, inr, Bool, true, false, not, _&&_, _||_, false≢true, List, [], _∷_, Option, none, some, arith, eqb, length, getD, eqb-true, leb-true, eq-eqb, le-leb, any, same, split, and-left, and-right, or-right, or-second, same-refl, same-eq, accepted, Opening, rowOf, sortCell, noRow, Header, openingOf, stores, Represents, ofRows, represents-sound, live-shown, PrecedenceAnswer}
 use Rattle.plain_table.specs.Plain.{Row, Plain, Numbered, liveFrom, liveRows}
-use Rattle.plain_table.specs.Proper.{rowOf, sortCell}
-use Rattle.plain_table.specs.Laws.Rows.{noRow}
-use Rattle.table.specs.declared.Header.{Header}
-use Rattle.table.specs.Numbers.{openingOf}
-use Rattle.table.specs.Contracts.{stores, Represents, ofRows}
-use Rattle.table.specs.Laws.Sound.{represents-sound}
-use Rattle.table.specs.Laws.Live.{live-shown}
-use Rattle.precedence.specs.declared.PrecedenceAnswer.{PrecedenceAnswer}
 use Rattle.precedence.specs.Precedence.{Pair, pairsOf, otherKeyCells, precedes, meetsPair, firstFailing, failingPair, Failure, failureAmong, precedenceFailure, precedenceRefusal, precedenceView, PrecedenceChecked}
 use Rattle.precedence.specs.Laws.Scan.{any-live, live-any, fails-here, fails-later, failure-here, failure-later, failure-dead}
 

@@ -1,21 +1,8 @@
 -- The scans of the check, one row or pair at a time; and the row that is needed, found by its key. Assumes nothing.
-use Prim.Native.Nat.{ℕ, zero, suc, _+_, _*_, _/_, _≤_, _<_}
-use mathlib.Core.Path.{_≡_, refl, sym, ap₂, _∙_}
-use mathlib.Core.Logic.{inl, inr}
-use mathlib.Core.Bool.{Bool, true, false, _&&_, _||_, false≢true}
-use mathlib.Core.List.{List, [], _∷_, _++_}
-use mathlib.Core.Option.{Option, none, some}
-use native.Mathlib.Nat.{suc-add}
-use native.Mathlib.Omega.{arith}
-use lib.Dec.{eqb}
-use lib.ListN.{length, take, drop, getD, set, length-take}
-use lib.Seq.{getD-take}
+use Rattle.precedence.specs.Laws.Prelude.{ℕ, zero, suc, _+_, _*_, _/_, _≤_, _<_, _≡_, refl, sym, ap₂, _∙_, inl, inr, Bool, true, false, _&&_, _||_, false≢true, List, [], _∷_, _++_, Option, none, some, suc-add, arith, eqb, length, take, drop, getD, set, length-take, getD-take, split, or-right, noRow}
 use Rattle.lists.specs.Lists.{any, same}
-use Rattle.lists.specs.Laws.Filter.{split}
-use Rattle.lists.specs.Laws.All.{or-right}
 use Rattle.plain_table.specs.Staged.{hasKey}
 use Rattle.plain_table.specs.Plain.{Row, Plain, liveFrom}
-use Rattle.plain_table.specs.Laws.Rows.{noRow}
 use Rattle.precedence.specs.Precedence.{Pair, pairsOf, otherKeyCells, firstFailing, failingPair, Failure, failureOr, failureAmong}
 
 -- ---- live rows that pass a test of their cells

@@ -1,11 +1,7 @@
 -- `query_loop::all_pass` meets its contract: a manual proof over its MIR. The loop's state at i: `ok` is whether the first i conditions
 -- pass. Each iteration copies one record out of the slice and passes it to `passes_test`, of which the proof knows only its
 -- contract. Assumes nothing.
-use Rattle.query_loop.proofs.Prelude.{_≡_, refl, sym, _∙_, ℕ, _<_, _^_, Bool, true, false, List, [], _∷_, ltb, lit<, length, URA, fullShare, named, tyBool, w64, Val, vbool, vint, SProp, ent, id⊢, Lft, Share, GName, Fml, ftrue, fsep, flft, fat, Memory, Routine, Heap, Env, Tables, Wp, WpFn, afterBlock}
-use Rattle.query_loop.proofs.Prelude.{afterSeq, atReturn, afterTurn, Atoms, Fun, givenOf, tables, tablesOf, Given, Item, Sq, anyQ, atRet, runs, ‵, raw, ⋆, _$_, _∵_, !, qed, move, drop, group, use1, split, join, rewrite, fsplit, fjoin, suffices, frame, done, whole, sub, look-in, Below, look, store}
-use Rattle.query_loop.proofs.Prelude.{init, forget, stop, hop, fld, from, load, lit, of-opd, bin, no-more, assigns, land, again, blocks, exec, first, leaves-loop, loops, goes-on, returns, enter, alloc1, alloc0, params1, pass1, pass0, free1, free0, fmOf, u32, bool, Is, shows, bool-makes, RefT, now}
-use Rattle.query_loop.proofs.Prelude.{sliceVal, ShrSlice, Room, owned, nothing, Clauses, onEntry, cited, says, needs, ends-at, _+_, _*_, add-one-dec, arith, _&&_, getD, tyPtr, vptr, look-raw, assigns-last, ltb-true, place-is, elem-out, elem-back, looks-slice, shuts-slice, and-left, and-right}
-use Rattle.query_loop.proofs.Prelude.{Constraint, Header, Test, RowNeeded, starts, passes, allPass}
+use Rattle.query_loop.proofs.Prelude.{_≡_, refl, sym, _∙_, ℕ, _<_, _^_, Bool, true, false, List, [], _∷_, ltb, lit<, length, URA, fullShare, named, tyBool, w64, Val, vbool, vint, SProp, ent, id⊢, Lft, Share, GName, Fml, ftrue, fsep, flft, fat, Memory, Routine, Heap, Env, Tables, Wp, WpFn, afterBlock, afterSeq, atReturn, afterTurn, Atoms, Fun, givenOf, tables, tablesOf, Given, Item, Sq, anyQ, atRet, runs, ‵, raw, ⋆, _$_, _∵_, !, qed, move, drop, group, use1, split, join, rewrite, fsplit, fjoin, suffices, frame, done, whole, sub, look-in, Below, look, store, init, forget, stop, hop, fld, from, load, lit, of-opd, bin, no-more, assigns, land, again, blocks, exec, first, leaves-loop, loops, goes-on, returns, enter, alloc1, alloc0, params1, pass1, pass0, free1, free0, fmOf, u32, bool, Is, shows, bool-makes, RefT, now, sliceVal, ShrSlice, Room, owned, nothing, Clauses, onEntry, cited, says, needs, ends-at, _+_, _*_, add-one-dec, arith, _&&_, getD, tyPtr, vptr, look-raw, assigns-last, ltb-true, place-is, elem-out, elem-back, looks-slice, shuts-slice, and-left, and-right, Constraint, Header, Test, RowNeeded, starts, passes, allPass}
 use types.Kit as Kit
 use denote.Struct.Laws as LL
 use Rattle.constraints.proofs.Constraint as CT

@@ -1,10 +1,6 @@
 -- `query_loop::scan` meets its contract: a manual proof over its MIR, cut at each call. The list of conditions is passed on whole. The
 -- loop's state is the scan and the output, which each iteration lends again to `step`. Assumes nothing.
-use Rattle.query_loop.proofs.Prelude.{_≡_, refl, sym, subst, _∙_, ℕ, _<_, _≤_, Bool, true, false, List, [], _∷_, ltb, length, URA, fullShare, Body, Place, Ty, Operand, call, erased, mut, named, seq, tyBool, tyInt, tyRef, w32, w64, Val, vbool, vint, SProp, ent, emp, id⊢, via, fst∗, Lft, Share, GName}
-use Rattle.query_loop.proofs.Prelude.{ftrue, fsep, flft, fat, Memory, Routine, Heap, Env, Loops, Tables, Wp, WpFn, afterBlock, afterSeq, atReturn, afterTurn, Atoms, Fun, givenOf, tables, tablesOf, Given, Item, Seq, Sq, anyQ, atRet, lands, runs, ‵, raw, ⋆, _$_, _∵_, !, qed, move, keep, drop, group}
-use Rattle.query_loop.proofs.Prelude.{use1, split, join, rewrite, fsplit, fjoin, feqL, suffices, frame, done, agg, whole, sub, look-in, Below, Opds, look, store, init, forget, stop, hop, fld, from, load, addr, lit, of-opd, bin, and-then, no-more, assigns, land, again, blocks, exec, first}
-use Rattle.query_loop.proofs.Prelude.{leaves-loop, loops, goes-on, returns, enter, alloc1, alloc0, params1, pass1, pass0, free1, free0, fmOf, u32, bool, Is, bool-makes, now, sliceTy, sliceVal, Room, owned, nothing, Clauses, onEntry, cited, says, ends-at, land-last, le-ltb, lt-ltb, ltb-false}
-use Rattle.query_loop.proofs.Prelude.{ltb-true, matches, QueryKind, Scan, Test, Known, Row, RowInStore, RowNeeded, ScanStarts, ScanSteps, CanStart, ScanInvariant, allPass, scanned-all}
+use Rattle.query_loop.proofs.Prelude.{_≡_, refl, sym, subst, _∙_, ℕ, _<_, _≤_, Bool, true, false, List, [], _∷_, ltb, length, URA, fullShare, Body, Place, Ty, Operand, call, erased, mut, named, seq, tyBool, tyInt, tyRef, w32, w64, Val, vbool, vint, SProp, ent, emp, id⊢, via, fst∗, Lft, Share, GName, ftrue, fsep, flft, fat, Memory, Routine, Heap, Env, Loops, Tables, Wp, WpFn, afterBlock, afterSeq, atReturn, afterTurn, Atoms, Fun, givenOf, tables, tablesOf, Given, Item, Seq, Sq, anyQ, atRet, lands, runs, ‵, raw, ⋆, _$_, _∵_, !, qed, move, keep, drop, group, use1, split, join, rewrite, fsplit, fjoin, feqL, suffices, frame, done, agg, whole, sub, look-in, Below, Opds, look, store, init, forget, stop, hop, fld, from, load, addr, lit, of-opd, bin, and-then, no-more, assigns, land, again, blocks, exec, first, leaves-loop, loops, goes-on, returns, enter, alloc1, alloc0, params1, pass1, pass0, free1, free0, fmOf, u32, bool, Is, bool-makes, now, sliceTy, sliceVal, Room, owned, nothing, Clauses, onEntry, cited, says, ends-at, land-last, le-ltb, lt-ltb, ltb-false, ltb-true, matches, QueryKind, Scan, Test, Known, Row, RowInStore, RowNeeded, ScanStarts, ScanSteps, CanStart, ScanInvariant, allPass, scanned-all}
 use types.Kit as Kit
 use denote.Enum.Laws as EL
 use denote.Struct.Laws as LL

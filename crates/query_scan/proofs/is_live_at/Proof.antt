@@ -1,6 +1,5 @@
 -- `query_scan::is_live_at` meets its contract. Assumes nothing.
-use Rattle.query_scan.proofs.Prelude.{sym, ap, _∙_, not, arith, needs}
-use Rattle.constraints.specs.Laws.Rows.{live-first}
+use Rattle.query_scan.proofs.Prelude.{sym, ap, _∙_, not, arith, needs, live-first}
 use Rattle.query_scan.proofs.is_live_at.Statement.{statement}
 use Rattle.query_scan.proofs.is_live_at.Tie as tie
 

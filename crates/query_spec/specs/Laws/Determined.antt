@@ -1,22 +1,10 @@
 -- Each query's contract determines the outcome: two outcomes that both meet it, on the same input, have the same answer and the
 -- same output. So it excludes every program with another outcome. A query uses only the header and the row store, so no choice is
 -- left on any stores. Assumes nothing.
-use Prim.Native.Nat.{ℕ}
-use mathlib.Core.Path.{_≡_, sym, ap, _∙_}
-use mathlib.Core.Logic.{⊎-elim}
-use mathlib.Core.List.{List}
-use Rattle.refusals.specs.Laws.Replies.{some-number}
-use Rattle.refusals.specs.Laws.Determined.{Same}
+use Rattle.query_spec.specs.Laws.Prelude.{ℕ, _≡_, sym, ap, _∙_, ⊎-elim, List, some-number, Same, Constraint, Header, MatchAnswer, Refused, Match, NextPlace, None, At, PageAnswer}
 use Rattle.offsets.specs.declared.SubsetAnswer.{SubsetAnswer}
 use Rattle.offsets.specs.Subsets.{Subset}
 use Rattle.offsets.specs.Laws.Subsets.{answered-determined}
-use Rattle.constraints.specs.declared.Constraint.{Constraint}
-use Rattle.table.specs.declared.Header.{Header}
-use Rattle.query_spec.specs.declared.MatchAnswer.{MatchAnswer}
-use Rattle.query_spec.specs.declared.MatchAnswer.the-variants.{Refused, Match}
-use Rattle.query_spec.specs.declared.NextPlace.{NextPlace}
-use Rattle.query_spec.specs.declared.NextPlace.the-variants.{None, At}
-use Rattle.query_spec.specs.declared.PageAnswer.{PageAnswer}
 use Rattle.query_spec.specs.declared.PageAnswer.the-variants.{Refused as PageRefused, Page as Paged}
 use Rattle.query_spec.specs.Queries.{nextView, PageReply, pageView, matchView, RefinedOne, RefinedList, Matched, PageRead}
 

@@ -1,21 +1,8 @@
 -- The ids that a page visits: each is written, has a dead row, or has a live row that fails a condition. Assumes nothing.
-use Prim.Native.Nat.{ℕ, _+_}
-use mathlib.Core.Path.{_≡_, refl, sym, ap, _∙_}
-use mathlib.Core.Logic.{inl, inr}
-use mathlib.Core.Bool.{not, _&&_}
-use mathlib.Core.List.{List, [], _∷_}
-use native.Mathlib.Decide.{ℕ-discrete}
-use native.Mathlib.Omega.{arith}
-use lib.ListN.{length}
+use Rattle.query_spec.specs.Laws.Prelude.{ℕ, _+_, _≡_, refl, sym, ap, _∙_, inl, inr, not, _&&_, List, [], _∷_, ℕ-discrete, arith, length, split, Reply, refused, accepted, reply-refused, reply-accepted, Constraint, Header, Page}
 use Rattle.lists.specs.Lists.{filter, count, all, rowAt}
-use Rattle.lists.specs.Laws.Filter.{split}
-use Rattle.refusals.specs.Refusals.{Reply, refused, accepted}
-use Rattle.refusals.specs.Laws.Replies.{reply-refused, reply-accepted}
 use Rattle.offsets.specs.Subsets.{Subset}
-use Rattle.constraints.specs.declared.Constraint.{Constraint}
 use Rattle.constraints.specs.Constraints.{met, isLive, meets}
-use Rattle.table.specs.declared.Header.{Header}
-use Rattle.query_spec.specs.declared.Page.{Page}
 use Rattle.query_spec.specs.declared.PageAnswer.the-variants.{Page as Paged}
 use Rattle.query_spec.specs.Queries.{matches, deadAmong, pageRefusal, visited, nextPlace, pageIds, nextView, PageReply, pageReply, pageView, PageRead}
 

@@ -2,35 +2,9 @@
 -- except for the program's choices: in a table the key store's slots below 2 × capacity, after a compaction the compaction words
 -- needed, and after a refresh the index words needed. With another index store, it is also open which of the rows that mention a
 -- value are staged. Assumes nothing.
-use Prim.Native.Nat.{ℕ, _<_}
-use mathlib.Core.Path.{_≡_, refl, sym, ap, _∙_}
-use mathlib.Core.Logic.{_⊎_, inl, inr}
-use mathlib.Core.Bool.{true, false}
-use mathlib.Core.List.{List, [], map}
-use native.Mathlib.Omega.{arith}
-use lib.ListN.{length}
-use Rattle.lists.specs.Lists.{any}
+use Rattle.replay.specs.Laws.Prelude.{ℕ, _<_, _≡_, refl, sym, ap, _∙_, _⊎_, inl, inr, true, false, List, [], map, arith, length, any, some-number, refused-same, Opening, openRefusal, opened, LentCall, afterAll, Header, TableAnswer, Refused, Table, Stores, Body, stores, joined, CompactionWords, lengths, Represents, SlotsPast, WordsPast, table-view-injective, opening-done, isNew, IndexSound, Steps, steps-represents, SameCells, steps-determined, Request, isRefresh, requested, IndexPast, served-steps, callsLent, MadeFrom, Replayed}
 use Rattle.refusals.specs.Refusals.{accepted, reply, outcome}
-use Rattle.refusals.specs.Laws.Replies.{some-number}
-use Rattle.refusals.specs.Laws.Determined.{refused-same}
-use Rattle.plain_table.specs.Staged.{Opening}
-use Rattle.plain_table.specs.Refusing.{openRefusal}
-use Rattle.plain_table.specs.Plain.{opened}
-use Rattle.plain_table.specs.Calls.{LentCall, afterAll}
-use Rattle.table.specs.declared.Header.{Header}
-use Rattle.table.specs.declared.TableAnswer.{TableAnswer}
-use Rattle.table.specs.declared.TableAnswer.the-variants.{Refused, Table}
 use Rattle.table.specs.Numbers.{tableView}
-use Rattle.table.specs.Contracts.{Stores, Body, stores, joined, CompactionWords, lengths, Represents, SlotsPast, WordsPast}
-use Rattle.table.specs.Laws.Answers.{table-view-injective}
-use Rattle.table.specs.Laws.Keeps.{opening-done}
-use Rattle.refresh_spec.specs.Index.{isNew, IndexSound}
-use Rattle.history.specs.Histories.{Steps}
-use Rattle.history.specs.Laws.Calls.{steps-represents}
-use Rattle.history.specs.Laws.Determined.{SameCells, steps-determined}
-use Rattle.replay_calls.specs.Requests.{Request, isRefresh, requested, IndexPast}
-use Rattle.replay_calls.specs.Laws.Requests.{served-steps}
-use Rattle.replay.specs.Replays.{callsLent, MadeFrom, Replayed}
 use Rattle.replay.specs.Laws.Theorem.{replay-requested, replay-index}
 
 -- the result of a replay

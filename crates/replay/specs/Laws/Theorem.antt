@@ -1,35 +1,8 @@
 -- An opening and the requests after it are a history, so term 3 of the order holds for the resulting stores. Assumes nothing.
-use Prim.Native.Nat.{ℕ, zero, suc, _<_}
-use mathlib.Core.Path.{_≡_, refl, sym, ap, _∙_}
-use mathlib.Core.Logic.{_⊎_, inl, inr}
-use mathlib.Core.Bool.{true, false}
-use mathlib.Core.List.{List, [], map}
-use native.Mathlib.Omega.{arith}
-use lib.ListN.{length}
-use Rattle.lists.specs.Lists.{any}
+use Rattle.replay.specs.Laws.Prelude.{ℕ, zero, suc, _<_, _≡_, refl, sym, ap, _∙_, _⊎_, inl, inr, true, false, List, [], map, arith, length, any, Opening, openRefusal, Call, LentCall, afterAll, Header, TableAnswer, Refused, Table, headerOf, Stores, Body, body, stores, joined, CompactionWords, lengths, Represents, SlotsPast, Opened, accepted-number, opening-done, isNew, IndexSound, end, History, Claimed, steps-represents, history-whole, term-three, Request, isRefresh, requested, lentAll, Made, served-steps, index-unused, index-past, calls-requested, calls-plain, index-sound, callsLent, MadeFrom, Replayed}
 use Rattle.refusals.specs.Refusals.{Reply, refused, reply, outcome}
-use Rattle.plain_table.specs.Staged.{Opening}
-use Rattle.plain_table.specs.Refusing.{openRefusal}
 use Rattle.plain_table.specs.Plain.{opened}
-use Rattle.plain_table.specs.Calls.{Call, LentCall, afterAll}
-use Rattle.table.specs.declared.Header.{Header}
-use Rattle.table.specs.declared.TableAnswer.{TableAnswer}
-use Rattle.table.specs.declared.TableAnswer.the-variants.{Refused, Table}
 use Rattle.table.specs.Numbers.{tableView}
-use Rattle.table.specs.Stores.{headerOf}
-use Rattle.table.specs.Contracts.{Stores, Body, body, stores, joined, CompactionWords, lengths, Represents, SlotsPast, Opened}
-use Rattle.table.specs.Laws.Replies.{accepted-number}
-use Rattle.table.specs.Laws.Keeps.{opening-done}
-use Rattle.refresh_spec.specs.Index.{isNew, IndexSound}
-use Rattle.history.specs.Histories.{end, History}
-use Rattle.history.specs.Claim.{Claimed}
-use Rattle.history.specs.Laws.Calls.{steps-represents}
-use Rattle.history.specs.Laws.Further.{history-whole}
-use Rattle.history.specs.Laws.Theorem.{term-three}
-use Rattle.replay_calls.specs.Requests.{Request, isRefresh, requested, lentAll}
-use Rattle.replay_calls.specs.inner.Making.{Made}
-use Rattle.replay_calls.specs.Laws.Requests.{served-steps, index-unused, index-past, calls-requested, calls-plain, index-sound}
-use Rattle.replay.specs.Replays.{callsLent, MadeFrom, Replayed}
 
 -- ---- the claim
 

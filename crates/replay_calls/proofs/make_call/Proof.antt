@@ -1,8 +1,5 @@
 -- `replay_calls::make_call` meets its contract. Assumes nothing.
-use native.Mathlib.Omega.{arith}
-use Rattle.replay_calls.specs.Laws.Encoding.{call-merge, call-compact, call-clear, call-refresh, call-none}
-use Rattle.replay_calls.specs.Laws.Making.{none-made, merging-made, compacting-made, clearing-made, index-made}
-use borrow.Author.Needs.{needs}
+use Rattle.replay_calls.proofs.Prelude.{arith, call-merge, call-compact, call-clear, call-refresh, call-none, none-made, merging-made, compacting-made, clearing-made, index-made, needs}
 use Rattle.replay_calls.proofs.make_call.Statement.{statement}
 use Rattle.replay_calls.proofs.make_call.Tie as tie
 

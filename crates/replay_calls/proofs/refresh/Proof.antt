@@ -1,8 +1,5 @@
 -- `replay_calls::refresh` meets its contract. Assumes nothing.
-use native.Mathlib.Omega.{arith}
-use Rattle.replay_calls.specs.Laws.Encoding.{refresh-none, refresh-some}
-use Rattle.replay_calls.specs.Laws.Making.{nothing-refreshed, refreshing-made}
-use borrow.Author.Needs.{needs}
+use Rattle.replay_calls.proofs.Prelude.{arith, refresh-none, refresh-some, nothing-refreshed, refreshing-made, needs}
 use Rattle.replay_calls.proofs.refresh.Statement.{statement}
 use Rattle.replay_calls.proofs.refresh.Tie as tie
 

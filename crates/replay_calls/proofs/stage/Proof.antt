@@ -1,9 +1,5 @@
 -- `replay_calls::stage` meets its contract. Assumes nothing.
-use mathlib.Core.Path.{_∙_}
-use native.Mathlib.Omega.{arith}
-use Rattle.replay_calls.specs.Laws.Encoding.{call-insert, call-remove, call-row, row-none, row-some}
-use Rattle.replay_calls.specs.Laws.Making.{nothing-staged, staging-made}
-use borrow.Author.Needs.{needs}
+use Rattle.replay_calls.proofs.Prelude.{_∙_, arith, call-insert, call-remove, call-row, row-none, row-some, nothing-staged, staging-made, needs}
 use Rattle.replay_calls.proofs.stage.Statement.{statement}
 use Rattle.replay_calls.proofs.stage.Tie as tie
 

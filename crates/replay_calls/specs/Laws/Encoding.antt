@@ -1,15 +1,5 @@
 -- The request of each kind. Assumes nothing.
-use Prim.Native.Nat.{ℕ, suc, _+_, _-_, _≤_, _<_}
-use mathlib.Core.Path.{_≡_, refl, sym, ap, _∙_}
-use mathlib.Core.List.{List, [], _∷_}
-use native.Mathlib.Omega.{arith}
-use lib.ListN.{length, take, drop, getD}
-use borrow.Author.Tests.{ne-eqb, lt-ltb, le-ltb}
-use Rattle.lists.specs.Laws.Parts.{part-to-end}
-use Rattle.plain_table.specs.Staged.{insert, removeKey, removeRow}
-use Rattle.plain_table.specs.Refreshing.{Refresh}
-use Rattle.plain_table.specs.Calls.{staging, merging, compacting, clearing}
-use Rattle.replay_calls.specs.Requests.{make, refresh}
+use Rattle.replay_calls.specs.Laws.Prelude.{ℕ, suc, _+_, _-_, _≤_, _<_, _≡_, refl, sym, ap, _∙_, List, [], _∷_, arith, length, take, drop, getD, ne-eqb, lt-ltb, le-ltb, part-to-end, insert, removeKey, removeRow, Refresh, staging, merging, compacting, clearing, make, refresh}
 use Rattle.replay_calls.specs.Encoding.{rowRemoval, refreshIn, requestOf}
 
 module _ (kind : ℕ) (words : List ℕ) where

@@ -1,32 +1,10 @@
 -- Requests executed one after another, and the step of each. Assumes nothing.
-use Prim.Native.Nat.{ℕ}
-use mathlib.Core.Path.{_≡_, refl, sym, ap, _∙_}
-use mathlib.Core.Logic.{inl, inr}
-use mathlib.Core.List.{List, [], _∷_, _++_, map-append}
-use native.Mathlib.Omega.{arith}
-use Rattle.refusals.specs.Laws.Replies.{some-number}
-use Rattle.plain_table.specs.Staged.{Staged}
+use Rattle.replay_calls.specs.Laws.Prelude.{ℕ, _≡_, refl, sym, ap, _∙_, inl, inr, List, [], _∷_, _++_, map-append, arith, some-number, Staged, Refresh, onward-all, accepted-done, Header, TableAnswer, MergeAnswer, tableView, mergeView, mergeRefusal, compactRefusal, Stores, stores, body, CompactionWords, compactionWords, lengths, Represents, SlotsPast, WordsPast, headerAfter, headerMerged, Staging, Merging, Compacting, Clearing, merge-checks, compact-checks, RefreshAnswer, refreshView, headerRefreshed, Refreshing, index-decided, steps-represents, Request, make, refresh, lentTo, lentAll, Served, made, refreshed, refreshed-unsound, end, next, Made, MadeOnPending, MadeOnIndex}
 use Rattle.plain_table.specs.Refusing.{Lengths, storesShort, wordsShort, compactChecks}
 use Rattle.plain_table.specs.Plain.{Plain, compacted}
-use Rattle.plain_table.specs.Refreshing.{Refresh}
 use Rattle.plain_table.specs.Calls.{Call, staging, merging, compacting, clearing, refusal, done, after, LentCall, afterAll}
-use Rattle.plain_table.specs.Laws.Notes.{onward-all}
-use Rattle.plain_table.specs.Laws.Calls.{accepted-done}
-use Rattle.table.specs.declared.Header.{Header}
-use Rattle.table.specs.declared.TableAnswer.{TableAnswer}
-use Rattle.table.specs.declared.MergeAnswer.{MergeAnswer}
-use Rattle.table.specs.Numbers.{tableView, mergeView}
-use Rattle.table.specs.Refusing.{mergeRefusal, compactRefusal}
-use Rattle.table.specs.Contracts.{Stores, stores, body, CompactionWords, compactionWords, lengths, Represents, SlotsPast, WordsPast, headerAfter, headerMerged, Staging, Merging, Compacting, Clearing}
-use Rattle.table.specs.Laws.Checks.{merge-checks, compact-checks}
-use Rattle.refresh_spec.specs.declared.RefreshAnswer.{RefreshAnswer}
-use Rattle.refresh_spec.specs.Refreshes.{refreshView, headerRefreshed, Refreshing}
-use Rattle.refresh_spec.specs.Laws.Decided.{index-decided}
 use Rattle.history.specs.Histories.{stages, merges, compacts, clears, refreshes, refreshes-unsound}
-use Rattle.history.specs.Laws.Calls.{steps-represents}
-use Rattle.replay_calls.specs.Requests.{Request, make, refresh, lentTo, lentAll, Served, made, refreshed, refreshed-unsound, end, next}
 use Rattle.replay_calls.specs.Laws.Requests.{served-steps, served-then}
-use Rattle.replay_calls.specs.inner.Making.{Made, MadeOnPending, MadeOnIndex}
 
 -- no request
 pub none-made : {requests : List Request} (l : Lengths) (s : Stores) (w : CompactionWords) (index : List ℕ) → requests ≡ [] → Made requests l s w index s w index

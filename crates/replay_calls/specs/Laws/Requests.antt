@@ -1,36 +1,11 @@
 -- Requests executed one after another: they are steps of a history; their effect on the index store; and that with a new index
 -- store the calls are those requested. Assumes nothing.
-use Prim.Native.Nat.{ℕ, _+_, _*_, _-_, _≤_}
-use mathlib.Core.Path.{_≡_, refl, sym, ap, _∙_}
-use mathlib.Core.Logic.{inl, inr}
-use mathlib.Core.Bool.{true, false, false≢true}
-use mathlib.Core.List.{List, [], _∷_, _++_, map, append-nil}
-use native.Mathlib.Nat.{mul-le-mul-left}
-use native.Mathlib.Omega.{arith}
-use lib.ListN.{length, drop}
-use lib.Seq.{drop-drop}
-use borrow.Author.Tests.{ltb-false}
+use Rattle.replay_calls.specs.Laws.Prelude.{ℕ, _+_, _*_, _-_, _≤_, _≡_, refl, sym, ap, _∙_, inl, inr, true, false, false≢true, List, [], _∷_, _++_, map, append-nil, mul-le-mul-left, arith, length, drop, drop-drop, ltb-false, or-no-left, or-no-right, some-number, Opening, Lengths, Plain, firstRefusal-no, firstRefusal-rest, onward-all, Header, Stores, body, Represents, RefreshAnswer, isNew, IndexSound, number, ownRefresh, OwnIndex, adopted, other-call, refreshes, step-represents, own-indexes-sound, behind-nothing, whole-step}
 use Rattle.lists.specs.Lists.{any}
-use Rattle.lists.specs.Laws.All.{or-no-left, or-no-right}
-use Rattle.refusals.specs.Laws.Replies.{some-number}
-use Rattle.plain_table.specs.Staged.{Opening}
-use Rattle.plain_table.specs.Refusing.{Lengths}
-use Rattle.plain_table.specs.Plain.{Plain}
 use Rattle.plain_table.specs.Refreshing.{Refresh, refreshChecks}
 use Rattle.plain_table.specs.Calls.{Call, refreshing, afterAll, LentCall}
-use Rattle.plain_table.specs.Laws.Calls.{firstRefusal-no, firstRefusal-rest}
-use Rattle.plain_table.specs.Laws.Notes.{onward-all}
-use Rattle.table.specs.declared.Header.{Header}
-use Rattle.table.specs.Contracts.{Stores, body, Represents}
-use Rattle.refresh_spec.specs.declared.RefreshAnswer.{RefreshAnswer}
-use Rattle.refresh_spec.specs.Index.{isNew, IndexSound}
 use Rattle.refresh_spec.specs.Refreshes.{refreshRefusal, Refreshing}
-use Rattle.refresh_spec.specs.Laws.Keeps.{number}
 use Rattle.history.specs.Histories.{refreshedStores, Called, behind, Steps, end as steps-end, next as steps-next, History}
-use Rattle.history.specs.Refreshes.{ownRefresh, OwnIndex, adopted, other-call, refreshes}
-use Rattle.history.specs.Laws.Calls.{step-represents}
-use Rattle.history.specs.Laws.Refreshes.{own-indexes-sound}
-use Rattle.history.specs.Laws.Further.{behind-nothing, whole-step}
 use Rattle.replay_calls.specs.Requests.{Request, make, refresh, isRefresh, requested, IndexPast, lentTo, lentAll, Served, made, refreshed, refreshed-unsound, ServedAll, end, next}
 
 -- ---- steps of a history

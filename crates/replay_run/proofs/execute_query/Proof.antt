@@ -1,8 +1,6 @@
 -- `replay_run::execute_query` meets its contract. Assumes nothing.
-use native.Mathlib.Omega.{arith}
-use Rattle.replay_run.specs.Laws.Executing.{execute-first, execute-second, execute-neither}
+use Rattle.replay_run.proofs.Prelude.{arith, execute-first, execute-second, execute-neither, needs}
 use Rattle.replay_run.proofs.RunSteps.{lent-count}
-use borrow.Author.Needs.{needs}
 use Rattle.replay_run.proofs.execute_query.Statement.{statement}
 use Rattle.replay_run.proofs.execute_query.Tie as tie
 

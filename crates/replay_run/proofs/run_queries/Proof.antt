@@ -1,7 +1,6 @@
 -- `replay_run::run_queries` meets its contract. Assumes nothing.
-use mathlib.Core.Path.{refl}
+use Rattle.replay_run.proofs.Prelude.{refl, needs}
 use Rattle.replay_run.proofs.RunSteps.{room-first, room-second, room-alike, made-within}
-use borrow.Author.Needs.{needs}
 use Rattle.replay_run.proofs.run_queries.Statement.{statement}
 use Rattle.replay_run.proofs.run_queries.Tie as tie
 

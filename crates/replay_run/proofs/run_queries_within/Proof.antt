@@ -1,10 +1,6 @@
 -- `replay_run::run_queries_within` meets its contract. The loop's invariant: the remaining queries lead to the result of all of them.
 -- Assumes nothing.
-use Prim.Native.Nat.{_-_}
-use mathlib.Core.Path.{sym, _∙_}
-use native.Mathlib.Omega.{arith}
-use lib.ListN.{length}
-use borrow.Author.Needs.{needs}
+use Rattle.replay_run.proofs.Prelude.{_-_, sym, _∙_, arith, length, needs}
 use Rattle.replay_run.proofs.RunSteps.{Going, going-begin, going-again, going-end}
 use Rattle.replay_run.proofs.run_queries_within.Statement.{statement}
 use Rattle.replay_run.proofs.run_queries_within.Tie as tie

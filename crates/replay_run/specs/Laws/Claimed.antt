@@ -1,36 +1,9 @@
 -- The result of `run_queries` is that of a run, so the claim of the order's term 3 holds for it; and if the sort entries are sound, it is
 -- determined by the stores and the queries alone. Assumes nothing.
-use Prim.Native.Nat.{ℕ}
-use mathlib.Core.Path.{_≡_, refl, sym, ap, _∙_}
-use mathlib.Core.Logic.{inl, inr}
-use mathlib.Core.Bool.{true}
-use mathlib.Core.Option.{Option, none, some}
-use mathlib.Core.List.{List, [], _∷_, _++_}
-use native.Mathlib.Omega.{arith}
-use lib.ListN.{length, replicate, length-replicate}
-use lib.Seq.{take-length}
-use Rattle.lists.specs.Lists.{filter, rising}
-use Rattle.refusals.specs.Refusals.{Reply, refused, accepted, reply}
-use Rattle.refusals.specs.Laws.Replies.{some-number, ruled-refused}
+use Rattle.replay_run.specs.Laws.Prelude.{ℕ, _≡_, refl, sym, ap, _∙_, inl, inr, true, Option, none, some, List, [], _∷_, _++_, arith, length, replicate, length-replicate, take-length, filter, rising, Reply, refused, accepted, reply, some-number, ruled-refused, Constraint, entriesOf, entriesSound, Opening, LentCall, Header, RangeAnswer, rangeView, fastRefusal, Stores, stores, fastSubset, RangeRead, reply-refused, reply-accepted, History, wanted, by-reply, term-three, RunAnswer, shorter, RunMade}
 use Rattle.offsets.specs.Subsets.{Subset, members}
-use Rattle.constraints.specs.declared.Constraint.{Constraint}
-use Rattle.sort_entries.specs.Entries.{entriesOf, entriesSound}
-use Rattle.plain_table.specs.Staged.{Opening}
-use Rattle.plain_table.specs.Calls.{LentCall}
-use Rattle.table.specs.declared.Header.{Header}
-use Rattle.table.specs.declared.RangeAnswer.{RangeAnswer}
-use Rattle.table.specs.Numbers.{rangeView}
-use Rattle.table.specs.Refusing.{fastRefusal}
-use Rattle.table.specs.Contracts.{Stores, stores, fastSubset, RangeRead}
-use Rattle.table.specs.Laws.Replies.{reply-refused, reply-accepted}
-use Rattle.history.specs.Histories.{History}
 use Rattle.history.specs.Runs.{Query, refineOne, refineList, intersectWith, intersectRange, Queried, one-refined, list-refined, intersected, range-intersected, range-nothing, Run, end as run-end, next as run-next, Outcome, outcome}
-use Rattle.history.specs.Claim.{wanted}
-use Rattle.history.specs.Laws.Queries.{by-reply}
-use Rattle.history.specs.Laws.Theorem.{term-three}
-use Rattle.replay_queries.specs.declared.RunAnswer.{RunAnswer}
 use Rattle.replay_queries.specs.Outcomes.{subsetLeft, rangeStep, queried, QueriedAll, end, next}
-use Rattle.replay_run.specs.RunQueries.{shorter, RunMade}
 
 -- ---- a run
 

@@ -1,19 +1,8 @@
 -- The contract of `run_queries` determines the outcome: on a table, the ids left in their form and order, whether an accepted query
 -- refined, how many were taken, and everything that is never written. Which lent list has the ids is the program's choice.
 -- Assumes nothing.
-use Prim.Native.Nat.{ℕ}
-use mathlib.Core.Path.{_≡_, sym, ap, _∙_}
-use mathlib.Core.Bool.{true}
-use mathlib.Core.List.{List}
-use lib.ListN.{drop}
-use Rattle.lists.specs.Lists.{any}
+use Rattle.replay_run.specs.Laws.Prelude.{ℕ, _≡_, sym, ap, _∙_, true, List, drop, any, entriesOf, entriesSound, Header, Query, refines, Outcome, RunAnswer, subsetLeft, shorter, RunMade}
 use Rattle.offsets.specs.Subsets.{Subset}
-use Rattle.sort_entries.specs.Entries.{entriesOf, entriesSound}
-use Rattle.table.specs.declared.Header.{Header}
-use Rattle.history.specs.Runs.{Query, refines, Outcome}
-use Rattle.replay_queries.specs.declared.RunAnswer.{RunAnswer}
-use Rattle.replay_queries.specs.Outcomes.{subsetLeft}
-use Rattle.replay_run.specs.RunQueries.{shorter, RunMade}
 use Rattle.replay_run.specs.Laws.Claimed.{made-leaves}
 
 -- the result of a run

@@ -1,18 +1,9 @@
 -- One query run on the ids left, and one after another. Assumes nothing.
-use Prim.Native.Nat.{ℕ, _≤_}
-use mathlib.Core.Path.{_≡_, refl}
-use mathlib.Core.List.{List, _++_, append-assoc}
-use lib.ListN.{length, take}
-use borrow.Author.Tests.{ne-eqb}
+use Rattle.replay_run.specs.Laws.Prelude.{ℕ, _≤_, _≡_, refl, List, _++_, append-assoc, length, take, ne-eqb, Header, Query, Outcome, RunAnswer, Executed, QueryExecuted}
 use Rattle.offsets.specs.declared.SubsetHead.{SubsetHead}
 use Rattle.offsets.specs.Subsets.{Subset}
 use Rattle.offsets.specs.Answers.{subsetOf}
-use Rattle.table.specs.declared.Header.{Header}
-use Rattle.history.specs.Runs.{Query, Outcome}
-use Rattle.replay_queries.specs.declared.RunAnswer.{RunAnswer}
 use Rattle.replay_queries.specs.Outcomes.{idsAt, subsetLeft, behind, QueriedAll, end, next}
-use Rattle.replay_queries.specs.inner.Executing.{Executed}
-use Rattle.replay_run.specs.inner.Executing.{QueryExecuted}
 
 -- ---- one query
 

@@ -1,8 +1,5 @@
 -- `short_histories::is_known` meets its contract. Assumes nothing.
-use Rattle.short_histories.proofs.Prelude.{_-_, _≡_, sym, arith, length, drop, needs}
-use lib.Dec.{ltb}
-use Rattle.lists.specs.Lists.{all}
-use Rattle.short_histories.specs.Sequences.{known}
+use Rattle.short_histories.proofs.Prelude.{_-_, _≡_, sym, arith, length, drop, needs, ltb, all, known}
 use Rattle.short_histories.proofs.LoopSteps.{too-long, known-start, unknown-here, known-on, known-end}
 use Rattle.short_histories.proofs.is_known.Statement.{statement}
 use Rattle.short_histories.proofs.is_known.Tie as tie

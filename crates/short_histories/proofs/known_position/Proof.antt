@@ -1,7 +1,5 @@
 -- `short_histories::known_position` meets its contract. Assumes nothing.
-use Rattle.short_histories.proofs.Prelude.{_+_, _-_, _≤_, _≡_, sym, _∙_, arith, length, take, needs}
-use Rattle.short_histories.specs.Sequences.{positionOf}
-use Rattle.short_histories.specs.Laws.Positions.{position-below, position-nothing}
+use Rattle.short_histories.proofs.Prelude.{_+_, _-_, _≤_, _≡_, sym, _∙_, arith, length, take, needs, positionOf, position-below, position-nothing}
 use Rattle.short_histories.proofs.LoopSteps.{position-on, position-end, prefix-below}
 use Rattle.short_histories.proofs.known_position.Statement.{statement}
 use Rattle.short_histories.proofs.known_position.Tie as tie

@@ -1,6 +1,5 @@
 -- `short_histories::length_at` meets its contract. Assumes nothing.
-use Rattle.short_histories.proofs.Prelude.{_+_, _<_, _≡_, arith, length, needs}
-use Rattle.short_histories.specs.Sequences.{sequenceAt}
+use Rattle.short_histories.proofs.Prelude.{_+_, _<_, _≡_, arith, length, needs, sequenceAt}
 use Rattle.short_histories.proofs.LoopSteps.{steps-short, steps-ended, length-back}
 use Rattle.short_histories.proofs.length_at.Statement.{statement}
 use Rattle.short_histories.proofs.length_at.Tie as tie

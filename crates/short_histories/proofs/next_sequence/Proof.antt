@@ -1,6 +1,5 @@
 -- `short_histories::next_sequence` meets its contract. Assumes nothing.
-use Rattle.short_histories.proofs.Prelude.{sym, _∙_, not-true, not-false, needs}
-use Rattle.short_histories.specs.Laws.Refusals.{next-unknown, next-none, next-written}
+use Rattle.short_histories.proofs.Prelude.{sym, _∙_, not-true, not-false, needs, next-unknown, next-none, next-written}
 use Rattle.short_histories.proofs.next_sequence.Statement.{statement}
 use Rattle.short_histories.proofs.next_sequence.Tie as tie
 

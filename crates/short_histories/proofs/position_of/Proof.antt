@@ -1,6 +1,5 @@
 -- `short_histories::position_of` meets its contract. Assumes nothing.
-use Rattle.short_histories.proofs.Prelude.{sym, _∙_, not-true, not-false, needs}
-use Rattle.short_histories.specs.Laws.Refusals.{position-refused, position-answered}
+use Rattle.short_histories.proofs.Prelude.{sym, _∙_, not-true, not-false, needs, position-refused, position-answered}
 use Rattle.short_histories.proofs.position_of.Statement.{statement}
 use Rattle.short_histories.proofs.position_of.Tie as tie
 

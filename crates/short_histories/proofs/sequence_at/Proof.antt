@@ -1,6 +1,5 @@
 -- `short_histories::sequence_at` meets its contract. Assumes nothing.
-use borrow.Author.Needs.{needs}
-use Rattle.short_histories.specs.Laws.Refusals.{sequence-past-last, sequence-no-room, sequence-written}
+use Rattle.short_histories.proofs.Prelude.{needs, sequence-past-last, sequence-no-room, sequence-written}
 use Rattle.short_histories.proofs.sequence_at.Statement.{statement}
 use Rattle.short_histories.proofs.sequence_at.Tie as tie
 

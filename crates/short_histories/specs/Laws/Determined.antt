@@ -1,20 +1,7 @@
 -- Each contract determines the outcome. Assumes nothing.
-use Prim.Native.Nat.{ℕ}
-use mathlib.Core.Path.{_≡_, refl, sym, ap, _∙_}
-use mathlib.Core.Logic.{⊎-elim}
-use mathlib.Core.List.{List}
-use mathlib.Core.Option.{Option, none, some}
-use lib.ListN.{getD}
-use Rattle.refusals.specs.Refusals.{Reply, refused, accepted}
-use Rattle.refusals.specs.Laws.Replies.{some-number}
-use Rattle.refusals.specs.Laws.Determined.{Same}
-use Rattle.plain_table.specs.Staged.{insert, removeKey, removeRow}
-use Rattle.plain_table.specs.Calls.{Call, staging, merging, compacting, clearing, refreshing, feeding}
-use Rattle.short_histories.specs.declared.StepAnswer.{StepAnswer}
+use Rattle.short_histories.specs.Laws.Prelude.{ℕ, _≡_, refl, sym, ap, _∙_, ⊎-elim, List, Option, none, some, getD, Reply, refused, accepted, some-number, Same, insert, removeKey, removeRow, Call, staging, merging, compacting, clearing, refreshing, feeding, StepAnswer, PositionAnswer, SequenceAnswer}
 use Rattle.short_histories.specs.declared.StepAnswer.the-variants.{Refused as StepRefused, Insert, Remove, Merge}
-use Rattle.short_histories.specs.declared.PositionAnswer.{PositionAnswer}
 use Rattle.short_histories.specs.declared.PositionAnswer.the-variants.{Refused as PositionRefused, Position}
-use Rattle.short_histories.specs.declared.SequenceAnswer.{SequenceAnswer}
 use Rattle.short_histories.specs.declared.SequenceAnswer.the-variants.{Refused as SequenceRefused, None as NoSequence, Written}
 use Rattle.short_histories.specs.Sequences.{stepView, positionView, sequenceView, StepAnswered, PositionAnswered, SequenceAnswered}
 

@@ -1,18 +1,6 @@
 -- The generator, started at the empty sequence, generates the sequences of positions 0, 1, 2 and so on to the last, and then none.
 -- Assumes nothing.
-use Prim.Native.Nat.{ℕ, zero, suc, _≤_, _<_}
-use mathlib.Core.Path.{_≡_, refl, sym, ap, _∙_}
-use mathlib.Core.List.{List, []}
-use native.Mathlib.Numerals.{add-one}
-use native.Mathlib.Decide.{decLt}
-use native.Mathlib.Omega.{arith}
-use lib.ListN.{length, take}
-use Rattle.lists.specs.Lists.{splice}
-use Rattle.lists.specs.Laws.Search.{take-put}
-use Rattle.refusals.specs.Laws.Determined.{Same}
-use Rattle.short_histories.specs.declared.SequenceAnswer.{SequenceAnswer}
-use Rattle.short_histories.specs.declared.SequenceAnswer.the-variants.{Refused, None, Written}
-use Rattle.short_histories.specs.Sequences.{positionOf, sequenceAt, SequenceFound, NextFound}
+use Rattle.short_histories.specs.Laws.Prelude.{ℕ, zero, suc, _≤_, _<_, _≡_, refl, sym, ap, _∙_, List, [], add-one, decLt, arith, length, take, splice, take-put, Same, SequenceAnswer, Refused, None, Written, positionOf, sequenceAt, SequenceFound, NextFound}
 use Rattle.short_histories.specs.Laws.Positions.{known-short, sequenceAt-known, positionOf-sequenceAt, sequenceAt-none}
 use Rattle.short_histories.specs.Laws.Refusals.{sequence-no-room, sequence-written, next-none, next-written}
 use Rattle.short_histories.specs.Laws.Determined.{sequence-determined}

@@ -1,17 +1,6 @@
 -- Sequences of steps as numbers: the place among those of the same length is the number in base 7, the place among all is the
 -- number in base 7 with the digits 1 to 7. Assumes nothing.
-use Prim.Native.Nat.{ℕ, zero, suc, _+_, _*_, _≤_, _<_}
-use mathlib.Core.Path.{_≡_, refl, sym, ap, _∙_}
-use mathlib.Core.Bool.{true}
-use mathlib.Core.List.{List, [], _∷_, _++_}
-use native.Mathlib.Nat.{mul-le-mul-right, mul-assoc, mul-comm}
-use native.Mathlib.Decide.{decLt}
-use native.Mathlib.Omega.{arith}
-use lib.Dec.{ltb}
-use lib.ListN.{length, length-append}
-use borrow.Author.Tests.{ltb-true}
-use Rattle.lists.specs.Lists.{all}
-use Rattle.lists.specs.Laws.All.{all-head, all-tail}
+use Rattle.short_histories.specs.Laws.Prelude.{ℕ, zero, suc, _+_, _*_, _≤_, _<_, _≡_, refl, sym, ap, _∙_, true, List, [], _∷_, _++_, mul-le-mul-right, mul-assoc, mul-comm, decLt, arith, ltb, length, length-append, ltb-true, all, all-head, all-tail}
 
 -- each is one of the seven steps
 abbrev pub Steps : List ℕ → Type 0

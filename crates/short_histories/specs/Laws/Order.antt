@@ -1,16 +1,5 @@
 -- Positions are in document 02's order. Assumes nothing.
-use Prim.Native.Nat.{ℕ, suc, _+_, _*_, _≤_, _<_}
-use mathlib.Core.Path.{_≡_, refl, sym, ap, ap₂, _∙_}
-use mathlib.Core.Bool.{Bool, true, false, _&&_, _||_}
-use mathlib.Core.List.{List, [], _∷_}
-use native.Mathlib.Decide.{decLt}
-use native.Mathlib.Omega.{arith}
-use lib.Dec.{ltb, eqb}
-use lib.ListN.{length}
-use borrow.Author.Tests.{lt-ltb, le-ltb, eq-eqb, ne-eqb}
-use Rattle.lists.specs.Laws.All.{all-tail}
-use Rattle.lists.specs.Laws.Rows.{row-in}
-use Rattle.short_histories.specs.Sequences.{positionOf, known}
+use Rattle.short_histories.specs.Laws.Prelude.{ℕ, suc, _+_, _*_, _≤_, _<_, _≡_, refl, sym, ap, ap₂, _∙_, Bool, true, false, _&&_, _||_, List, [], _∷_, decLt, arith, ltb, eqb, length, lt-ltb, le-ltb, eq-eqb, ne-eqb, all-tail, row-in, positionOf, known}
 use Rattle.short_histories.specs.Laws.Numbers.{Steps, many, shorter, value, number, value-below, shorter-rises}
 use Rattle.short_histories.specs.Laws.Positions.{known-steps, position-number}
 

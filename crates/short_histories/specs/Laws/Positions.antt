@@ -1,17 +1,6 @@
 -- Positions: how many there are, that the two maps are inverse to each other, and the last step of a sequence. Assumes nothing.
-use Prim.Native.Nat.{ℕ, zero, suc, _+_, _-_, _*_, _/_, _%_, _≤_, _<_, suc-le-suc}
-use mathlib.Core.Path.{_≡_, refl, sym, ap, _∙_}
-use mathlib.Core.Logic.{⊎-elim}
-use mathlib.Core.Bool.{true, false}
-use mathlib.Core.List.{List, [], _∷_, _++_}
-use native.Mathlib.Omega.{arith}
-use lib.Dec.{leb, ltb}
-use lib.ListN.{length, getD}
-use borrow.Author.Tests.{leb-true, le-leb, lt-ltb}
+use Rattle.short_histories.specs.Laws.Prelude.{ℕ, zero, suc, _+_, _-_, _*_, _/_, _%_, _≤_, _<_, suc-le-suc, _≡_, refl, sym, ap, _∙_, ⊎-elim, true, false, List, [], _∷_, _++_, arith, leb, ltb, length, getD, leb-true, le-leb, lt-ltb, split, and-left, and-right, and-both, all-snoc, same-refl, same-eq}
 use Rattle.lists.specs.Lists.{all, same}
-use Rattle.lists.specs.Laws.Filter.{split, and-left, and-right}
-use Rattle.lists.specs.Laws.All.{and-both, all-snoc}
-use Rattle.lists.specs.Laws.Rising.{same-refl, same-eq}
 use Rattle.short_histories.specs.Sequences.{shortHistories, placeIn, positionOf, sequenceAt, known}
 use Rattle.short_histories.specs.Laws.Numbers.{Steps, number, shorter-than-seven, number-more, number-short}
 use Rattle.short_histories.specs.Laws.Blocks.{short-histories-are, length-sequencesTo, number-below, number-found, number-none, Numbered, number-at}

@@ -1,18 +1,7 @@
 -- The tests one by one, and the results of the entry points. Assumes nothing.
-use Prim.Native.Nat.{ℕ, suc, _+_, _≤_, _<_}
-use mathlib.Core.Path.{_≡_, refl, sym}
-use mathlib.Core.Bool.{true, false}
-use mathlib.Core.List.{List}
-use mathlib.Core.Option.{none, some}
-use native.Mathlib.Omega.{arith}
-use lib.ListN.{length}
-use borrow.Author.Tests.{lt-ltb, le-ltb, lt-leb, le-leb}
-use Rattle.lists.specs.Lists.{splice}
-use Rattle.lists.specs.Laws.Parts.{splice-nil}
+use Rattle.short_histories.specs.Laws.Prelude.{ℕ, suc, _+_, _≤_, _<_, _≡_, refl, sym, true, false, List, none, some, arith, length, lt-ltb, le-ltb, lt-leb, le-leb, splice, splice-nil, SequenceAnswer, Refused, None, Written}
 use Rattle.refusals.specs.Refusals.{firstRefusal, reply}
 use Rattle.short_histories.specs.declared.PositionAnswer.the-variants.{Refused as PositionRefused, Position}
-use Rattle.short_histories.specs.declared.SequenceAnswer.{SequenceAnswer}
-use Rattle.short_histories.specs.declared.SequenceAnswer.the-variants.{Refused, None, Written}
 use Rattle.short_histories.specs.Sequences.{shortHistories, positionOf, sequenceAt, nextAfter, known, positionRefusal, sequenceRefusal, stepsOf, nextRefusal, positionView, sequenceView, PositionAnswered, SequenceFound, NextFound}
 use Rattle.short_histories.specs.Laws.Positions.{short-histories-counted}
 

@@ -1,17 +1,9 @@
 -- The seven steps in full, and that their table accepts them. Assumes nothing.
-use Prim.Native.Nat.{ℕ, suc, _≤_}
-use mathlib.Core.Path.{_≡_, refl}
-use mathlib.Core.Logic.{_≢_}
-use mathlib.Core.Bool.{Bool, true, false}
-use native.Mathlib.Omega.{arith}
-use lib.Dec.{eqb}
-use borrow.Author.Tests.{le-leb}
+use Rattle.short_histories.specs.Laws.Prelude.{ℕ, suc, _≤_, _≡_, refl, _≢_, Bool, true, false, arith, eqb, le-leb, Call, staging, merging, compacting, clearing, refreshing, feeding, StepAnswer}
 use Rattle.lists.specs.Lists.{all}
 use Rattle.refusals.specs.Refusals.{firstRefusal, reply}
 use Rattle.plain_table.specs.Staged.{Opening, openable, wordsOf}
 use Rattle.plain_table.specs.Refusing.{wrongWidth, noSuchRow, overfull, stageChecks}
-use Rattle.plain_table.specs.Calls.{Call, staging, merging, compacting, clearing, refreshing, feeding}
-use Rattle.short_histories.specs.declared.StepAnswer.{StepAnswer}
 use Rattle.short_histories.specs.declared.StepAnswer.the-variants.{Refused, Insert, Remove, Merge}
 use Rattle.short_histories.specs.Sequences.{thirdCell, inserting, removing, steps, stepCall, stepRefusal, stepView, StepAnswered}
 

@@ -1,12 +1,5 @@
 -- `test_probes::copy_survivor` meets its contract. Assumes nothing.
-use Prim.Native.Nat.{ℕ, _+_, _≤_}
-use mathlib.Core.Path.{_≡_, sym, ap, _∙_}
-use mathlib.Core.List.{List}
-use borrow.Author.Needs.{needs}
-use native.Mathlib.Omega.{arith}
-use lib.ListN.{length, take, drop, length-take, length-drop}
-use Rattle.merge_rules.specs.Rules.{survivor}
-use Rattle.merge_rules.specs.Laws.Rules.{survivor-length}
+use Rattle.test_probes.proofs.Prelude.{ℕ, _+_, _≤_, _≡_, sym, ap, _∙_, List, needs, arith, length, take, drop, length-take, length-drop, survivor, survivor-length}
 use Rattle.test_probes.proofs.copy_survivor.Statement.{statement}
 use Rattle.test_probes.proofs.copy_survivor.Tie as tie
 

@@ -1,9 +1,5 @@
 -- `test_probes::fits` meets its contract. Assumes nothing.
-use Prim.Native.Nat.{ℕ, _*_, _≤_}
-use mathlib.Core.Bool.{false≢true}
-use native.Mathlib.Nat.{mul-le-mul}
-use native.Mathlib.Omega.{arith}
-use borrow.Author.Needs.{needs}
+use Rattle.test_probes.proofs.Prelude.{ℕ, _*_, _≤_, false≢true, mul-le-mul, arith, needs}
 use Rattle.test_probes.proofs.fits.Statement.{statement}
 use Rattle.test_probes.proofs.fits.Tie as tie
 

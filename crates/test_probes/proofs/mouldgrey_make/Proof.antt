@@ -1,7 +1,5 @@
 -- `test_probes::mouldgrey_make` meets its contract. Assumes nothing.
-use borrow.Author.Needs.{needs}
-use native.Mathlib.Omega.{arith}
-use Rattle.test_probes.specs.inner.Parts.{made-nothing, made-done}
+use Rattle.test_probes.proofs.Prelude.{needs, arith, made-nothing, made-done}
 use Rattle.test_probes.proofs.mouldgrey_make.Statement.{statement}
 use Rattle.test_probes.proofs.mouldgrey_make.Tie as tie
 

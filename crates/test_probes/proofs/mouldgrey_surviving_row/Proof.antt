@@ -1,7 +1,5 @@
 -- `test_probes::mouldgrey_surviving_row` meets its contract. Assumes nothing.
-use borrow.Author.Needs.{needs}
-use native.Mathlib.Omega.{arith}
-use Rattle.test_probes.specs.inner.Parts.{survives-nothing, survives-done}
+use Rattle.test_probes.proofs.Prelude.{needs, arith, survives-nothing, survives-done}
 use Rattle.test_probes.proofs.mouldgrey_surviving_row.Statement.{statement}
 use Rattle.test_probes.proofs.mouldgrey_surviving_row.Tie as tie
 

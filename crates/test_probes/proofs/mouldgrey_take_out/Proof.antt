@@ -1,7 +1,5 @@
 -- `test_probes::mouldgrey_take_out` meets its contract. Assumes nothing.
-use native.Mathlib.Omega.{arith}
-use borrow.Author.Needs.{needs}
-use borrow.Author.Tests.{not-false}
+use Rattle.test_probes.proofs.Prelude.{arith, needs, not-false}
 use Rattle.test_probes.proofs.mouldgrey_take_out.Statement.{statement}
 use Rattle.test_probes.proofs.mouldgrey_take_out.Tie as tie
 

@@ -1,6 +1,5 @@
 -- `vault::columns_refusal` meets its contract. Assumes nothing.
-use borrow.Author.Needs.{needs}
-use Rattle.vault.specs.Laws.Refusals.{too-narrow, too-wide, broken, too-short, none}
+use Rattle.vault.proofs.Prelude.{needs, too-narrow, too-wide, broken, too-short, none}
 use Rattle.vault.proofs.columns_refusal.Statement.{statement}
 use Rattle.vault.proofs.columns_refusal.Tie as tie
 

@@ -1,6 +1,5 @@
 -- `vault::rearrange_block` meets its contract. Assumes nothing.
-use Rattle.vault.proofs.Prelude.{_-_, _≤_, arith}
-use Rattle.vault.specs.inner.Filling.{ordered, placed, Filled}
+use Rattle.vault.proofs.Prelude.{_-_, _≤_, arith, ordered, placed, Filled}
 use Rattle.vault.proofs.Filling.{filled-nothing, filled-columns, columns-end, still-shaped}
 use Rattle.vault.proofs.rearrange_block.Statement.{statement}
 use Rattle.vault.proofs.rearrange_block.Tie as tie

@@ -1,6 +1,5 @@
 -- `vault::rearrange_rows` meets its contract. Assumes nothing.
-use Rattle.vault.proofs.Prelude.{_-_, _≤_, arith}
-use Rattle.vault.specs.inner.Filling.{ordered, placed, Filled}
+use Rattle.vault.proofs.Prelude.{_-_, _≤_, arith, ordered, placed, Filled}
 use Rattle.vault.proofs.Filling.{filled-none, filled-rows, rows-end, still-shaped}
 use Rattle.vault.proofs.rearrange_rows.Statement.{statement}
 use Rattle.vault.proofs.rearrange_rows.Tie as tie

@@ -1,14 +1,5 @@
 -- The contract determines the outcome. Assumes nothing.
-use Prim.Native.Nat.{ℕ}
-use mathlib.Core.Path.{_≡_, refl, sym, _∙_}
-use mathlib.Core.Logic.{⊎-elim}
-use mathlib.Core.List.{List}
-use native.Mathlib.Omega.{arith}
-use lib.ListN.{length}
-use Rattle.refusals.specs.Laws.Replies.{some-number}
-use Rattle.refusals.specs.Laws.Determined.{Same}
-use Rattle.vault.specs.declared.ColumnsAnswer.{ColumnsAnswer}
-use Rattle.vault.specs.declared.ColumnsAnswer.the-variants.{Refused, Written}
+use Rattle.vault.specs.Laws.Prelude.{ℕ, _≡_, refl, sym, _∙_, ⊎-elim, List, arith, length, some-number, Same, ColumnsAnswer, Refused, Written}
 use Rattle.vault.specs.Columns.{columnsView, columnsRefusal, Rearranged}
 
 -- an answer is determined by its reply

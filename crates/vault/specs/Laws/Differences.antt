@@ -1,9 +1,6 @@
 -- One column: differences and sums are inverse to each other; the value at each place. Assumes nothing.
-use Prim.Native.Nat.{ℕ, zero, suc, _^_, _<_}
-use mathlib.Core.Path.{_≡_, refl, ap, ap₂, _∙_}
+use Rattle.vault.specs.Laws.Prelude.{ℕ, zero, suc, _^_, _<_, _≡_, refl, ap, ap₂, _∙_, arith, length, getD}
 use mathlib.Core.List.{List, [], _∷_, zipWith}
-use native.Mathlib.Omega.{arith}
-use lib.ListN.{length, getD}
 use Rattle.vault.specs.Columns.{minus, differences, plus, sumsBelow, sums}
 
 -- each cell is a u32

@@ -1,14 +1,5 @@
 -- "Applying either after the other restores the cells for every list and every width", once for all widths. Assumes nothing.
-use Prim.Native.Nat.{ℕ, _*_, _/_, _%_, _<_}
-use mathlib.Core.Path.{_≡_, sym, ap, ap₂, _∙_}
-use mathlib.Core.Bool.{true}
-use mathlib.Core.List.{List, [], map, append-nil}
-use native.Mathlib.Nat.{mul-comm, mul-div-cancel, div-add-mod'}
-use native.Mathlib.Omega.{arith}
-use lib.ListN.{length, length-map}
-use lib.Seq.{take-all}
-use Rattle.lists.specs.Lists.{rowsOf, flatten}
-use Rattle.lists.specs.Laws.Rows.{widths, length-rowsOf, length-flatten, rowsOf-widths, rowsOf-flatten, flatten-rowsOf}
+use Rattle.vault.specs.Laws.Prelude.{ℕ, _*_, _/_, _%_, _<_, _≡_, sym, ap, ap₂, _∙_, true, List, [], map, append-nil, mul-comm, mul-div-cancel, div-add-mod', arith, length, length-map, take-all, rowsOf, flatten, widths, length-rowsOf, length-flatten, rowsOf-widths, rowsOf-flatten, flatten-rowsOf}
 use Rattle.vault.specs.Columns.{differences, sums, transposed, toColumns, fromColumns, Restores}
 use Rattle.vault.specs.Laws.Differences.{Cells, sums-differences, differences-sums, length-differences, length-sums}
 use Rattle.vault.specs.Laws.Transposed.{length-transposed, transposed-widths, map-widths, transposed-twice, rowsOf-cells, transposed-cells, map-undone}

@@ -1,13 +1,7 @@
 -- Both orders place by place: each cell, by the one above it. Assumes nothing.
-use Prim.Native.Nat.{ℕ, zero, suc, _+_, _*_, _<_}
-use mathlib.Core.Path.{_≡_, refl, sym, ap, ap₂, _∙_}
+use Rattle.vault.specs.Laws.Prelude.{ℕ, zero, suc, _+_, _*_, _<_, _≡_, refl, sym, ap, ap₂, _∙_, mul-comm, arith, length, getD, length-map, getD-map-below, length-rowsOf, getD-rowsOf, getD-rowAt, rowsOf-widths}
 use mathlib.Core.List.{List, [], _∷_, map, zipWith}
-use native.Mathlib.Nat.{mul-comm}
-use native.Mathlib.Omega.{arith}
-use lib.ListN.{length, getD, length-map}
 use Rattle.lists.specs.Lists.{rowsOf, flatten, iota}
-use Rattle.lists.specs.Laws.All.{getD-map-below}
-use Rattle.lists.specs.Laws.Rows.{length-rowsOf, getD-rowsOf, getD-rowAt, rowsOf-widths}
 use Rattle.vault.specs.Columns.{minus, differences, plus, sums, column, transposed, toColumns, fromColumns}
 use Rattle.vault.specs.inner.Filling.{cellAbove}
 use Rattle.vault.specs.Laws.Differences.{Cells, above, differences-at, sums-at}

@@ -1,9 +1,5 @@
 -- The tests one by one, and what is known if they pass. Assumes nothing.
-use Prim.Native.Nat.{ℕ, _%_, _≤_, _<_}
-use mathlib.Core.Path.{_≡_}
-use native.Mathlib.Decide.{decLt, ℕ-discrete}
-use native.Mathlib.Omega.{arith}
-use borrow.Author.Tests.{lt-ltb, le-ltb, eq-eqb, ne-eqb}
+use Rattle.vault.specs.Laws.Prelude.{ℕ, _%_, _≤_, _<_, _≡_, decLt, ℕ-discrete, arith, lt-ltb, le-ltb, eq-eqb, ne-eqb}
 use Rattle.refusals.specs.Refusals.{firstRefusal}
 use Rattle.vault.specs.Columns.{columnsRefusal}
 

@@ -1,17 +1,7 @@
 -- "Applying either after the other restores the cells", for two calls: one accepted, then the other on what it wrote.
 -- Assumes nothing.
-use Prim.Native.Nat.{ℕ, zero, suc, _+_, _%_, _≤_, _<_}
-use mathlib.Core.Path.{_≡_, refl, ap, _∙_}
-use mathlib.Core.List.{List, [], _∷_}
-use native.Mathlib.Decide.{decLt}
-use native.Mathlib.Omega.{arith}
-use lib.Dec.{ltb}
-use lib.ListN.{length, take}
-use borrow.Author.Tests.{lt-ltb, le-ltb, eq-eqb}
-use Rattle.lists.specs.Laws.Parts.{part-splice}
+use Rattle.vault.specs.Laws.Prelude.{ℕ, zero, suc, _+_, _%_, _≤_, _<_, _≡_, refl, ap, _∙_, List, [], _∷_, decLt, arith, ltb, length, take, lt-ltb, le-ltb, eq-eqb, part-splice, ColumnsAnswer, Written}
 use Rattle.refusals.specs.Refusals.{check, firstRefusal, reply}
-use Rattle.vault.specs.declared.ColumnsAnswer.{ColumnsAnswer}
-use Rattle.vault.specs.declared.ColumnsAnswer.the-variants.{Written}
 use Rattle.vault.specs.Columns.{toColumns, fromColumns, columnsRefusal, columnsView, Rearranged, Restored}
 use Rattle.vault.specs.Laws.Differences.{Cells}
 use Rattle.vault.specs.Laws.Inverse.{toColumns-length, fromColumns-length, fromColumns-toColumns, toColumns-fromColumns}

@@ -1,20 +1,6 @@
 -- Rows and columns: the columns of the columns are the rows. Assumes nothing.
-use Prim.Native.Nat.{ℕ, zero, suc, _+_, _*_, _<_}
-use mathlib.Core.Path.{_≡_, refl, sym, ap, ap₂, _∙_}
-use mathlib.Core.Bool.{true}
-use mathlib.Core.List.{List, [], _∷_, map, append-nil}
-use native.Mathlib.Nat.{zero-add}
-use native.Mathlib.Decide.{decLt}
-use native.Mathlib.Omega.{arith}
-use lib.Dec.{eqb}
-use lib.ListN.{length, take, drop, getD, length-map, List·getD-eq-default}
-use lib.Seq.{getD-drop, ext-getD}
-use borrow.Author.Tests.{eqb-true, eq-eqb}
+use Rattle.vault.specs.Laws.Prelude.{ℕ, zero, suc, _+_, _*_, _<_, _≡_, refl, sym, ap, ap₂, _∙_, true, List, [], _∷_, map, append-nil, zero-add, decLt, arith, eqb, length, take, drop, getD, length-map, List·getD-eq-default, getD-drop, ext-getD, eqb-true, eq-eqb, all-getD, all-head, all-tail, all-cons, getD-map-below, length-iota, getD-iota, widths, getD-rowsOf, getD-rowAt, rowsOf-flatten}
 use Rattle.lists.specs.Lists.{all, rowsOf, flatten, iota}
-use Rattle.lists.specs.Laws.Filter.{all-getD}
-use Rattle.lists.specs.Laws.All.{all-head, all-tail, all-cons, getD-map-below}
-use Rattle.lists.specs.Laws.Rising.{length-iota, getD-iota}
-use Rattle.lists.specs.Laws.Rows.{widths, getD-rowsOf, getD-rowAt, rowsOf-flatten}
 use Rattle.vault.specs.Columns.{column, transposed}
 use Rattle.vault.specs.Laws.Differences.{Cells}
 

@@ -1,6 +1,5 @@
 -- `image_write::parts::text_word` meets its contract. Assumes nothing.
-use Rattle.image_write.proofs.Prelude.{sym, needs}
-use Rattle.image_write.specs.Laws.Packed.{getD-packed}
+use Rattle.image_write.proofs.Prelude.{sym, needs, getD-packed}
 use Rattle.image_write.proofs.parts.text_word.Statement.{statement}
 use Rattle.image_write.proofs.parts.text_word.Tie as tie
 

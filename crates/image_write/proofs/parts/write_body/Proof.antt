@@ -1,6 +1,5 @@
 -- `image_write::parts::write_body` meets its contract. Assumes nothing.
-use Rattle.image_write.specs.Laws.Bodies.{body-written}
-use borrow.Author.Needs.{needs}
+use Rattle.image_write.proofs.Prelude.{body-written, needs}
 use Rattle.image_write.proofs.parts.write_body.Statement.{statement}
 use Rattle.image_write.proofs.parts.write_body.Tie as tie
 

@@ -1,7 +1,5 @@
 -- `image_write::parts::write_head` meets its contract. Assumes nothing.
-use Rattle.image_write.proofs.Prelude.{ℕ, _≡_, ap, _∙_, List, arith, length, set, length-set, needs}
-use Rattle.lists.specs.Lists.{splice}
-use Rattle.image_write.specs.Laws.Bodies.{length-header, head-written}
+use Rattle.image_write.proofs.Prelude.{ℕ, _≡_, ap, _∙_, List, arith, length, set, length-set, needs, splice, length-header, head-written}
 use Rattle.image_write.proofs.parts.write_head.Statement.{statement}
 use Rattle.image_write.proofs.parts.write_head.Tie as tie
 

@@ -1,6 +1,5 @@
 -- `image_write::parts::write_stores` meets its contract. Assumes nothing.
-use Rattle.image_write.proofs.Prelude.{arith, needs}
-use Rattle.image_write.specs.Laws.Bodies.{stores-written}
+use Rattle.image_write.proofs.Prelude.{arith, needs, stores-written}
 use Rattle.image_write.proofs.parts.write_stores.Statement.{statement}
 use Rattle.image_write.proofs.parts.write_stores.Tie as tie
 

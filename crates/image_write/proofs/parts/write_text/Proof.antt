@@ -1,11 +1,6 @@
 -- `image_write::parts::write_text` meets its contract. The loop's invariant: the first i words of the text are in the output, which is
 -- otherwise as it was. Assumes nothing.
-use Rattle.image_write.proofs.Prelude.{ℕ, _+_, _-_, _≤_, _≡_, refl, sym, ap₂, _∙_, List, arith, length, take, set, length-set, needs, take-length}
-use Rattle.lists.specs.Lists.{splice}
-use Rattle.lists.specs.Laws.Parts.{splice-nil}
-use Rattle.image_spec.specs.Image.{packed}
-use Rattle.image_spec.specs.Laws.Unique.{length-packed}
-use Rattle.image_write.specs.Laws.Bodies.{write-step}
+use Rattle.image_write.proofs.Prelude.{ℕ, _+_, _-_, _≤_, _≡_, refl, sym, ap₂, _∙_, List, arith, length, take, set, length-set, needs, take-length, splice, splice-nil, packed, length-packed, write-step}
 use Rattle.image_write.proofs.parts.write_text.Statement.{statement}
 use Rattle.image_write.proofs.parts.write_text.Tie as tie
 

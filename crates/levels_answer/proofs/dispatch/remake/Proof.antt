@@ -1,8 +1,5 @@
 -- `levels_answer::dispatch::remake` meets its contract. Assumes nothing.
-use mathlib.Core.Path.{refl}
-use Rattle.levels_text.specs.Laws.Lines.{form-open}
-use Rattle.levels_answer.specs.inner.Letters.{compact-letter, as-letter}
-use borrow.Author.Needs.{needs}
+use Rattle.levels_answer.proofs.Prelude.{refl, form-open, compact-letter, as-letter, needs}
 use Rattle.levels_answer.proofs.dispatch.remake.Statement.{statement}
 use Rattle.levels_answer.proofs.dispatch.remake.Tie as tie
 

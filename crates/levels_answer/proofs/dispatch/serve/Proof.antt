@@ -1,7 +1,5 @@
 -- `levels_answer::dispatch::serve` meets its contract. Assumes nothing.
-use mathlib.Core.Path.{refl}
-use Rattle.levels_answer.specs.inner.Letters.{query-letters, staging-some, as-letter}
-use borrow.Author.Needs.{needs}
+use Rattle.levels_answer.proofs.Prelude.{refl, query-letters, staging-some, as-letter, needs}
 use Rattle.levels_answer.proofs.dispatch.serve.Statement.{statement}
 use Rattle.levels_answer.proofs.dispatch.serve.Tie as tie
 

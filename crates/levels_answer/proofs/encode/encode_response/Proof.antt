@@ -1,10 +1,7 @@
 -- `levels_answer::encode::encode_response` meets its contract. Assumes nothing.
-use native.Mathlib.Omega.{arith}
-use Rattle.levels_text.specs.inner.Appending.{appended-wrote}
+use Rattle.levels_answer.proofs.Prelude.{arith, appended-wrote, encodes-bytes, encodes-nothing, encodes-listing, needs}
 use Rattle.levels_spec.specs.Response.{rangeText}
 use Rattle.levels_spec.specs.inner.Responses.{textOf}
-use Rattle.levels_answer.specs.inner.Encoded.{encodes-bytes, encodes-nothing, encodes-listing}
-use borrow.Author.Needs.{needs}
 use Rattle.levels_answer.proofs.encode.encode_response.Statement.{statement}
 use Rattle.levels_answer.proofs.encode.encode_response.Tie as tie
 

@@ -1,6 +1,5 @@
 -- `levels_answer::encode::list_table` meets its contract. Assumes nothing.
-use Rattle.levels_answer.specs.inner.Encoded.{listed-nothing, listed-all}
-use borrow.Author.Needs.{needs}
+use Rattle.levels_answer.proofs.Prelude.{listed-nothing, listed-all, needs}
 use Rattle.levels_answer.proofs.encode.list_table.Statement.{statement}
 use Rattle.levels_answer.proofs.encode.list_table.Tie as tie
 

@@ -1,7 +1,5 @@
 -- `levels_answer::queries::query` meets its contract. Assumes nothing.
-use Rattle.levels_text.specs.Laws.Lines.{form-range}
-use Rattle.levels_answer.specs.inner.Querying.{range-letter, version-served, list-served, numbered-served, list-letter}
-use borrow.Author.Needs.{needs}
+use Rattle.levels_answer.proofs.Prelude.{form-range, range-letter, version-served, list-served, numbered-served, list-letter, needs}
 use Rattle.levels_answer.proofs.queries.query.Statement.{statement}
 use Rattle.levels_answer.proofs.queries.query.Tie as tie
 

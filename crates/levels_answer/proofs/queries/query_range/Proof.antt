@@ -1,6 +1,5 @@
 -- `levels_answer::queries::query_range` meets its contract. Assumes nothing.
-use Rattle.levels_answer.specs.inner.Querying.{range-served}
-use borrow.Author.Needs.{needs}
+use Rattle.levels_answer.proofs.Prelude.{range-served, needs}
 use Rattle.levels_answer.proofs.queries.query_range.Statement.{statement}
 use Rattle.levels_answer.proofs.queries.query_range.Tie as tie
 

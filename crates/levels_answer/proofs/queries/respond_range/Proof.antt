@@ -1,6 +1,5 @@
 -- `levels_answer::queries::respond_range` meets its contract. Assumes nothing.
-use Rattle.levels_answer.specs.inner.Querying.{range-refused, range-none, range-ends}
-use borrow.Author.Needs.{needs}
+use Rattle.levels_answer.proofs.Prelude.{range-refused, range-none, range-ends, needs}
 use Rattle.levels_answer.proofs.queries.respond_range.Statement.{statement}
 use Rattle.levels_answer.proofs.queries.respond_range.Tie as tie
 

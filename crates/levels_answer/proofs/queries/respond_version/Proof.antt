@@ -1,7 +1,5 @@
 -- `levels_answer::queries::respond_version` meets its contract. Assumes nothing.
-use Rattle.levels_spec.specs.inner.Responses.{versionResponse}
-use Rattle.levels_answer.specs.inner.Querying.{version-refused, version-responds}
-use borrow.Author.Needs.{needs}
+use Rattle.levels_answer.proofs.Prelude.{versionResponse, version-refused, version-responds, needs}
 use Rattle.levels_answer.proofs.queries.respond_version.Statement.{statement}
 use Rattle.levels_answer.proofs.queries.respond_version.Tie as tie
 

@@ -1,6 +1,5 @@
 -- `levels_text::write::number_length` meets its contract. Assumes nothing.
-use Rattle.levels_text.proofs.Prelude.{arith, needs}
-use Rattle.levels_text.specs.Laws.Decimals.{few-digits, field-length}
+use Rattle.levels_text.proofs.Prelude.{arith, needs, few-digits, field-length}
 use Rattle.levels_text.proofs.write.number_length.Statement.{statement}
 use Rattle.levels_text.proofs.write.number_length.Tie as tie
 

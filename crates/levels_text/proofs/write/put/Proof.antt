@@ -1,6 +1,5 @@
 -- `levels_text::write::put` meets its contract. Assumes nothing.
-use borrow.Author.Needs.{needs}
-use Rattle.levels_text.specs.inner.Appending.{appended-one}
+use Rattle.levels_text.proofs.Prelude.{needs, appended-one}
 use Rattle.levels_text.proofs.write.put.Statement.{statement}
 use Rattle.levels_text.proofs.write.put.Tie as tie
 

@@ -1,6 +1,5 @@
 -- `levels_text::write::put_bytes` meets its contract. The loop's invariant: the bytes passed are put. Assumes nothing.
-use Rattle.levels_text.proofs.Prelude.{_-_, length, needs}
-use Rattle.levels_text.specs.inner.Appending.{Putting, putting-begin, putting-again, putting-end}
+use Rattle.levels_text.proofs.Prelude.{_-_, length, needs, Putting, putting-begin, putting-again, putting-end}
 use Rattle.levels_text.proofs.write.put_bytes.Statement.{statement}
 use Rattle.levels_text.proofs.write.put_bytes.Tie as tie
 

@@ -1,7 +1,5 @@
 -- `levels_text::write::put_line` meets its contract. Assumes nothing.
-use Rattle.levels_text.proofs.Prelude.{arith, needs}
-use Rattle.levels_text.specs.Laws.Decimals.{length-line}
-use Rattle.levels_text.specs.inner.Appending.{appended-line}
+use Rattle.levels_text.proofs.Prelude.{arith, needs, length-line, appended-line}
 use Rattle.levels_text.proofs.write.put_line.Statement.{statement}
 use Rattle.levels_text.proofs.write.put_line.Tie as tie
 

@@ -1,7 +1,5 @@
 -- `levels_text::write::put_number` meets its contract. Assumes nothing.
-use Rattle.levels_text.proofs.Prelude.{arith, needs}
-use Rattle.levels_text.specs.Laws.Decimals.{field-length, field-some}
-use Rattle.levels_text.specs.inner.Appending.{appended-number}
+use Rattle.levels_text.proofs.Prelude.{arith, needs, field-length, field-some, appended-number}
 use Rattle.levels_text.proofs.write.put_number.Statement.{statement}
 use Rattle.levels_text.proofs.write.put_number.Tie as tie
 

@@ -1,7 +1,5 @@
 -- `levels_text::write::put_numbered` meets its contract. Assumes nothing.
-use Rattle.levels_text.proofs.Prelude.{arith, needs}
-use Rattle.levels_text.specs.Laws.Decimals.{length-numbered}
-use Rattle.levels_text.specs.inner.Appending.{appended-numbered}
+use Rattle.levels_text.proofs.Prelude.{arith, needs, length-numbered, appended-numbered}
 use Rattle.levels_text.proofs.write.put_numbered.Statement.{statement}
 use Rattle.levels_text.proofs.write.put_numbered.Tie as tie
 

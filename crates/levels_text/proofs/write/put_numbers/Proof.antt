@@ -1,6 +1,5 @@
 -- `levels_text::write::put_numbers` meets its contract. The loop's invariant: the numbers passed are put. Assumes nothing.
-use Rattle.levels_text.proofs.Prelude.{_-_, arith, length, needs}
-use Rattle.levels_text.specs.inner.Appending.{Numbering, numbering-begin, numbering-next, numbering-again, numbering-end}
+use Rattle.levels_text.proofs.Prelude.{_-_, arith, length, needs, Numbering, numbering-begin, numbering-next, numbering-again, numbering-end}
 use Rattle.levels_text.proofs.write.put_numbers.Statement.{statement}
 use Rattle.levels_text.proofs.write.put_numbers.Tie as tie
 

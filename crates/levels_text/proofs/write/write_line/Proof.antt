@@ -1,7 +1,5 @@
 -- `levels_text::write::write_line` meets its contract. Assumes nothing.
-use Rattle.levels_text.specs.inner.Appending.{line-wrote}
-use Rattle.levels_text.proofs.Prelude.{arith, needs}
-use Rattle.levels_text.specs.Laws.Decimals.{length-written}
+use Rattle.levels_text.proofs.Prelude.{line-wrote, arith, needs, length-written}
 use Rattle.levels_text.proofs.write.write_line.Statement.{statement}
 use Rattle.levels_text.proofs.write.write_line.Tie as tie
 

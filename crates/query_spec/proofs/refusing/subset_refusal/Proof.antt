@@ -1,7 +1,5 @@
 -- `query_spec::refusing::subset_refusal` meets its contract. Assumes nothing.
-use mathlib.Core.Path.{sym, _∙_}
-use borrow.Author.Needs.{needs}
-use borrow.Author.Tests.{not-true, not-false}
+use Rattle.query_spec.proofs.Prelude.{sym, _∙_, needs, not-true, not-false}
 use Rattle.query_spec.proofs.RefusingSteps.{refused-outside, refused-rows, refused-form, refused-past, refused-not}
 use Rattle.query_spec.proofs.refusing.subset_refusal.Statement.{statement}
 use Rattle.query_spec.proofs.refusing.subset_refusal.Tie as tie
