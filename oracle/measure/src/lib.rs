@@ -1,5 +1,6 @@
 //! The proved library's times as ratios to the Rust's, in one run on one machine. Below 1 the proved library is faster.
 
+mod added;
 mod columns;
 mod images;
 mod keys;
@@ -27,6 +28,7 @@ fn run(report: &mut Report) {
     columns::orders(report);
     images::images(report);
     listings::listings(report);
+    added::added(report);
 }
 
 /// A line for each thing measured whose name has this part: the medians of so many runs.

@@ -140,7 +140,7 @@ fn many_values(report: &mut Report) {
             ("one value 1,000 times", &again),
         ] {
             report.compare_along(
-                &format!("refresh: 60,000 unseen rows, {of}, {name}, each row"),
+                &format!("refresh: unseen 60,000, {of}, {name}, each row"),
                 ROWS as usize,
                 &mut Indexed::new(ROWS, columns),
                 |both, _| both.forget(),

@@ -29,6 +29,14 @@ const SIZES: [(u32, u32); 7] = [
     (65_536, LARGE),
 ];
 
+/// A number with a comma before its last three digits, as the other rows write it.
+fn thousands(n: u32) -> String {
+    match n {
+        0..1_000 => n.to_string(),
+        _ => format!("{},{:03}", n / 1_000, n % 1_000),
+    }
+}
+
 fn filled(rows: u32, capacity: u32) -> Both {
     Both::opened_with(capacity, COLUMNS, capacity)
         .staged(inserts(rows, COLUMNS, 1))
@@ -200,7 +208,7 @@ fn soundness(report: &mut Report, size: &str, both: &Both) {
 
 pub fn sizes(report: &mut Report) {
     for (rows, capacity) in SIZES {
-        let size = format!("{rows} rows in {capacity}");
+        let size = format!("{} rows in {}", thousands(rows), thousands(capacity));
         let both = filled(rows, capacity);
         lookups(report, &size, &both, rows);
         removals(report, &size, &both, rows);
@@ -208,6 +216,6 @@ pub fn sizes(report: &mut Report) {
         soundness(report, &size, &both);
     }
     let few = filled(32, LARGE);
-    merges(report, "32 rows in 65536", &few, 32, LARGE);
-    soundness(report, "32 rows in 65536", &few);
+    merges(report, "32 rows in 65,536", &few, 32, LARGE);
+    soundness(report, "32 rows in 65,536", &few);
 }

@@ -149,7 +149,7 @@ fn merges(report: &mut Report) {
     merge("17 removals of 32 rows, compacting, whole", 1, dying);
 }
 
-/// A full table of 8 columns, 32,768 random rows of it dead, which is not yet more than half; and tables of few rows.
+/// A full table of 8 columns, 32,768 random rows of it dead, which is not yet more than half.
 fn compactions(report: &mut Report) {
     let full = Both::opened(8, CAPACITY)
         .staged(inserts(CAPACITY, 8, 1))
@@ -166,13 +166,6 @@ fn compactions(report: &mut Report) {
         CAPACITY,
         &[Call::Compact],
     );
-    for (rows, count) in [("32", 32), ("1,000", 1_000)] {
-        let few = Both::opened(4, count).staged(inserts(count, 4, 1)).merged();
-        for (name, call) in [("compact", Call::Compact), ("clear", Call::Clear)] {
-            let name = format!("{name}: {rows} rows, capacity 65,536, whole");
-            few.once(report, &name, 1, &[call]);
-        }
-    }
 }
 
 fn lookups(report: &mut Report, both: &Both) {
