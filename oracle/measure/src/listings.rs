@@ -53,7 +53,8 @@ fn is_head(head: &[u32], numbered: bool) -> bool {
 }
 
 fn parse(text: &[u8], numbered: bool, listing: &mut Listing) -> Option<()> {
-    (listing.head.clear(), listing.cells.clear());
+    listing.head.clear();
+    listing.cells.clear();
     listing.rows = 0;
     let (letter, width) = if numbered { (b'U', 6) } else { (b'T', 5) };
     let mut behind = line(text, letter, width, &mut listing.head)?;

@@ -45,7 +45,7 @@ fn filled(rows: u32, capacity: u32) -> Both {
 
 /// So many places below a count, in an order that no store follows.
 fn places(count: u32, most: u32) -> Vec<u32> {
-    let step = 40_503 % count.max(2) | 1;
+    let step = (40_503 % count.max(2)) | 1;
     (0..most.min(count))
         .map(|i| i.wrapping_mul(step) % count)
         .collect()
