@@ -35,7 +35,7 @@ pub record Saved (s : Stores) (words : List ℕ) : Type 0 where
   pub written : ImageWritten (s .header) (s .rows) (s .sorts) (s .pending) text output (Length count) output′
   pub image : words ≡ take count output′
 
--- a plain table with this capacity; 0: its own
+-- a plain table with this capacity, or with its own if the number is 0
 abbrev pub resized : Plain → ℕ → Plain
 resized p capacity =
     record { opening = resizedOpening (p .opening) capacity; generation = p .generation; rows = p .rows; staged = p .staged; largest = p .largest }
@@ -52,7 +52,7 @@ pub record TextAfterWrite (text output : List ℕ) (answer : LengthAnswer) (outp
   pub written : firstRefusal (check (ltb (length output) (length text)) 2 ∷ []) ≡ 0 → output′ ≡ splice output 0 text
 
 -- An accepted image is the image of the table that was loaded, with the capacity that the image has and its text. So a table in stores
--- and a text have one image. Whoever wrote it, the table is sound (its generation is a word, so it fits).
+-- and a text have one image. Whoever wrote it, the table is sound (its generation is a word, so it is at most 4294967295).
 pub record ImageOfLoaded (words : List ℕ) (h : Header) (b′ : Body) (pending′ : List ℕ) : Type 0 where
   pub capacity : ℕ
   pub text : List ℕ

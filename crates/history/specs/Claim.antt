@@ -32,7 +32,7 @@ wanted s accepted id =
     let row = rowAt (s .header .columns) id (s .rows) in
     ltb id (s .header .rows) && isLive row && all (satisfies id row) accepted
 
--- of a table, and the plain table after the same calls
+-- term 3 for a table in stores, with the plain table after the same calls
 pub record Claimed (p : Plain) (s : Stores) : Type 0 where
   -- "the live rows, numbers and cells, are those of document 01's plain table after the same calls"
   pub live-rows : liveIn s ≡ liveRows p

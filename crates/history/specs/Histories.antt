@@ -17,8 +17,8 @@ use Rattle.refresh_spec.specs.Index.{IndexSound}
 use Rattle.refresh_spec.specs.Refreshes.{refreshView, recordsFound, recordsStaged, headerRefreshed, Refreshing}
 use Rattle.table.specs.Contracts.{Stores, stores, Body, body, bodyOf, joined, CompactionWords, headerAfter, headerMerged, Opened, Staging, Merging, Compacting, Clearing}
 
--- A call that is lent these stores, and so many compaction words of either kind. If it is lent none, its checks do not read these
--- two numbers, and they may be any.
+-- A call that is lent these stores, and this many compaction words, `live` and `base`. If it is lent none, its checks do not read
+-- these two numbers, and they may be any.
 abbrev pub lentCall : Call → Stores → ℕ → ℕ → LentCall
 lentCall c s live base =
     record {

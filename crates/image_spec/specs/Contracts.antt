@@ -1,5 +1,5 @@
--- What the functions that write, check and read images promise: the answer and every lent cell, accepted or refused. What is not named
--- as left behind is lent shared and stays as it is. New refusals: 19, words that are no image: of another length than their header and
+-- What the functions that write, check and read images promise: the answer and every lent cell, accepted or refused. A store that a
+-- contract has no second name for is lent shared, so it is unchanged. New refusals: 19, words that are no image: of another length than their header and
 -- text have, with a header outside its bounds, a text that is too long or filled up with other bytes than 0, or another checksum; 20, an
 -- image of a table that is not sound; 21, a text to be written of more than 4,096 bytes. Assumes nothing.
 use Prim.Native.Nat.{ℕ, _<_}
@@ -65,7 +65,7 @@ pub record Decoded (words : List ℕ) : Type 0 where
   pub if-sound : sound ≡ true → (i : Image) → image ≡ some i → SoundImage i
   pub if-unsound : sound ≡ false → (i : Image) → image ≡ some i → SoundImage i → ⊥
 
--- an opening with this capacity; 0: its own
+-- an opening with this capacity, or with its own if the number is 0
 abbrev pub resizedOpening : Opening → ℕ → Opening
 resizedOpening o capacity =
     record { columns = o .columns; keys = o .keys; sort = o .sort; rule = o .rule; capacity = cond (eqb capacity 0) (o .capacity) capacity }
@@ -83,13 +83,14 @@ pub record ImageChecked (words : List ℕ) (answer : TableAnswer) : Type 0 where
   pub decoded : Decoded words
   pub answers : tableView answer ≡ checkReply (decoded .image) (decoded .sound)
 
--- *Read image*: 19, 20; 1 for a capacity outside its bounds or below the row count; 2 for a store shorter than needed
+-- 1 for a capacity outside its bounds or below the row count; 2 for a store shorter than needed
 abbrev pub storesChecks : Header → ℕ → Body → List ℕ → List Check
 storesChecks h capacity b pending =
     check (outside (withCapacity h capacity)) 1
     ∷ check (storesShort (openingOf (withCapacity h capacity)) (lengths (b .rows) (b .keys) (b .sorts) pending [] []) || ltb (length pending) (h .pending)) 2
     ∷ []
 
+-- *Read image*: 19, 20, then those of the caller's capacity and stores
 unfoldable pub readRefusal : Option Image → Bool → ℕ → Body → List ℕ → ℕ
 readRefusal none sound capacity b pending = 19
 readRefusal (some i) sound capacity b pending = firstRefusal (check (not sound) 20 ∷ storesChecks (i .header) capacity b pending)

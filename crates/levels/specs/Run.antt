@@ -53,8 +53,10 @@ pub data Steps (p : Program) : List ℕ → List (List ℕ) → Program → Type
   then : {handed bytes : List ℕ} {reads read : List (List ℕ)} {q r : Program} → Steps p handed reads q → Step q bytes read r false
       → Steps p (handed ++ bytes) (reads ++ read) r
 
--- ---- the code's state between two steps, with the stores; the first `used` bytes of the text are buffered
+-- ---- the code's state between two steps, with the stores
 
+-- `line` is the line so far; the first `used` bytes of `text`, a number of the state, are buffered. The header is in the state and in
+-- the stores; `machine` makes them equal.
 pub record Machine : Type 0 where
   pub stores : Stores
   pub state : State

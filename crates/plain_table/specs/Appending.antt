@@ -35,7 +35,8 @@ unfoldable pub sumOverMerges : (Plain → ℕ) → Plain → List LentCall → �
 sumOverMerges number p [] = 0
 sumOverMerges number p (c ∷ cs) = mergeCount number p c + sumOverMerges number (after p (c .lengths) (c .call)) cs
 
--- "The rows appended are taken from the definition of each merge's steps": their number
+-- "The rows appended are taken from the definition of each merge's steps and not from a stored count": the number of rows that the
+-- steps leave behind those that were there
 abbrev pub mergeAdds : Plain → ℕ
 mergeAdds p = length (mergeAppends p)
 

@@ -16,7 +16,7 @@ use Rattle.table.specs.Numbers.{tableView}
 use Rattle.table.specs.Contracts.{Stores, Body, stores, joined, CompactionWords, lengths, SlotsPast, WordsPast, Opened}
 use Rattle.replay_calls.specs.Requests.{Request, isRefresh, IndexPast, lentAll, ServedAll}
 
--- calls that are lent the whole stores
+-- the calls, each with the lengths of the whole stores
 abbrev pub callsLent : List Call → Body → List ℕ → CompactionWords → List LentCall
 callsLent calls b pending w = lentAll (lengths (b .rows) (b .keys) (b .sorts) pending (w .live) (w .base)) calls
 

@@ -32,7 +32,7 @@ requested index (refresh r) = refreshing r index
 abbrev pub IndexPast : ℕ → List ℕ → List ℕ → Type 0
 IndexPast capacity index index′ = drop (16 + 24 * capacity) index′ ≡ drop (16 + 24 * capacity) index
 
--- calls that are lent the whole stores
+-- each call with these lengths; only a merge and a compaction are lent compaction words
 abbrev pub lentTo : Lengths → Call → LentCall
 lentTo l c = record { call = c; lengths = l }
 

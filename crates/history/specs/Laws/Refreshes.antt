@@ -117,11 +117,11 @@ module _ (t : Stores) (rest : Body) (pending lent more : List ℕ) (b : Beside (
     abbrev refreshed-stores : Stores
     refreshed-stores = behind (joined (headerRefreshed (t .header) (refreshView answer)) (bodyOf t) pending′) rest pending
 
-    own-step : Step (behind t rest pending) (ownRefresh t lent q) refreshed-stores
-    own-step = called {s = t} rest pending (refreshes q lent answer pending′ lent′ m (lent-sound (q .columns)))
+    own-step : {live base : ℕ} → Step (behind t rest pending) (ownRefresh t lent q live base) refreshed-stores
+    own-step {live} {base} = called {s = t} rest pending (refreshes {live = live} {base = base} q lent answer pending′ lent′ m (lent-sound (q .columns)))
 
     refreshes-beside : Beside refreshed-stores (lent′ ++ more)
-    refreshes-beside = record { plain = _; represents = step-represents (b .represents) own-step; followed = refreshed-followed }
+    refreshes-beside = record { plain = _; represents = step-represents (b .represents) (own-step {live = 0} {base = 0}); followed = refreshed-followed }
 
     -- it has the effect of the plain table's refresh
     module _ {p : Plain} (r : Represents p (behind t rest pending)) where

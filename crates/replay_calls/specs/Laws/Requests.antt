@@ -83,12 +83,12 @@ KeptSome o generation s index = (calls : List LentCall) × OwnIndex o generation
 module _ {o : Opening} {generation : ℕ} where
   -- a refresh that is lent the whole index store
   refreshed-kept : {calls : List LentCall} {index pending′ index′ : List ℕ} (s : Stores) {r : Refresh} {answer : RefreshAnswer} → OwnIndex o generation calls s index
-      → Refreshing (s .header) (s .rows) (s .pending) index r answer pending′ index′ → OwnIndex o generation (calls ++ (ownRefresh s index r ∷ [])) (refreshedStores s answer pending′) index′
+      → Refreshing (s .header) (s .rows) (s .pending) index r answer pending′ index′ → OwnIndex o generation (calls ++ (ownRefresh s index r 0 0 ∷ [])) (refreshedStores s answer pending′) index′
   refreshed-kept {calls} {index} {pending′} {index′} s {r} {answer} kept m =
       go (behind-nothing (refreshedStores s answer pending′)) (append-nil index′)
     where
-      go : {a : Stores} {b : List ℕ} → behind (refreshedStores s answer pending′) (body [] [] []) [] ≡ a → index′ ++ [] ≡ b → OwnIndex o generation (calls ++ (ownRefresh s index r ∷ [])) a b
-      go e f = rw (← e, ← f) (refreshes {calls = calls} s (body [] [] []) [] index [] r answer pending′ index′ (rw (behind-nothing s, append-nil index) kept) m)
+      go : {a : Stores} {b : List ℕ} → behind (refreshedStores s answer pending′) (body [] [] []) [] ≡ a → index′ ++ [] ≡ b → OwnIndex o generation (calls ++ (ownRefresh s index r 0 0 ∷ [])) a b
+      go e f = rw (← e, ← f) (refreshes {calls = calls} {live = 0} {base = 0} s (body [] [] []) [] index [] r answer pending′ index′ (rw (behind-nothing s, append-nil index) kept) m)
 
   -- it is sound for a refresh by any columns
   kept-sound : {calls : List LentCall} {s : Stores} {index : List ℕ} → OwnIndex o generation calls s index → (columns : List ℕ) → IndexSound (s .header) (s .rows) columns index
