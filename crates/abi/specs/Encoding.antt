@@ -24,7 +24,7 @@ use Rattle.query_spec.specs.Queries.{PageReply}
 
 -- ---- arguments
 
--- an opening is six words: these numbers, and the generation
+-- an opening is six words: columns, keys, sort column, rule, capacity, generation
 abbrev pub decodeOpening : List ℕ → Opening
 decodeOpening words =
     record { columns = getD words 0 0; keys = getD words 1 0; sort = getD words 2 0; rule = getD words 3 0; capacity = getD words 4 0 }

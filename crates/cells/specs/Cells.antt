@@ -29,6 +29,6 @@ mixed hash cell =
     (product / 2 ^ 31 + product % 2 ^ 32) % 2 ^ 32
 
 -- "any hash of the key cells alone will do": ours has 32 bits, repeated in both halves of the 64, so that the compact hash has all of
--- them. The definition is shut: it stands for any hash, and only the laws in Cells/Hash.antt open it.
+-- them. Only Cells/Hash.antt unfolds this definition; no other proof depends on which hash it is.
 pub keyHash : List ℕ → ℕ
 keyHash key = foldl mixed 0 key * (2 ^ 32 + 1)

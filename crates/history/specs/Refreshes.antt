@@ -30,7 +30,7 @@ pub data OwnIndex (o : Opening) (generation : ℕ) : List LentCall → Stores �
   adopted : {calls : List LentCall} {s : Stores} (index : List ℕ) → History o generation calls s → isNew index ≡ true → OwnIndex o generation calls s index
   other-call : {calls : List LentCall} {t u : Stores} {index : List ℕ} {c : LentCall} → OwnIndex o generation calls t index → Step t c u
       → OwnIndex o generation (calls ++ (c ∷ [])) u index
-  refreshes : {calls : List LentCall} {live base : ℕ} (t : Stores) (rest : Body) (pending lent more : List ℕ) (r : Refresh) (answer : RefreshAnswer) (pending′ lent′ : List ℕ)
+  refreshes : {calls : List LentCall} (t : Stores) (rest : Body) (pending lent more : List ℕ) (live base : ℕ) (r : Refresh) (answer : RefreshAnswer) (pending′ lent′ : List ℕ)
       → OwnIndex o generation calls (behind t rest pending) (lent ++ more) → Refreshing (t .header) (t .rows) (t .pending) lent r answer pending′ lent′
       → OwnIndex o generation (calls ++ (ownRefresh t lent r live base ∷ [])) (behind (refreshedStores t answer pending′) rest pending) (lent′ ++ more)
 

@@ -1,7 +1,7 @@
 -- What `levels` prints (document 01, "The program `levels`"): the text that a line prints and the table after it, as a function of
 -- the line and the table before it. Defined over the plain table; bytes are numbers, in ASCII. Assumes nothing.
 use Prim.Native.Nat.{ℕ}
-use mathlib.Core.Bool.{true, false, cond, not, _||_}
+use mathlib.Core.Bool.{true, false, cond}
 use mathlib.Core.List.{List, [], _∷_}
 use mathlib.Core.Option.{Option, none, some}
 use lib.ListN.{length, drop, getD}
@@ -10,12 +10,12 @@ use Rattle.offsets.specs.Subsets.{Subset, range, list}
 use Rattle.constraints.specs.declared.Constraint.{Constraint}
 use Rattle.constraints.specs.Constraints.{known}
 use Rattle.constraints.specs.Encoding.{conditionIn}
-use Rattle.sort_entries.specs.Entries.{fastRange}
 use Rattle.plain_table.specs.Staged.{Opening, insert, removeKey, removeRow}
 use Rattle.plain_table.specs.Refusing.{Lengths, openRefusal}
 use Rattle.plain_table.specs.Plain.{Plain, opened, added, merged}
 use Rattle.plain_table.specs.Calls.{Call, staging, merging, compacting, clearing, refusal, after}
 use Rattle.table.specs.Stores.{entries}
+use Rattle.table.specs.Contracts.{fastAmong}
 use Rattle.levels_text.specs.Lines.{letter, numbers, ofForms}
 use Rattle.levels_text.specs.Written.{textLine}
 use Rattle.listing_spec.specs.Listings.{listingText}
@@ -54,12 +54,9 @@ queries p number text = printing (replied number text) (some p)
 unfoldable pub mergeText : Plain → List ℕ
 mergeText p = textLine 77 (merged p .status ∷ cond (added p) 1 0 ∷ merged p .place ∷ [])
 
--- the fast range: "*none* for kind 0 and for any column but the sort column"
+-- the fast range of a plain table
 unfoldable pub fastSubsetOf : Plain → Constraint → Option Subset
-fastSubsetOf p c =
-    cond (eqb (c .kind) 0 || not (eqb (c .column) (p .opening .sort)))
-    none
-    (some (fastRange (c .kind) (c .value) (entries p) (length (p .rows))))
+fastSubsetOf p c = fastAmong (p .opening .sort) (entries p) (length (p .rows)) c
 
 -- "F,0,2 (start, end; or F,none)" (F is 70); the answer is never a list
 unfoldable pub rangeText : Option Subset → List ℕ

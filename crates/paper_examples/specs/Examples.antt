@@ -15,7 +15,9 @@ use Rattle.constraints.specs.declared.Constraint.{Constraint}
 use Rattle.row_buffer.specs.Ranks.{setBelow, liveWord, newNumber}
 use Rattle.sort_entries.specs.Entries.{entry, fastRange}
 use Rattle.plain_table.specs.Staged.{insert}
-use Rattle.plain_table.specs.Plain.{Plain, opened, stage, added, merged, compacted}
+use Rattle.plain_table.specs.Refusing.{Lengths}
+use Rattle.plain_table.specs.Calls.{Call, staging, merging, afterAll}
+use Rattle.plain_table.specs.Plain.{Plain, opened, added, merged, compacted}
 use Rattle.table.specs.Stores.{headerOf}
 use Rattle.query_spec.specs.Queries.{refineOneReply, refineListReply, pageIds, pageReply}
 
@@ -40,21 +42,24 @@ Pages subset start n ids next =
     (pageIds h (iota 0 100) subset start n [] ≡ ids)
     × (pageReply h (iota 0 100) subset start n [] 100 ≡ accepted (record { written = length ids; dead = 0; next = next }))
 
--- the row count after a merge with nothing staged, if the first `dead` of `count` rows are dead
-abbrev pub rowsAfter : ℕ → ℕ → ℕ
-rowsAfter dead count = length (merged (tableOf count (leb dead)) .table .rows)
+-- the row count and the generation after a merge with nothing staged, if the first `dead` of `count` rows are dead
+abbrev pub After : ℕ → ℕ → ℕ → ℕ → Type 0
+After dead count rows generation =
+    let table = merged (tableOf count (leb dead)) .table in
+    (length (table .rows) ≡ rows) × (table .generation ≡ generation)
 
 -- rows 0, 2 and 5 of six are live
 abbrev pub threeLive : Plain
 threeLive = tableOf 6 (λ i. elem i (0 ∷ 2 ∷ 5 ∷ []))
 
--- a table with the row 1, 5, 12 and this insert staged (columns: key, level, stamp; rule 1)
+-- a table after an insert of the row 1, 5, 12, a merge and a staging of this row (columns: key, level, stamp; rule 1)
 abbrev pub oneStaged : List ℕ → Plain
 oneStaged cells =
-    let empty = opened (record { columns = 3; keys = 1; sort = 2; rule = 1; capacity = 100 }) 0 in
-    stage (merged (stage empty (insert (1 ∷ 5 ∷ 12 ∷ []))) .table) (insert cells)
+    let lengths : Lengths = record { rows = 300; keys = 200; sorts = 200; pending = 100; liveWords = 2; baseWords = 2 } in
+    let calls : List Call = staging (insert (1 ∷ 5 ∷ 12 ∷ [])) ∷ merging ∷ staging (insert cells) ∷ [] in
+    afterAll (opened (record { columns = 3; keys = 1; sort = 2; rule = 1; capacity = 100 }) 0) (map (λ c. record { call = c; lengths = lengths }) calls)
 
--- the status of its merge, *added*, and the rows after it, all of them live
+-- of the next merge: its status, *added*, the place 0, and the rows after it, all of them live
 abbrev pub Merges : List ℕ → ℕ → Bool → List (List ℕ) → Type 0
 Merges cells status more rows =
     let p = oneStaged cells in
@@ -78,7 +83,7 @@ pub record PaperExamples : Type 0 where
   -- "Three ids from 1, n = 0: next 1; from 3: none"
   pub g : Pages (list (2 ∷ 4 ∷ 6 ∷ [])) 1 0 [] (some 1) × Pages (list (2 ∷ 4 ∷ 6 ∷ [])) 3 0 [] none
   -- "16 dead of 32 or of 16 stay; 17 of 33 or of 17 go"
-  pub h : (rowsAfter 16 32 ≡ 32) × (rowsAfter 16 16 ≡ 16) × (rowsAfter 17 33 ≡ 16) × (rowsAfter 17 17 ≡ 0)
+  pub h : After 16 32 32 0 × After 16 16 16 0 × After 17 33 16 1 × After 17 17 0 1
   -- "Rows 0, 2, 5 live: 5 becomes 2": as the rows close up, by the live rows before it, and by its word of the bitmap of live rows
   pub i-rows : map (λ row. row .cells) (compacted threeLive .rows) ≡ (0 ∷ []) ∷ (2 ∷ []) ∷ (5 ∷ []) ∷ []
   pub i-number : newNumber (λ row. row .live) (threeLive .rows) 5 ≡ 2

@@ -9,7 +9,8 @@ use lib.Dec.{ltb, eqb}
 use Rattle.plain_table.specs.Plain.{Plain, applied, raised}
 use Rattle.plain_table.specs.Calls.{Call, staging, merging, compacting, clearing, refreshing, feeding, LentCall, refusal, after}
 
--- the cells of the rows that a merge appends, stopped or not: before its compaction they are located behind the rows that were there
+-- the cells of the rows that a merge appends, stopped or not: before its compaction they are located behind the rows that were there.
+-- Each accepted insert changes nothing or appends one row (laws `insertion-appended`, `appended-count`).
 unfoldable pub mergeAppends : Plain → List (List ℕ)
 mergeAppends p = map (λ row. row .cells) (drop (length (p .rows)) (applied p .table .rows))
 

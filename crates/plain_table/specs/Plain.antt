@@ -161,7 +161,7 @@ insertAll (cells ∷ rest) place p =
 unfoldable pub applied : Plain → Inserted
 applied p = insertAll (inserts (p .staged)) 0 (removed p)
 
--- "*added*: a row was appended": there are more rows than before
+-- "*added*: a row was appended": the inserts leave more rows than the merge began with
 unfoldable pub added : Plain → Bool
 added p = ltb (length (p .rows)) (length (applied p .table .rows))
 

@@ -3,13 +3,13 @@
 use Prim.Native.Nat.{ℕ, zero, suc, _-_, _<_}
 use mathlib.Core.Path.{_≡_}
 use mathlib.Core.Bool.{Bool, not, cond, _&&_}
-use mathlib.Core.List.{List, [], _∷_, _++_, map}
+use mathlib.Core.List.{List, [], _∷_, map}
 use mathlib.Core.Option.{Option, none, some, Option·map}
 use lib.ListN.{length, getD}
 use lib.Dec.{leb, ltb}
 use Rattle.lists.specs.Lists.{splice, all, flatten, iota, same}
 use Rattle.refusals.specs.Refusals.{check, firstRefusal, Reply, refused, accepted, reply}
-use Rattle.plain_table.specs.Staged.{insert, removeKey}
+use Rattle.plain_table.specs.Staged.{Opening, insert, removeKey}
 use Rattle.plain_table.specs.Calls.{Call, staging, merging}
 use Rattle.short_histories.specs.declared.StepAnswer.{StepAnswer}
 use Rattle.short_histories.specs.declared.StepAnswer.the-variants.{Refused as StepRefused, Insert, Remove, Merge}
@@ -18,7 +18,12 @@ use Rattle.short_histories.specs.declared.PositionAnswer.the-variants.{R
 use Rattle.short_histories.specs.declared.SequenceAnswer.{SequenceAnswer}
 use Rattle.short_histories.specs.declared.SequenceAnswer.the-variants.{Refused as SequenceRefused, None as NoSequence, Written}
 
--- ---- the steps
+-- ---- the table and its steps
+
+-- "three columns, one key, sort column 1, capacity 6"; "all four rules": the tables that the steps are for. The comparison opens
+-- them in this way; no contract mentions a table
+unfoldable pub shortOpening : ℕ → Opening
+shortOpening rule = record { columns = 3; keys = 1; sort = 1; rule = rule; capacity = 6 }
 
 -- "the third cell being the stamp for key 0 and 1 minus the stamp for key 1"
 unfoldable pub thirdCell : ℕ → ℕ → ℕ

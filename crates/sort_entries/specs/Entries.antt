@@ -1,4 +1,4 @@
--- Sort entries (document 01, "Sort entries"): those of rows, and the fast range. Assumes nothing.
+-- Sort entries (document 01, "Sort entries"): the entries of rows, and the fast range. Assumes nothing.
 use Prim.Native.Nat.{ℕ, zero, suc}
 use mathlib.Core.Bool.{Bool, cond, _&&_}
 use mathlib.Core.List.{List, [], _∷_, map}
@@ -35,7 +35,7 @@ rebuiltFrom row (some largest) (value ∷ values) =
     (entry value row ∷ rebuiltFrom (suc row) (some value) values)
     (rebuiltFrom (suc row) (some largest) values)
 
--- those numbered from 0. Those of a compaction are "rebuilt from live rows", since there are no other rows
+-- the same, numbered from 0. After a compaction all rows are live, so that its entries are "rebuilt from live rows"
 unfoldable pub rebuilt : List ℕ → List Entry
 rebuilt values = rebuiltFrom 0 none values
 

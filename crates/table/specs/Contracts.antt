@@ -12,7 +12,7 @@ use Rattle.lists.specs.Lists.{splice, rowsOf}
 use Rattle.refusals.specs.Refusals.{Reply, refused, accepted, reply, outcome}
 use Rattle.offsets.specs.Subsets.{Subset, range}
 use Rattle.constraints.specs.declared.Constraint.{Constraint}
-use Rattle.sort_entries.specs.Entries.{entriesOf, entriesSound, fastRange}
+use Rattle.sort_entries.specs.Entries.{Entry, entriesOf, entriesSound, fastRange}
 use Rattle.key_index.specs.Slots.{KeysSound}
 use Rattle.plain_table.specs.Staged.{Opening, Staged, wordsOf}
 use Rattle.plain_table.specs.Refusing.{Lengths, storesShort, openRefusal}
@@ -138,7 +138,8 @@ mergeOf p =
       dropped = mergeDrops p;
     }
 
--- a store after a merge, given what the removals and inserts wrote: the compaction, if there is one, writes over that
+-- a store after a merge, given its contents after the removals and inserts; a compaction, if there is one, writes over those. After a
+-- compaction every row is live, so that no cells of dead rows are kept (`[]` below)
 unfoldable pub mergedStore : Plain → (List ℕ → List ℕ) → List ℕ → List ℕ
 mergedStore p compaction written = cond (compactsAfter (applied p .status) (applied p .table)) (compaction written) written
 
@@ -204,11 +205,12 @@ pub record CellRead (h : Header) (rows keys key : List ℕ) (column : ℕ) (answ
       → cellView answer ≡ accepted (Option·map (λ row. getD (row .cells) column 0) (lookup (ofRows h rows) key))
 
 -- *Fast range*: lent sort entries. "answers *none* for kind 0 and for any column but the sort column"
+unfoldable pub fastAmong : ℕ → List Entry → ℕ → Constraint → Option Subset
+fastAmong sort es count c =
+    cond (eqb (c .kind) 0 || not (eqb (c .column) sort)) none (some (fastRange (c .kind) (c .value) es count))
+
 unfoldable pub fastSubset : Header → List ℕ → Constraint → Option Subset
-fastSubset h sorts c =
-    cond (eqb (c .kind) 0 || not (eqb (c .column) (h .sort)))
-    none
-    (some (fastRange (c .kind) (c .value) (entriesOf (h .entries) sorts) (h .rows)))
+fastSubset h sorts c = fastAmong (h .sort) (entriesOf (h .entries) sorts) (h .rows) c
 
 pub record RangeRead (h : Header) (sorts : List ℕ) (c : Constraint) (answer : RangeAnswer) : Type 0 where
   pub refusal : outcome (rangeView answer) ≡ reply (fastRefusal h (length sorts) c) tt

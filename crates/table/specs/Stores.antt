@@ -16,7 +16,7 @@ use Rattle.plain_table.specs.Proper.{rowOf}
 use Rattle.table.specs.declared.Header.{Header}
 use Rattle.table.specs.Numbers.{largestOf, header}
 
--- the sort entries of a plain table: each row's sort cell, that of dead rows too, appended in order
+-- the sort entries of a plain table, from each row's sort cell, that of dead rows too
 unfoldable pub entries : Plain → List Entry
 entries p = rebuilt (map (λ row. getD (row .cells) (p .opening .sort) 0) (p .rows))
 

@@ -15,7 +15,7 @@ use Rattle.vault.specs.declared.ColumnsAnswer.the-variants.{Refused, Wri
 unfoldable pub minus : ℕ → ℕ → ℕ
 minus cell above = (cell + (2 ^ 32 - above)) % 2 ^ 32
 
--- "each cell but a column's first replaced": the cells below it, each with the cell above
+-- "each cell but a column's first replaced": the first cell, then each later cell's difference from the one before
 unfoldable pub differences : List ℕ → List ℕ
 differences cells = take 1 cells ++ zipWith minus (drop 1 cells) cells
 

@@ -7,7 +7,7 @@ use Rattle.offsets.specs.Answers.{Answered, subsetView, written}
 use Rattle.offsets.specs.Laws.Answers.{written-members, answer-to, intersect-accepted}
 use Rattle.offsets.specs.Laws.Subsets.{rising-members, length-members, members-below, members-retain, members-narrowed}
 use Rattle.constraints.specs.Constraints.{known, compares, met, meets}
-use Rattle.table.specs.Contracts.{Stores, Represents, fastSubset, RangeRead}
+use Rattle.table.specs.Contracts.{Stores, Represents, fastSubset, fastAmong, RangeRead}
 use Rattle.query_spec.specs.Queries.{matches, pastRows, queryChecks, refineRefusal, refineOneReply, refineListReply}
 use Rattle.history.specs.Runs.{Query, refines, Outcome, byReply, Intersected, Queried, one-refined, list-refined, intersected, range-intersected, range-nothing}
 use Rattle.history.specs.Claim.{satisfies}
@@ -122,7 +122,7 @@ record Ranged (h : Header) (sorts : List ℕ) (c : Constraint) (b : Subset) : Ty
   is : b ≡ fastRange (c .kind) (c .value) (entriesOf (h .entries) sorts) (h .rows)
 
 ranged : (h : Header) (sorts : List ℕ) (c : Constraint) (b : Subset) → fastSubset h sorts c ≡ some b → Ranged h sorts c b
-unfolding fastSubset
+unfolding fastSubset fastAmong
 ranged h sorts c b e =
     elim (split (eqb (c .kind) 0 || not (eqb (c .column) (h .sort)))) [
       | inl q ↦ let f = rw q at e in absurd (let z : _≡_ {A = ℕ} 0 1 = cc in omega arith)

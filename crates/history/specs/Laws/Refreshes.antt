@@ -172,9 +172,9 @@ own-index-beside (adopted index history is) = (
   },
 )
 own-index-beside (other-call {u = u} kept step) = let k = own-index-beside kept in (history-then (k .0) (next step (end u)), other-call-beside (k .1) step)
-own-index-beside (refreshes-kept t rest pending lent more q answer pending′ lent′ kept m) =
+own-index-beside (refreshes-kept t rest pending lent more live base q answer pending′ lent′ kept m) =
     let k = own-index-beside kept in
-    (history-then (k .0) (next (own-step t rest pending lent more (k .1) m) (end _)), refreshes-beside t rest pending lent more (k .1) m)
+    (history-then (k .0) (next (own-step t rest pending lent more (k .1) m {live = live} {base = base}) (end _)), refreshes-beside t rest pending lent more (k .1) m)
 
 pub own-indexes-sound : OwnIndexesSound
 own-indexes-sound =

@@ -11,6 +11,7 @@ use Rattle.plain_table.specs.Refusing.{storesShort, wordsShort, wrongWidth, noS
 use Rattle.plain_table.specs.Plain.{liveFrom, liveRows, lookup, dead, opened, stage, liveWithKey, killIf, withoutKey, withoutRow, removed, below, stop, raised, append, upsert, insertion, insertAll, applied, added, compacted, unstaged, compactsAfter, merged}
 use Rattle.plain_table.specs.Calls.{refusal, done, after}
 use Rattle.table.specs.Stores.{entries}
+use Rattle.table.specs.Contracts.{fastAmong}
 use Rattle.levels_text.specs.Lines.{fields, valueFrom, isDecimal, isLine, letter, numbers, isBare, isForm, ofForms}
 use Rattle.levels_text.specs.Written.{digitsIn, decimal, field, textLine}
 use Rattle.listing_spec.specs.Listings.{headLetter, listingText}
@@ -45,5 +46,5 @@ output =
     ∷ []
 
 pub example : printed input ≡ output
-unfolding printed session linesIn prependToFirst input output flatten all same count filter iota find firstRefusal reply isDead ruledColumn signed smaller larger taken madeCell madeFrom changesFrom ruled known rebuiltFrom rebuilt firstRow entriesFrom byKind fastRange openable wordsOf wordsAll inserts hasKey skipped compactionDue storesShort wordsShort wrongWidth noSuchRow overfull openRefusal stageChecks mergeChecks liveFrom liveRows lookup dead opened stage liveWithKey killIf withoutKey withoutRow removed below stop raised append upsert insertion insertAll applied added compacted unstaged compactsAfter merged refusal done after entries fields valueFrom isDecimal isLine letter numbers isBare isForm ofForms digitsIn decimal field textLine replied openNumber opens calls queries mergeText fastSubsetOf rangeText versionText listText listingText headLetter headNumbers rowFields tableListing served onTable result lineResult
+unfolding printed session linesIn prependToFirst input output flatten all same count filter iota find firstRefusal reply isDead ruledColumn signed smaller larger taken madeCell madeFrom changesFrom ruled known rebuiltFrom rebuilt firstRow entriesFrom byKind fastRange openable wordsOf wordsAll inserts hasKey skipped compactionDue storesShort wordsShort wrongWidth noSuchRow overfull openRefusal stageChecks mergeChecks liveFrom liveRows lookup dead opened stage liveWithKey killIf withoutKey withoutRow removed below stop raised append upsert insertion insertAll applied added compacted unstaged compactsAfter merged refusal done after entries fields valueFrom isDecimal isLine letter numbers isBare isForm ofForms digitsIn decimal field textLine replied openNumber opens calls queries mergeText fastSubsetOf fastAmong rangeText versionText listText listingText headLetter headNumbers rowFields tableListing served onTable result lineResult
 example = refl

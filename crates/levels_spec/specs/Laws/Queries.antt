@@ -3,7 +3,7 @@ use Rattle.levels_spec.specs.Laws.Prelude.{ℕ, _*_, _≤_, _≡_, refl,
 use Rattle.refusals.specs.Refusals.{firstRefusal}
 use Rattle.offsets.specs.Subsets.{Subset, range, list}
 use Rattle.table.specs.Refusing.{outside, pairsShort, fastRefusal, versionRefusal}
-use Rattle.table.specs.Contracts.{Stores, Represents, fastSubset, RangeRead, VersionRead}
+use Rattle.table.specs.Contracts.{Stores, Represents, fastSubset, fastAmong, RangeRead, VersionRead}
 use Rattle.listing_write.specs.Writing.{storedText}
 use Rattle.levels_spec.specs.declared.Response.the-variants.{Listing}
 use Rattle.levels_spec.specs.Response.{queries, fastSubsetOf, rangeText, versionText, listText, numberedText}
@@ -28,7 +28,7 @@ fast-number {p} {s} r c =
     (elim (split (known (p .opening .columns) c)) [ inl e ↦ rw e | inr e ↦ rw e ])
 
 fast-shown : {p : Plain} {s : Stores} → Represents p s → (c : Constraint) → fastSubset (s .header) (s .sorts) c ≡ fastSubsetOf p c
-unfolding fastSubset fastSubsetOf
+unfolding fastSubset fastAmong fastSubsetOf
 fast-shown {p} {s} r c =
     let sort : s .header .sort ≡ p .opening .sort = ap (λ (h : Header). h .sort) (r .shown .header) in
     rw (sort, r .shown .entries-shown, rows-counted r)

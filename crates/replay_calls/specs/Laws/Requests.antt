@@ -88,7 +88,7 @@ module _ {o : Opening} {generation : ℕ} where
       go (behind-nothing (refreshedStores s answer pending′)) (append-nil index′)
     where
       go : {a : Stores} {b : List ℕ} → behind (refreshedStores s answer pending′) (body [] [] []) [] ≡ a → index′ ++ [] ≡ b → OwnIndex o generation (calls ++ (ownRefresh s index r 0 0 ∷ [])) a b
-      go e f = rw (← e, ← f) (refreshes {calls = calls} {live = 0} {base = 0} s (body [] [] []) [] index [] r answer pending′ index′ (rw (behind-nothing s, append-nil index) kept) m)
+      go e f = rw (← e, ← f) (refreshes {calls = calls} s (body [] [] []) [] index [] 0 0 r answer pending′ index′ (rw (behind-nothing s, append-nil index) kept) m)
 
   -- it is sound for a refresh by any columns
   kept-sound : {calls : List LentCall} {s : Stores} {index : List ℕ} → OwnIndex o generation calls s index → (columns : List ℕ) → IndexSound (s .header) (s .rows) columns index

@@ -5,12 +5,7 @@ use Rattle.refusals.specs.Refusals.{firstRefusal, reply}
 use Rattle.plain_table.specs.Staged.{Opening, openable, wordsOf}
 use Rattle.plain_table.specs.Refusing.{wrongWidth, noSuchRow, overfull, stageChecks}
 use Rattle.short_histories.specs.declared.StepAnswer.the-variants.{Refused, Insert, Remove, Merge}
-use Rattle.short_histories.specs.Sequences.{thirdCell, inserting, removing, steps, stepCall, stepRefusal, stepView, StepAnswered}
-
--- "three columns, one key, sort column 1, capacity 6"; "all four rules": the tables that the steps are for. The comparison opens
--- them in this way; no contract mentions a table
-unfoldable pub shortOpening : ℕ → Opening
-shortOpening rule = record { columns = 3; keys = 1; sort = 1; rule = rule; capacity = 6 }
+use Rattle.short_histories.specs.Sequences.{shortOpening, thirdCell, inserting, removing, steps, stepCall, stepRefusal, stepView, StepAnswered}
 
 -- the table can be opened, under each of the four rules
 pub short-openable : (rule : ℕ) → rule ≤ 3 → openable (shortOpening rule) ≡ true
