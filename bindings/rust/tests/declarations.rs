@@ -212,7 +212,7 @@ fn sorted(mut lines: Vec<String>) -> Vec<String> {
 }
 
 /// The crates whose functions the library has.
-const CRATES: [&str; 10] = [
+const CRATES: [&str; 11] = [
     "abi_table",
     "abi_read",
     "abi_row",
