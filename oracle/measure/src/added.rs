@@ -53,17 +53,20 @@ fn checking(report: &mut Report) {
 const STEPS: u32 = 7;
 const LONGEST: usize = 6;
 
-/// The next sequence, as an odometer counts: shorter ones first.
-fn next(sequence: &mut Vec<u32>) -> bool {
-    for step in sequence.iter_mut().rev() {
+/// The next sequence, as an odometer counts, shorter ones first, with the same tests: its length, or none after the last.
+fn next(sequence: &[u32], output: &mut [u32]) -> Option<usize> {
+    let known = sequence.len() <= LONGEST && sequence.iter().all(|&step| step < STEPS);
+    assert!(known && sequence.len() < output.len());
+    output[..sequence.len()].copy_from_slice(sequence);
+    for step in output[..sequence.len()].iter_mut().rev() {
         *step += 1;
         if *step < STEPS {
-            return true;
+            return Some(sequence.len());
         }
         *step = 0;
     }
-    sequence.push(0);
-    sequence.len() <= LONGEST
+    output[sequence.len()] = 0;
+    (sequence.len() < LONGEST).then_some(sequence.len() + 1)
 }
 
 fn generating(report: &mut Report) {
@@ -81,8 +84,10 @@ fn generating(report: &mut Report) {
             assert_eq!(count, all);
         },
         || {
-            let (mut count, mut sequence) = (1, Vec::with_capacity(LONGEST + 1));
-            while next(black_box(&mut sequence)) {
+            let (mut count, mut length) = (1, 0);
+            let (mut one, mut other) = ([0; LONGEST + 1], [0; LONGEST + 1]);
+            while let Some(next) = next(black_box(&one[..length]), &mut other) {
+                (one, length) = (other, next);
                 count += 1;
             }
             assert_eq!(count, all);

@@ -6,9 +6,6 @@ use crate::report::Report;
 use crate::tables::{Both, inserts, key, removal};
 use calls::Call;
 use mouldgrey::lent;
-use rustc_hash::FxHasher;
-use std::collections::HashMap;
-use std::hash::BuildHasherDefault;
 use std::hint::black_box;
 
 const COLUMNS: u32 = 4;
@@ -164,45 +161,63 @@ fn merges(report: &mut Report, size: &str, both: &Both, rows: u32, capacity: u32
     both.once(report, &format!("{size}: clear, whole"), 1, &[Call::Clear]);
 }
 
-type Keys = HashMap<u64, u32, BuildHasherDefault<FxHasher>>;
+/// The key hash of docs/FORMAT.md.
+fn hash(key: &[u32]) -> u32 {
+    key.iter().fold(0, |hash: u32, &cell| {
+        let sum = hash.wrapping_add(cell).wrapping_add(2_654_435_761);
+        let product = u64::from(sum) * u64::from(sum.rotate_left(16));
+        ((product >> 31) as u32).wrapping_add(product as u32)
+    })
+}
 
-/// What a plain Rust program tests of the same stores: that keys differ, that rows have the values of their sort entries, and the counts.
-fn is_sound(both: &Both, keys: &mut Keys) -> bool {
+/// Whether a row's key leads to the row, from its home slot on: the first slot whose row has the key is its own.
+fn is_found(rows: &[u32], slots: &[u32], key: &[u32], row: u32) -> bool {
+    let hash = hash(key);
+    let home = ((u64::from(hash) * slots.len() as u64) >> 32) as usize;
+    let bits = hash % (1 << 15);
+    let has_key = |slot: u32| {
+        let at = ((slot % (1 << 17)) as usize).wrapping_sub(1) * COLUMNS as usize;
+        slot >> 17 == bits && rows.get(at..at + 2) == Some(key)
+    };
+    let (before, behind) = slots.split_at(home);
+    let mut path = behind.iter().chain(before);
+    path.find(|&&slot| slot == 0 || has_key(slot)) == Some(&(bits << 17 | (row + 1)))
+}
+
+/// What a plain Rust program tests of the same stores: that rows have the values of their sort entries, that each live row is found
+/// by its key, and the counts of dead rows and of taken slots.
+fn is_sound(both: &Both) -> bool {
     let s = both.ours.stores();
-    keys.clear();
-    let entries = &s.sorts[..2 * s.header.entries as usize];
+    let h = &s.header;
+    let class = [128, 1_024, 8_192, LARGE]
+        .into_iter()
+        .find(|&class| h.rows <= class);
+    let slots = &s.keys[..2 * class.unwrap_or(LARGE).min(h.capacity) as usize];
+    let entries = &s.sorts[..2 * h.entries as usize];
     let (mut entry, mut dead) = (0, 0);
-    for (number, row) in s
-        .rows
-        .chunks(COLUMNS as usize)
-        .take(s.header.rows as usize)
-        .enumerate()
-    {
-        if entries
-            .get(2 * entry + 3)
-            .is_some_and(|&first| first as usize == number)
-        {
-            entry += 1;
-        }
+    let rows = s.rows.chunks(COLUMNS as usize).take(h.rows as usize);
+    for (number, row) in rows.enumerate() {
+        let next = entries.get(2 * entry + 3);
+        entry += usize::from(next.is_some_and(|&first| first as usize == number));
         if row[0] == mouldgrey::DEAD {
             dead += 1;
-            continue;
-        }
-        let key = (u64::from(row[0]) << 32) | u64::from(row[1]);
-        if row[3] != entries[2 * entry] || keys.insert(key, number as u32).is_some() {
+        } else if row[3] != entries[2 * entry]
+            || !is_found(&s.rows, slots, &row[..2], number as u32)
+        {
             return false;
         }
     }
-    dead == s.header.dead
+    let taken = slots.iter().filter(|&&slot| slot != 0).count() as u32;
+    dead == h.dead && taken == h.rows - dead
 }
 
 fn soundness(report: &mut Report, size: &str, both: &Both) {
-    let mut keys = Keys::default();
+    assert!(is_sound(both));
     report.compare(
         &format!("{size}: is sound, whole"),
         1,
         || black_box(&both.ours).is_sound(),
-        || is_sound(black_box(both), &mut keys),
+        || is_sound(black_box(both)),
     );
 }
 
