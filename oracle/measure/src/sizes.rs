@@ -50,8 +50,9 @@ fn places(count: u32, most: u32) -> Vec<u32> {
 
 fn lookups(report: &mut Report, size: &str, both: &Both, rows: u32) {
     let s = both.ours.stores();
-    let hits: Vec<[u32; 2]> = places(rows, 8_192).into_iter().map(key).collect();
-    let misses: Vec<[u32; 2]> = (0..hits.len() as u32).map(|i| key(ABSENT + i)).collect();
+    // More keys than a processor's branch prediction learns by heart.
+    let hits: Vec<[u32; 2]> = places(rows, 65_536).into_iter().map(key).collect();
+    let misses: Vec<[u32; 2]> = (0..200_000u32).map(|i| key(ABSENT + i)).collect();
     for (what, keys) in [("hit", &hits), ("miss", &misses)] {
         let theirs = || {
             keys.iter()
