@@ -14,6 +14,8 @@ const NAME_WIDTH: usize = 68;
 const RECORDED: &str = include_str!("../../ratios.txt");
 /// A row may be above its recorded ratio by a third.
 const ALLOWED: f64 = 4.0 / 3.0;
+/// Recorded ratios have two decimals.
+const ROUNDING: f64 = 0.01;
 
 /// A row, with the times of ours and of the Rust in each run.
 struct Row {
@@ -230,11 +232,13 @@ impl Report {
             .iter()
             .filter_map(|row| match limit(row) {
                 None => Some(format!("nothing is recorded of: {}", row.name)),
-                Some((_, ratio)) if ratio * ALLOWED < row.least_ratio() => Some(format!(
-                    "{:.2}, recorded {ratio:.2}: {}",
-                    row.least_ratio(),
-                    row.name
-                )),
+                Some((_, ratio)) if ratio * ALLOWED + ROUNDING < row.least_ratio() => {
+                    Some(format!(
+                        "{:.2}, recorded {ratio:.2}: {}",
+                        row.least_ratio(),
+                        row.name
+                    ))
+                }
                 Some(_) => None,
             })
             .collect()
