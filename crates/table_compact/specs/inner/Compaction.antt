@@ -10,6 +10,7 @@ use Rattle.key_index.specs.inner.Index.{Fits}
 use Rattle.key_rebuild.specs.inner.Rebuilding.{Rebuilt}
 use Rattle.key_renumber.specs.inner.Renumbering.{renumbered}
 use Rattle.plain_table.specs.Plain.{Plain, compacted}
+use Rattle.table.specs.Numbers.{openingOf, header}
 use Rattle.table.specs.declared.Header.{Header}
 use Rattle.table.specs.Stores.{headerOf, rowStore, sortStore}
 use Rattle.table.specs.Sound.{indexShapeOf}
@@ -32,20 +33,7 @@ pub record KeysUpdated (h h′ : Header) (rows′ keys live base keys′ : List 
 
 -- the header of the next generation
 abbrev pub nextGeneration : Header → Header
-nextGeneration h =
-    record {
-      columns = h .columns;
-      keys = h .keys;
-      sort = h .sort;
-      rule = h .rule;
-      capacity = h .capacity;
-      rows = h .rows;
-      dead = h .dead;
-      entries = h .entries;
-      pending = h .pending;
-      generation = h .generation + 1;
-      largest = h .largest;
-    }
+nextGeneration h = header (openingOf h) (h .rows) (h .dead) (h .entries) (h .pending) (h .generation + 1) (h .largest)
 
 pub record ClosedUp (h : Header) (rows keys sorts : List ℕ) (h′ : Header) (rows′ keys′ sorts′ pending : List ℕ) (p : Plain) : Type 0 where
   pub header : h′ ≡ headerOf (compacted p)
