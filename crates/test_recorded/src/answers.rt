@@ -1,9 +1,9 @@
 // Compares answers with those of the recorded list, and counts how many agree.
-use test_recorded_calls::lines::Answer;
-use test_recorded_calls::lines::NOT_COMPARED;
-use test_recorded_calls::lines::add_offset;
-use test_recorded_calls::lines::part;
-use test_recorded_calls::lines::read_line;
+use super::lines::Answer;
+use super::lines::NOT_COMPARED;
+use super::lines::add_offset;
+use super::lines::part;
+use super::lines::read_line;
 
 // How many answers the list has, how many were compared, and how many agreed.
 pub struct Counts {

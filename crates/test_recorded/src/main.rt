@@ -9,6 +9,10 @@ use steps::step;
 use table_open::no_table;
 
 mod answers; // answers.rt: answers compared with those of the list
+mod calls; // calls.rt: the calls of the list
+mod lines; // lines.rt: the lines of the list
+mod lookups; // lookups.rt: its lookups, ranges and versions
+mod queries; // queries.rt: its queries
 mod steps; // steps.rt: a line and its answer
 
 fn write_count(count: u64, text: &[u8]) {

@@ -1,13 +1,13 @@
 // One step of the program `recorded`: a line of the recorded list, the call or query in it, and its answer.
 use super::answers::Counts;
 use super::answers::compare;
+use super::calls::call;
+use super::calls::is_call;
+use super::lines::Answer;
+use super::lines::part;
+use super::lines::read_line;
+use super::queries::run_query;
 use table::Header;
-use test_recorded_calls::call;
-use test_recorded_calls::is_call;
-use test_recorded_calls::lines::Answer;
-use test_recorded_calls::lines::part;
-use test_recorded_calls::lines::read_line;
-use test_recorded_calls::queries::run_query;
 
 // Makes a call or query, dispatched by its letter.
 fn serve(

@@ -1,10 +1,10 @@
--- `test_recorded_calls::lines::read_line` is safe, and ends. Assumes nothing.
+-- `test_recorded::lines::read_line` is safe, and ends. Assumes nothing.
 use Prim.Native.Nat.{_-_}
 use mathlib.Core.Path.{_≡_}
 use borrow.Author.Needs.{needs}
 use lib.ListN.{length}
-use Rattle.test_recorded_calls.proofs.lines.read_line.Statement.{statement}
-use Rattle.test_recorded_calls.proofs.lines.read_line.Tie as tie
+use Rattle.test_recorded.proofs.lines.read_line.Statement.{statement}
+use Rattle.test_recorded.proofs.lines.read_line.Tie as tie
 
 abbrev Inv-loop : tie.InvT-loop
 Inv-loop text start numbers₀ letter₀ count₀ at₀ numbers letter count at = (length numbers ≡ length numbers₀)

@@ -1,19 +1,15 @@
 // Makes the calls of the recorded list on the library. Returns each answer in the list's form.
+use super::lines::Answer;
+use super::lines::answer_bare;
+use super::lines::answer_three;
+use super::lines::number_at;
+use super::lines::part;
+use super::lines::refused;
 use abi::encode_bool;
 use abi::places;
-use lines::Answer;
-use lines::answer_bare;
-use lines::answer_three;
-use lines::number_at;
-use lines::part;
-use lines::refused;
 use table::Header;
 use table::MergeAnswer;
 use table::TableAnswer;
-
-pub mod lines; // lines.rt: the lines of the list
-pub mod lookups; // lookups.rt: its lookups, ranges and versions
-pub mod queries; // queries.rt: its queries
 
 fn answer_table(h: Header, answer: TableAnswer) -> Answer {
     match answer {

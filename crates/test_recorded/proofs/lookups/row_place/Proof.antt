@@ -1,7 +1,7 @@
--- `test_recorded_calls::lookups::row_place` is safe, and ends. Assumes nothing.
+-- `test_recorded::lookups::row_place` is safe, and ends. Assumes nothing.
 use borrow.Author.Needs.{needs}
-use Rattle.test_recorded_calls.proofs.lookups.row_place.Statement.{statement}
-use Rattle.test_recorded_calls.proofs.lookups.row_place.Tie as tie
+use Rattle.test_recorded.proofs.lookups.row_place.Statement.{statement}
+use Rattle.test_recorded.proofs.lookups.row_place.Tie as tie
 
 abbrev Inv-loop : tie.InvT-loop
 Inv-loop row columns place₀ left₀ place left = Unit {0}
