@@ -4,6 +4,7 @@ pub use mathlib.Core.Path.{refl}
 pub use native.Mathlib.Omega.{arith}
 pub use lib.ListN.{drop, length, length-drop, length-take}
 pub use borrow.Author.Needs.{needs}
+pub use Rattle.levels_answer.specs.inner.Calling.{by-key-served, by-row-letter, by-row-served, clear-served, compact-served, insert-served, large-served, merge-refused, merge-served, merge-table, open-served, row-letter, served-refused, served-table}
 pub use Rattle.levels_answer.specs.inner.Encoded.{encodes-bytes, encodes-listing, encodes-nothing, listed-all, listed-nothing}
 pub use Rattle.levels_answer.specs.inner.Letters.{as-letter, compact-letter, query-letters, staging-some}
 pub use Rattle.levels_answer.specs.inner.Querying.{list-letter, list-served, numbered-served, range-ends, range-letter, range-none, range-refused, range-served, version-refused, version-responds, version-served}

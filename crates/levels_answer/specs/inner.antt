@@ -3,3 +3,4 @@ pub mod Encoded
 pub mod Querying
 pub mod Letters
 pub mod Reading
+pub mod Calling

@@ -6,12 +6,12 @@ ghost use lib.ListN.{length};
 ghost use Rattle.table.specs.Contracts.{stores};
 ghost use Rattle.levels_text.specs.Lines.{isForm};
 ghost use Rattle.levels_spec.specs.inner.Responses.{Serving};
+use super::calls::clear;
+use super::calls::compact;
+use super::calls::merge_pending;
+use super::calls::open_table;
+use super::calls::stage;
 use super::queries::query;
-use levels_calls::clear;
-use levels_calls::compact;
-use levels_calls::merge_pending;
-use levels_calls::open_table;
-use levels_calls::stage;
 use levels_spec::Served;
 use table::Header;
 

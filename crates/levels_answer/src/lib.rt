@@ -13,6 +13,7 @@ use levels_text::Parsed;
 use refusals::NO_LISTING;
 use table::Header;
 
+mod calls; // calls.rt: the lines that change the table
 mod dispatch; // dispatch.rt: a line dispatched by its letter
 mod encode; // encode.rt: a response encoded as bytes
 mod queries; // queries.rt: the lines that query the table

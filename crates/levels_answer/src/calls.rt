@@ -7,7 +7,7 @@ ghost use lib.ListN.{length};
 ghost use Rattle.table.specs.Numbers.{tableView, mergeView};
 ghost use Rattle.table.specs.Contracts.{headerAfter, headerMerged, stores};
 ghost use Rattle.levels_spec.specs.inner.Responses.{responseOf, nothingResponse, mergeResponse, ServedWith, Serving};
-ghost use Rattle.levels_calls.specs.inner.Calling.{OnPending, OnKeys, OnBody, OnAll};
+ghost use Rattle.levels_answer.specs.inner.Calling.{OnPending, OnKeys, OnBody, OnAll};
 use abi::encode_bool;
 use abi::places;
 use levels_spec::Response;

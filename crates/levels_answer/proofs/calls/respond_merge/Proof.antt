@@ -1,7 +1,7 @@
--- `levels_calls::respond_merge` meets its contract. Assumes nothing.
-use Rattle.levels_calls.proofs.Prelude.{merge-refused, merge-table, needs}
-use Rattle.levels_calls.proofs.respond_merge.Statement.{statement}
-use Rattle.levels_calls.proofs.respond_merge.Tie as tie
+-- `levels_answer::calls::respond_merge` meets its contract. Assumes nothing.
+use Rattle.levels_answer.proofs.Prelude.{merge-refused, merge-table, needs}
+use Rattle.levels_answer.proofs.calls.respond_merge.Statement.{statement}
+use Rattle.levels_answer.proofs.calls.respond_merge.Tie as tie
 
 pub respond-merge-spec : {M : Type 1} → statement M
 respond-merge-spec =

@@ -1,7 +1,7 @@
--- `levels_calls::open_table` meets its contract. Assumes nothing.
-use Rattle.levels_calls.proofs.Prelude.{large-served, open-served, needs}
-use Rattle.levels_calls.proofs.open_table.Statement.{statement}
-use Rattle.levels_calls.proofs.open_table.Tie as tie
+-- `levels_answer::calls::open_table` meets its contract. Assumes nothing.
+use Rattle.levels_answer.proofs.Prelude.{large-served, open-served, needs}
+use Rattle.levels_answer.proofs.calls.open_table.Statement.{statement}
+use Rattle.levels_answer.proofs.calls.open_table.Tie as tie
 
 returns-2 : tie.Need-returns-2
 returns-2 c = open-served (c .taken .ensures) _ (c .before .before .before .before .before .before .before .before .before .before .if1 .left) (c .before .before .before .open-table .ensures)

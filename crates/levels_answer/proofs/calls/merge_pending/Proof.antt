@@ -1,7 +1,7 @@
--- `levels_calls::merge_pending` meets its contract. Assumes nothing.
-use Rattle.levels_calls.proofs.Prelude.{refl, merge-served, needs}
-use Rattle.levels_calls.proofs.merge_pending.Statement.{statement}
-use Rattle.levels_calls.proofs.merge_pending.Tie as tie
+-- `levels_answer::calls::merge_pending` meets its contract. Assumes nothing.
+use Rattle.levels_answer.proofs.Prelude.{refl, merge-served, needs}
+use Rattle.levels_answer.proofs.calls.merge_pending.Statement.{statement}
+use Rattle.levels_answer.proofs.calls.merge_pending.Tie as tie
 
 returns : tie.Need-returns
 returns c = merge-served (c .respond-merge .ensures) refl refl (c .before .before .before .before .before .before .before .before .before .merge .ensures)

@@ -1,7 +1,7 @@
--- `levels_calls::stage` meets its contract. Assumes nothing.
-use Rattle.levels_calls.proofs.Prelude.{insert-served, by-key-served, row-letter, by-row-letter, needs}
-use Rattle.levels_calls.proofs.stage.Statement.{statement}
-use Rattle.levels_calls.proofs.stage.Tie as tie
+-- `levels_answer::calls::stage` meets its contract. Assumes nothing.
+use Rattle.levels_answer.proofs.Prelude.{insert-served, by-key-served, row-letter, by-row-letter, needs}
+use Rattle.levels_answer.proofs.calls.stage.Statement.{statement}
+use Rattle.levels_answer.proofs.calls.stage.Tie as tie
 
 returns : tie.Need-returns
 returns c = insert-served (c .taken .ensures) (c .before .before .before .before .before .if1 .taken) (c .before .before .before .stage-insert .ensures)

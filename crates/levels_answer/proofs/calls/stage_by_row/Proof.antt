@@ -1,7 +1,7 @@
--- `levels_calls::stage_by_row` meets its contract. Assumes nothing.
-use Rattle.levels_calls.proofs.Prelude.{by-row-served, needs}
-use Rattle.levels_calls.proofs.stage_by_row.Statement.{statement}
-use Rattle.levels_calls.proofs.stage_by_row.Tie as tie
+-- `levels_answer::calls::stage_by_row` meets its contract. Assumes nothing.
+use Rattle.levels_answer.proofs.Prelude.{by-row-served, needs}
+use Rattle.levels_answer.proofs.calls.stage_by_row.Statement.{statement}
+use Rattle.levels_answer.proofs.calls.stage_by_row.Tie as tie
 
 pub stage-by-row-spec : {M : Type 1} → statement M
 stage-by-row-spec =

@@ -1,7 +1,7 @@
--- `levels_calls::compact` meets its contract. Assumes nothing.
-use Rattle.levels_calls.proofs.Prelude.{refl, compact-served, needs}
-use Rattle.levels_calls.proofs.compact.Statement.{statement}
-use Rattle.levels_calls.proofs.compact.Tie as tie
+-- `levels_answer::calls::compact` meets its contract. Assumes nothing.
+use Rattle.levels_answer.proofs.Prelude.{refl, compact-served, needs}
+use Rattle.levels_answer.proofs.calls.compact.Statement.{statement}
+use Rattle.levels_answer.proofs.calls.compact.Tie as tie
 
 returns : tie.Need-returns
 returns c = compact-served (c .taken .ensures) refl refl (c .before .before .before .before .before .before .before .before .before .compact .ensures)
