@@ -1,10 +1,10 @@
 -- The plain values that the manual proofs pass on: their types, and that they own no resource. Assumes `Given`.
-use Rattle.query_loop.proofs.Prelude.{refl, ℕ, List, w32, Val, u32, uint-makes, only}
+use Rattle.query.proofs.Prelude.{refl, ℕ, List, w32, Val, u32, uint-makes, only}
 use denote.Array.{Array, array-vals, array-tells, array-lawful, array-makes}
 use denote.Plain.{uint-vals, uint-tells, uint-lawful}
 use Rattle.listing_parse.proofs.Survey as VT
 use Rattle.listing_parse.proofs.Survey.Laws as VT′
-use Rattle.query_loop.proofs.Walking.{Value, enum-value, struct-value}
+use Rattle.query.proofs.Walking.{Value, enum-value, struct-value}
 use Rattle.listing_check.proofs.CheckAnswer as AT
 use Rattle.listing_check.proofs.CheckAnswer.Laws as AT′
 use Rattle.listing_check.proofs.Row as RT

@@ -12,7 +12,7 @@ use levels_text::MOST_NUMBERS;
 use listing_parse::Survey;
 use listing_parse::line_at;
 use listing_parse::scan_text;
-use query_loop::all_pass;
+use query::loops::all_pass;
 use query_scan::Test;
 use refusals::NO_LISTING;
 use refusals::NO_SUCH_COLUMN;

@@ -2,9 +2,9 @@
 ghost use Rattle.offsets.specs.Answers.{subsetOf};
 ghost use Rattle.query_spec.specs.Queries.{RefinedOne, RefinedList, Matched, PageRead};
 use constraints::Constraint;
+use loops::scan;
 use offsets::SubsetAnswer;
 use offsets::SubsetHead;
-use query_loop::scan;
 use query_scan::QueryKind;
 use query_scan::close_match;
 use query_scan::close_page;
@@ -16,6 +16,7 @@ use query_spec::PageAnswer;
 use table::Header;
 
 pub mod array; // array.rt: conditions that lie in an array
+pub mod loops; // loops.rt: the loops over rows and conditions
 
 // Returns the rows of a subset that are live and meet a condition. From a range: a range while they are neighbours, else a list.
 // From a list: a list.

@@ -1,8 +1,8 @@
 -- `listing_check::check_answers` meets its contract: a manual proof over its MIR, split at each call before the loop. The borrowed
 -- arguments are passed on whole. The loop's state is the merge scan over the rows. Assumes nothing.
-use Rattle.query_loop.proofs.Prelude.{_≡_, refl, sym, ap, subst, _∙_, ℕ, _<_, _≤_, Bool, true, false, List, [], _∷_, ltb, length, URA, fullShare, named, tyBool, w32, w64, Val, vbool, vint, SProp, ent, emp, id⊢, via, fst∗, Lft, Share, Fml, ftrue, fsep, flft, fat, Memory, Routine, Heap, Env, Tables, Wp, WpFn, afterBlock, afterSeq}
-use Rattle.query_loop.proofs.Prelude.{atReturn, afterTurn, Atoms, Fun, givenOf, tables, tablesOf, Given, Item, Sq, anyQ, atRet, runs, ‵, raw, ⋆, _$_, _∵_, !, qed, move, drop, group, use1, split, join, rewrite, fsplit, fjoin, suffices, frame, done, agg, whole, sub, look-in, Below, look, store, init, forget, stop, fld, from}
-use Rattle.query_loop.proofs.Prelude.{load, lit, bin, and-then, no-more, assigns, land, again, blocks, exec, first, leaves-loop, loops, goes-on, returns, enter, alloc1, alloc0, params1, pass1, pass0, free1, free0, fmOf, u32, bool, Is, bool-makes, RefT, now, ShrSlice, Room, owned, nothing, Clauses, onEntry, cited, says, ends-at}
+use Rattle.query.proofs.Prelude.{_≡_, refl, sym, ap, subst, _∙_, ℕ, _<_, _≤_, Bool, true, false, List, [], _∷_, ltb, length, URA, fullShare, named, tyBool, w32, w64, Val, vbool, vint, SProp, ent, emp, id⊢, via, fst∗, Lft, Share, Fml, ftrue, fsep, flft, fat, Memory, Routine, Heap, Env, Tables, Wp, WpFn, afterBlock, afterSeq}
+use Rattle.query.proofs.Prelude.{atReturn, afterTurn, Atoms, Fun, givenOf, tables, tablesOf, Given, Item, Sq, anyQ, atRet, runs, ‵, raw, ⋆, _$_, _∵_, !, qed, move, drop, group, use1, split, join, rewrite, fsplit, fjoin, suffices, frame, done, agg, whole, sub, look-in, Below, look, store, init, forget, stop, fld, from}
+use Rattle.query.proofs.Prelude.{load, lit, bin, and-then, no-more, assigns, land, again, blocks, exec, first, leaves-loop, loops, goes-on, returns, enter, alloc1, alloc0, params1, pass1, pass0, free1, free0, fmOf, u32, bool, Is, bool-makes, RefT, now, ShrSlice, Room, owned, nothing, Clauses, onEntry, cited, says, ends-at}
 use Rattle.listing_check.proofs.Prelude.{_-_, map, map-id, le-ltb, lt-ltb, ltb-false, ltb-true, take, InvImage·wf, Nat·lt-wfRel, all, Constraint, known, meets, Header, Known, allPass, Survey, Surveyed, CheckScan, AnswersChecked, Due, RowRead, Underway, Begun, Stepped, closed}
 use ghost.Atoms.{sem}
 use types.Kit as Kit
@@ -16,9 +16,9 @@ use Rattle.table.proofs.Header.Laws as HT′
 use Rattle.query_scan.proofs.Test as TT
 use Rattle.query_scan.proofs.Test.Laws as TT′
 use Rattle.listing_parse.proofs.Survey as VT
-use Rattle.query_loop.proofs.Lent.{fits, header-val, headers, numbers, slice-val, test-val, tests}
-use Rattle.query_loop.proofs.LoopSteps.{all-known}
-use Rattle.query_loop.proofs.Walking.{AllPassed, Callee, Cell, Cells, Cites, Tokens, Walked, arg, bool-lands, calls, calls-last, empty, env-of, holds, lent-slice, own, stays, twice, typed, value-lands, value-settles, walk-runs}
+use Rattle.query.proofs.Lent.{fits, header-val, headers, numbers, slice-val, test-val, tests}
+use Rattle.query.proofs.LoopSteps.{all-known}
+use Rattle.query.proofs.Walking.{AllPassed, Callee, Cell, Cells, Cites, Tokens, Walked, arg, bool-lands, calls, calls-last, empty, env-of, holds, lent-slice, own, stays, twice, typed, value-lands, value-settles, walk-runs}
 use Rattle.listing_check.specs.declared.Row.{Row}
 use Rattle.listing_check.proofs.Steps.{finish}
 use Rattle.listing_check.proofs.Values.{answers, arrays, cells-val, rows, surveys, walks}
@@ -34,10 +34,10 @@ use Rattle.listing_check.proofs.header_of as hdr
 use Rattle.listing_check.proofs.header_of.Symbol as hdr-def
 use Rattle.listing_check.proofs.header_of.Symbol.{name as #listing-check·header-of}
 use Rattle.listing_check.proofs.header_of.Met as hdr-thm
-use Rattle.query_loop.proofs.all_pass as all-hold
-use Rattle.query_loop.proofs.all_pass.Symbol as all-def
-use Rattle.query_loop.proofs.all_pass.Symbol.{name as #query-loop·all-pass}
-use Rattle.query_loop.proofs.all_pass.Met as all-thm
+use Rattle.query.proofs.loops.all_pass as all-hold
+use Rattle.query.proofs.loops.all_pass.Symbol as all-def
+use Rattle.query.proofs.loops.all_pass.Symbol.{name as #query·loops·all-pass}
+use Rattle.query.proofs.loops.all_pass.Met as all-thm
 use Rattle.listing_check.proofs.begin as beg
 use Rattle.listing_check.proofs.begin.Symbol as beg-def
 use Rattle.listing_check.proofs.begin.Symbol.{name as #listing-check·begin}
@@ -179,7 +179,7 @@ module _ {M : Type 1} (𝓤 : URA M) (H : Heap 𝓤) (A : Atoms 𝓤) (W : Given
   requires-close : (at : CheckScan) → Is WT.the-row at (walks .val at ∷ []) → ent 𝓤 (⋆ 𝓤 H A (‵ (flft κ₂ q₂) ∷ ‵ OwnGiven ∷ [])) (Callee 𝓤 H A cls.ended closing .pre (to-close at))
   requires-close at is-at = qed W (‵ (flft κ₂ q₂) ∷ ‵ OwnGiven ∷ []) ∵ nothing ! $ move ! (2 ∷ 0 ∷ []) $ fjoin ! $ own ! walks at is-at $ fjoin ! $ nothing ! $ move ! (2 ∷ 0 ∷ []) $ join ! $ join ! $ frame ! $ done !
 
-  module _ (𝓣 : Tables 𝓤 H) (known-look : Cites 𝓤 H A lok.ended looking (𝓣 .C) #listing-parse·scan-text) (known-head : Cites 𝓤 H A hdr.ended heading (𝓣 .C) #listing-check·header-of) (known-all : Cites 𝓤 H A all-hold.ended passing (𝓣 .C) #query-loop·all-pass)
+  module _ (𝓣 : Tables 𝓤 H) (known-look : Cites 𝓤 H A lok.ended looking (𝓣 .C) #listing-parse·scan-text) (known-head : Cites 𝓤 H A hdr.ended heading (𝓣 .C) #listing-check·header-of) (known-all : Cites 𝓤 H A all-hold.ended passing (𝓣 .C) #query·loops·all-pass)
       (known-begin : Cites 𝓤 H A beg.ended beginning (𝓣 .C) #listing-check·begin) (known-row : Cites 𝓤 H A row.ended reading (𝓣 .C) #listing-check·row-at) (known-meet : Cites 𝓤 H A met.ended meeting (𝓣 .C) #listing-check·meets-all)
       (known-step : Cites 𝓤 H A stp.ended stepping (𝓣 .C) #listing-check·step) (known-close : Cites 𝓤 H A cls.ended closing (𝓣 .C) #listing-check·close) (l₀ l₁ l₂ l₃ l₄ l₅ l₆ l₇ l₈ l₉ l₁₀ l₁₁ : ℕ) where
     abbrev E : Env 𝓤 H
@@ -289,7 +289,7 @@ module _ {M : Type 1} (𝓤 : URA M) (H : Heap 𝓤) (A : Atoms 𝓤) (W : Given
         move ! (2 ∷ []) $ drop ! $ move ! (1 ∷ []) $ value-lands ! surveys s w (λ is-s. split ! $ move ! (1 ∷ []) $ drop ! $ move ! (0 ∷ 2 ∷ 3 ∷ 1 ∷ []) $
         land ! (from ! (stop !)) (init ! 20 refl (typed W surveys s is-s .0)) $ heads s sv is-s))
 
-  walk : (𝓣 : Tables 𝓤 H) → Cites 𝓤 H A lok.ended looking (𝓣 .C) #listing-parse·scan-text → Cites 𝓤 H A hdr.ended heading (𝓣 .C) #listing-check·header-of → Cites 𝓤 H A all-hold.ended passing (𝓣 .C) #query-loop·all-pass
+  walk : (𝓣 : Tables 𝓤 H) → Cites 𝓤 H A lok.ended looking (𝓣 .C) #listing-parse·scan-text → Cites 𝓤 H A hdr.ended heading (𝓣 .C) #listing-check·header-of → Cites 𝓤 H A all-hold.ended passing (𝓣 .C) #query·loops·all-pass
       → Cites 𝓤 H A beg.ended beginning (𝓣 .C) #listing-check·begin → Cites 𝓤 H A row.ended reading (𝓣 .C) #listing-check·row-at → Cites 𝓤 H A met.ended meeting (𝓣 .C) #listing-check·meets-all
       → Cites 𝓤 H A stp.ended stepping (𝓣 .C) #listing-check·step → Cites 𝓤 H A cls.ended closing (𝓣 .C) #listing-check·close → Room u8 (length (now x)) → Room CT.the-row (length (now c)) → Room u32 (length (now g))
       → ent 𝓤 (onEntry 𝓤 H A f.signature (y .0 .0) (y .0 .1) (y .0 .3) (y .0 .4)) (WpFn 𝓤 H (𝓣 .C) (𝓣 .Λ) code.function (Walked f.ended params 𝓤 H A clauses .args y) Post)
@@ -308,7 +308,7 @@ check-answers-spec 𝓤 H 𝓜 𝓖 𝓡 =
     (walk 𝓤 H (𝓖 .A) (givenOf 𝓤 H 𝓜 𝓖) (𝓜 .mem) (𝓡 .run) (κs .0) (κs .1 .0) (κs .1 .1 .0) (qs .0) (qs .1 .0) (qs .1 .1 .0) (a .0) (a .1 .0) (a .1 .1 .0) (tablesOf 𝓤 H 𝓜 (tables 𝓤 H 𝓜 𝓡 code.env))
     (cited 𝓤 H _ 𝓜 𝓡 code.env #listing-parse·scan-text lok-def.routine code.calls-listing-parse·scan-text (lok-thm.met 𝓤 H 𝓜 𝓖 𝓡))
     (cited 𝓤 H _ 𝓜 𝓡 code.env #listing-check·header-of hdr-def.routine code.calls-listing-check·header-of (hdr-thm.met 𝓤 H 𝓜 𝓖 𝓡))
-    (cited 𝓤 H _ 𝓜 𝓡 code.env #query-loop·all-pass all-def.routine code.calls-query-loop·all-pass (all-thm.met 𝓤 H 𝓜 𝓖 𝓡))
+    (cited 𝓤 H _ 𝓜 𝓡 code.env #query·loops·all-pass all-def.routine code.calls-query·loops·all-pass (all-thm.met 𝓤 H 𝓜 𝓖 𝓡))
     (cited 𝓤 H _ 𝓜 𝓡 code.env #listing-check·begin beg-def.routine code.calls-listing-check·begin (beg-thm.met 𝓤 H 𝓜 𝓖 𝓡))
     (cited 𝓤 H _ 𝓜 𝓡 code.env #listing-check·row-at row-def.routine code.calls-listing-check·row-at (row-thm.met 𝓤 H 𝓜 𝓖 𝓡))
     (cited 𝓤 H _ 𝓜 𝓡 code.env #listing-check·meets-all met-def.routine code.calls-listing-check·meets-all (met-thm.met 𝓤 H 𝓜 𝓖 𝓡))

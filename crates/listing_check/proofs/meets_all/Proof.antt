@@ -1,8 +1,8 @@
 -- `listing_check::meets_all` meets its contract: a manual proof over its MIR. The array is copied to a local, which is lent for a
 -- lifetime that the proof creates; the conditions are passed on whole. Assumes nothing.
-use Rattle.query_loop.proofs.Prelude.{_≡_, refl, sym, _∙_, ℕ, Bool, List, [], _∷_, lit<, length, URA, fullShare, Ty, erased, imm, named, tyRef, vbool, SProp, ent, id⊢, Lft, Share, GName, Fml, ftrue, fsep, flft, fat, froom, Memory, Routine, Heap, Tables, WpFn, Atoms, Fun, givenOf, tables, tablesOf}
-use Rattle.query_loop.proofs.Prelude.{Given, ‵, raw, _⊛_, ⋆, some, later, _$_, _∵_, !, qed, move, drop, group, use1, use2, split, join, pick, rewrite, fsplit, fjoin, suffices, frame, await, done, agg, look, init, forget, stop, from}
-use Rattle.query_loop.proofs.Prelude.{load, addr, lit, of-opd, and-then, no-more, assigns, land, returns, enter, alloc1, alloc0, params1, pass1, pass0, free1, free0, lft-new, lft-end, fmOf, u32, bool, Is, bool-makes, pointee, RefT, now, sliceTy, sliceVal, ShrSlice, Room, owned, nothing, Clauses, onEntry, cited, says, needs, ends-at}
+use Rattle.query.proofs.Prelude.{_≡_, refl, sym, _∙_, ℕ, Bool, List, [], _∷_, lit<, length, URA, fullShare, Ty, erased, imm, named, tyRef, vbool, SProp, ent, id⊢, Lft, Share, GName, Fml, ftrue, fsep, flft, fat, froom, Memory, Routine, Heap, Tables, WpFn, Atoms, Fun, givenOf, tables, tablesOf}
+use Rattle.query.proofs.Prelude.{Given, ‵, raw, _⊛_, ⋆, some, later, _$_, _∵_, !, qed, move, drop, group, use1, use2, split, join, pick, rewrite, fsplit, fjoin, suffices, frame, await, done, agg, look, init, forget, stop, from}
+use Rattle.query.proofs.Prelude.{load, addr, lit, of-opd, and-then, no-more, assigns, land, returns, enter, alloc1, alloc0, params1, pass1, pass0, free1, free0, lft-new, lft-end, fmOf, u32, bool, Is, bool-makes, pointee, RefT, now, sliceTy, sliceVal, ShrSlice, Room, owned, nothing, Clauses, onEntry, cited, says, needs, ends-at}
 use Rattle.listing_check.proofs.Prelude.{_≤_, arith, take, length-take-le, Constraint, meets, Header, Row, allPass}
 use package.mir.Syntax.{tyArray}
 use denote.Array.{Array}
@@ -12,14 +12,14 @@ use Rattle.constraints.proofs.Constraint as CT
 use Rattle.table.proofs.Header as HT
 use Rattle.query_scan.proofs.Test as TT
 use Rattle.query_scan.proofs.Test.Laws as TT′
-use Rattle.query_loop.proofs.Lent.{fits, header-val, headers, slice-val, test-val, tests}
-use Rattle.query_loop.proofs.LentArray.{Kept, lends-front, front-back}
-use Rattle.query_loop.proofs.LentArray.{Lent as LentFront}
-use Rattle.query_loop.proofs.Walking.{AllPassed, Callee, Cites, Tokens, Walked, arg, bool-lands, by-value, calls, lent-slice, own, stays, twice, typed, walk-runs}
-use Rattle.query_loop.proofs.all_pass as all
-use Rattle.query_loop.proofs.all_pass.Symbol as all-def
-use Rattle.query_loop.proofs.all_pass.Symbol.{name as #query-loop·all-pass}
-use Rattle.query_loop.proofs.all_pass.Met as all-thm
+use Rattle.query.proofs.Lent.{fits, header-val, headers, slice-val, test-val, tests}
+use Rattle.query.proofs.LentArray.{Kept, lends-front, front-back}
+use Rattle.query.proofs.LentArray.{Lent as LentFront}
+use Rattle.query.proofs.Walking.{AllPassed, Callee, Cites, Tokens, Walked, arg, bool-lands, by-value, calls, lent-slice, own, stays, twice, typed, walk-runs}
+use Rattle.query.proofs.loops.all_pass as all
+use Rattle.query.proofs.loops.all_pass.Symbol as all-def
+use Rattle.query.proofs.loops.all_pass.Symbol.{name as #query·loops·all-pass}
+use Rattle.query.proofs.loops.all_pass.Met as all-thm
 use Rattle.listing_check.proofs.Conditions.{row-in-store, row-meets}
 use Rattle.listing_check.proofs.Values.{arrays, cells-val}
 use Rattle.listing_check.proofs.meets_all.Key.{name as #listing-check·meets-all}
@@ -76,7 +76,7 @@ module _ {M : Type 1} (𝓤 : URA M) (H : Heap 𝓤) (A : Atoms 𝓤) (W : Given
     abbrev met : Bool
     met = meets (take (h .columns) cells) (now x)
 
-    walk : (𝓣 : Tables 𝓤 H) → Cites 𝓤 H A all.ended passing (𝓣 .C) #query-loop·all-pass → Room CT.the-row (length (now x))
+    walk : (𝓣 : Tables 𝓤 H) → Cites 𝓤 H A all.ended passing (𝓣 .C) #query·loops·all-pass → Room CT.the-row (length (now x))
         → ent 𝓤 (onEntry 𝓤 H A f.signature (y .0 .0) (y .0 .1) (y .0 .3) (y .0 .4)) (WpFn 𝓤 H (𝓣 .C) (𝓣 .Λ) code.function (Walked f.ended params 𝓤 H A clauses .args y) (Walked f.ended params 𝓤 H A clauses .post y))
     walk 𝓣 known room =
         qed W (Tokens 𝓤 H A 1 (y .0 .0) (y .0 .1) ∷ ‵ (fsep (HT.the-row .own h (header-val h ∷ [])) (fsep (Array u32 8 .own cells (cells-val cells ∷ [])) (fsep OwnConditions ftrue))) ∷ []) ∵
@@ -108,4 +108,4 @@ unfolding code.routine tablesOf
 meets-all-spec 𝓤 H 𝓜 𝓖 𝓡 =
     walk-runs f.ended params 𝓤 H 𝓜 𝓖 𝓡 (f.clauses 𝓤 H (𝓖 .A) (𝓜 .mem) (𝓡 .run)) code.env #listing-check·meets-all code.function (code.unfolded 𝓤 H 𝓜 𝓡) (λ κs qs bounds a g are. needs 𝓤 ((1 ≤ a .0 .columns) × (a .0 .columns ≤ 8)) _ (λ narrow.
     walk 𝓤 H (𝓖 .A) (givenOf 𝓤 H 𝓜 𝓖) (𝓜 .mem) (𝓡 .run) (κs .0) (qs .0) (a .0) (a .1 .0) (a .1 .1 .0) (are .0) (are .1 .0) narrow (tablesOf 𝓤 H 𝓜 (tables 𝓤 H 𝓜 𝓡 code.env))
-    (cited 𝓤 H _ 𝓜 𝓡 code.env #query-loop·all-pass all-def.routine code.calls-query-loop·all-pass (all-thm.met 𝓤 H 𝓜 𝓖 𝓡)) (are .1 .1 .0 .0 .1)))
+    (cited 𝓤 H _ 𝓜 𝓡 code.env #query·loops·all-pass all-def.routine code.calls-query·loops·all-pass (all-thm.met 𝓤 H 𝓜 𝓖 𝓡)) (are .1 .1 .0 .0 .1)))

@@ -1,17 +1,17 @@
 -- `query::contains_match` meets its contract: a manual proof over its MIR. The list of conditions is passed on whole; the output
 -- lent to `scan` is an empty array. Assumes nothing.
-use Rattle.query_loop.proofs.Prelude.{refl, [], _∷_, lit<, URA, fullShare, named, SProp, ent, emp, id⊢, via, fst∗, GName, ftrue, fsep, Memory, Routine, Heap, Tables, WpFn, Atoms, Fun, givenOf, tables, tablesOf, Given, ‵, raw, _⊛_, some, later, _$_, _∵_, !, qed, move, keep, drop, use1, split, join}
-use Rattle.query_loop.proofs.Prelude.{pick, fjoin, suffices, frame, await, done, agg, look, init, forget, stop, from, addr, lit, and-then, no-more, assigns, land, returns, enter, alloc1, alloc0, params1, pass1, pass0, free1, free0, lft-new, fmOf, u32, Is, shows, now, sliceVal, peeks, nothing}
-use Rattle.query_loop.proofs.Prelude.{Clauses, onEntry, cited, says, ends-at, flent, sem, Held, lends-slice, Scan, Match, MatchClosed}
+use Rattle.query.proofs.Prelude.{refl, [], _∷_, lit<, URA, fullShare, named, SProp, ent, emp, id⊢, via, fst∗, GName, ftrue, fsep, Memory, Routine, Heap, Tables, WpFn, Atoms, Fun, givenOf, tables, tablesOf, Given, ‵, raw, _⊛_, some, later, _$_, _∵_, !, qed, move, keep, drop, use1, split, join}
+use Rattle.query.proofs.Prelude.{pick, fjoin, suffices, frame, await, done, agg, look, init, forget, stop, from, addr, lit, and-then, no-more, assigns, land, returns, enter, alloc1, alloc0, params1, pass1, pass0, free1, free0, lft-new, fmOf, u32, Is, shows, now, sliceVal, peeks, nothing}
+use Rattle.query.proofs.Prelude.{Clauses, onEntry, cited, says, ends-at, flent, sem, Held, lends-slice, Scan, Match, MatchClosed}
 use denote.Enum.Laws as EL
 use Rattle.constraints.proofs.Constraint as CT
 use Rattle.query_spec.proofs.MatchAnswer as AT
 use Rattle.query_scan.proofs.MatchSteps.{match-answered}
 use Rattle.query_scan.proofs.Scan as ST
 use Rattle.query_scan.proofs.QueryKind as QT
-use Rattle.query_loop.proofs.Lent.{Lent, OwnConditions, OwnOut, Owns, Ranged, Rooms, fits, head-val, header-val, headers, heads, lent-of, lifetimes, out-at, query-kinds, shares, slice-val, slices-off, slices-on, subset, scan-val, scans, tokens-off, tokens-on}
-use Rattle.query_loop.proofs.Walking.{AllPassed, Callee, Cites, Tokens, Walked, arg, by-value, calls, lent-slice, own, stays, typed, walk-runs}
-use Rattle.query_loop.proofs.scan as scan
+use Rattle.query.proofs.Lent.{Lent, OwnConditions, OwnOut, Owns, Ranged, Rooms, fits, head-val, header-val, headers, heads, lent-of, lifetimes, out-at, query-kinds, shares, slice-val, slices-off, slices-on, subset, scan-val, scans, tokens-off, tokens-on}
+use Rattle.query.proofs.Walking.{AllPassed, Callee, Cites, Tokens, Walked, arg, by-value, calls, lent-slice, own, stays, typed, walk-runs}
+use Rattle.query.proofs.loops.scan as scan
 use Rattle.query_scan.proofs.close_match as cls
 use Rattle.query.proofs.ScanCall.{CitesScan, calls-scan}
 use Rattle.query.proofs.contains_match as f
@@ -73,5 +73,5 @@ unfolding f.Code.routine tablesOf
 contains-match-spec 𝓤 H 𝓜 𝓖 𝓡 =
     walk-runs f.ended params 𝓤 H 𝓜 𝓖 𝓡 (f.clauses 𝓤 H (𝓖 .A) (𝓜 .mem) (𝓡 .run)) f.Code.env f.Key.name f.Code.function (f.Code.unfolded 𝓤 H 𝓜 𝓡) (λ κs qs bounds a g are. via 𝓤 _ (fst∗ 𝓤 _ (emp 𝓤))
     (walk 𝓤 H (𝓖 .A) (givenOf 𝓤 H 𝓜 𝓖) (𝓜 .mem) (𝓡 .run) (lent-of κs qs a (a .1 .1 .1 .1 .0)) (are .0, are .1 .1 .0) (are .1 .0 .0 .1, (are .1 .1 .1 .0 .0 .1, are .1 .1 .1 .1 .0 .0 .1)) (tablesOf 𝓤 H 𝓜 (tables 𝓤 H 𝓜 𝓡 f.Code.env))
-    (cited 𝓤 H _ 𝓜 𝓡 f.Code.env scan.Symbol.name scan.Symbol.routine f.Code.calls-query-loop·scan (scan.Met.met 𝓤 H 𝓜 𝓖 𝓡))
+    (cited 𝓤 H _ 𝓜 𝓡 f.Code.env scan.Symbol.name scan.Symbol.routine f.Code.calls-query·loops·scan (scan.Met.met 𝓤 H 𝓜 𝓖 𝓡))
     (cited 𝓤 H _ 𝓜 𝓡 f.Code.env cls.Symbol.name cls.Symbol.routine f.Code.calls-query-scan·close-match (cls.Met.met 𝓤 H 𝓜 𝓖 𝓡))))

@@ -1,17 +1,17 @@
 -- `query::read_page` meets its contract: a manual proof over its MIR. The list of conditions is passed on whole; out is lent to
 -- `scan` and returned, and is given up to `close_page`. Assumes nothing.
-use Rattle.query_loop.proofs.Prelude.{refl, _∙_, ℕ, _<_, _^_, List, [], _∷_, length, URA, named, w32, w64, Val, vint, SProp, ent, emp, id⊢, via, fst∗, Lft, Share, GName, ftrue, fsep, flft, Memory, Routine, Heap, Tables, WpFn, Atoms, Fun, givenOf, tables, tablesOf, Given, ‵, raw, ⋆, _$_, _∵_, !, qed}
-use Rattle.query_loop.proofs.Prelude.{move, keep, drop, group, use1, split, join, fsplit, fjoin, feqL, suffices, frame, done, agg, whole, sub, look-in, look, init, forget, stop, hop, fld, from, load, addr, lit, and-then, no-more, assigns, land, returns, enter, alloc1, alloc0, params1, pass1, pass0}
-use Rattle.query_loop.proofs.Prelude.{free1, free0, fmOf, u32, usize, Is, shows, now, sliceVal, Room, peeks, nothing, Clauses, onEntry, cited, says, ends-at, Scan, Page, PageClosed}
+use Rattle.query.proofs.Prelude.{refl, _∙_, ℕ, _<_, _^_, List, [], _∷_, length, URA, named, w32, w64, Val, vint, SProp, ent, emp, id⊢, via, fst∗, Lft, Share, GName, ftrue, fsep, flft, Memory, Routine, Heap, Tables, WpFn, Atoms, Fun, givenOf, tables, tablesOf, Given, ‵, raw, ⋆, _$_, _∵_, !, qed}
+use Rattle.query.proofs.Prelude.{move, keep, drop, group, use1, split, join, fsplit, fjoin, feqL, suffices, frame, done, agg, whole, sub, look-in, look, init, forget, stop, hop, fld, from, load, addr, lit, and-then, no-more, assigns, land, returns, enter, alloc1, alloc0, params1, pass1, pass0}
+use Rattle.query.proofs.Prelude.{free1, free0, fmOf, u32, usize, Is, shows, now, sliceVal, Room, peeks, nothing, Clauses, onEntry, cited, says, ends-at, Scan, Page, PageClosed}
 use denote.Enum.Laws as EL
 use Rattle.constraints.proofs.Constraint as CT
 use Rattle.query_spec.proofs.PageAnswer as AT
 use Rattle.query_scan.proofs.PageSteps.{can-page, page-answered}
 use Rattle.query_scan.proofs.Scan as ST
 use Rattle.query_scan.proofs.QueryKind as QT
-use Rattle.query_loop.proofs.Lent.{Lent, OwnConditions, OwnIds, OwnOut, Owns, Ranged, Rooms, fits, head-val, header-val, headers, heads, lent-of, lifetimes, numbers, out-at, owns-off, owns-on, query-val, query-kinds, shares, slice-val, subset, scan-val, scans, tokens-off}
-use Rattle.query_loop.proofs.Walking.{AllPassed, Callee, Cites, Tokens, Walked, arg, by-value, calls, given-slice, lent-slice, own, stays, twice, typed, walk-runs}
-use Rattle.query_loop.proofs.scan as scan
+use Rattle.query.proofs.Lent.{Lent, OwnConditions, OwnIds, OwnOut, Owns, Ranged, Rooms, fits, head-val, header-val, headers, heads, lent-of, lifetimes, numbers, out-at, owns-off, owns-on, query-val, query-kinds, shares, slice-val, subset, scan-val, scans, tokens-off}
+use Rattle.query.proofs.Walking.{AllPassed, Callee, Cites, Tokens, Walked, arg, by-value, calls, given-slice, lent-slice, own, stays, twice, typed, walk-runs}
+use Rattle.query.proofs.loops.scan as scan
 use Rattle.query_scan.proofs.close_page as cls
 use Rattle.query.proofs.ScanCall.{CitesScan, ScanResult, calls-scan-lent}
 use Rattle.query.proofs.read_page as f
@@ -85,5 +85,5 @@ read-page-spec 𝓤 H 𝓜 𝓖 𝓡 =
     walk-runs f.ended params 𝓤 H 𝓜 𝓖 𝓡 (f.clauses 𝓤 H (𝓖 .A) (𝓜 .mem) (𝓡 .run)) f.Code.env f.Key.name f.Code.function (f.Code.unfolded 𝓤 H 𝓜 𝓡) (λ κs qs bounds a g are. via 𝓤 _ (fst∗ 𝓤 _ (emp 𝓤))
     (walk 𝓤 H (𝓖 .A) (givenOf 𝓤 H 𝓜 𝓖) (𝓜 .mem) (𝓡 .run) (lent-of κs qs a (a .1 .1 .1 .1 .1 .1 .0)) (a .1 .1 .1 .1 .0) (a .1 .1 .1 .1 .1 .0) (κs .1 .1 .1 .0) (qs .1 .1 .1 .0) (a .1 .1 .1 .1 .1 .1 .1 .0 .ptr .0) (a .1 .1 .1 .1 .1 .1 .1 .0 .ptr .1) (a .1 .1 .1 .1 .1 .1 .1 .0 .name) (a .1 .1 .1 .1 .1 .1 .1 .0 .now)
     (are .0, are .1 .1 .0) (are .1 .0 .0 .1, (are .1 .1 .1 .0 .0 .1, are .1 .1 .1 .1 .1 .1 .0 .0 .1)) (are .1 .1 .1 .1 .0 .1) (are .1 .1 .1 .1 .1 .0 .1) (are .1 .1 .1 .1 .1 .1 .1 .0 .0 .1) (tablesOf 𝓤 H 𝓜 (tables 𝓤 H 𝓜 𝓡 f.Code.env))
-    (cited 𝓤 H _ 𝓜 𝓡 f.Code.env scan.Symbol.name scan.Symbol.routine f.Code.calls-query-loop·scan (scan.Met.met 𝓤 H 𝓜 𝓖 𝓡))
+    (cited 𝓤 H _ 𝓜 𝓡 f.Code.env scan.Symbol.name scan.Symbol.routine f.Code.calls-query·loops·scan (scan.Met.met 𝓤 H 𝓜 𝓖 𝓡))
     (cited 𝓤 H _ 𝓜 𝓡 f.Code.env cls.Symbol.name cls.Symbol.routine f.Code.calls-query-scan·close-page (cls.Met.met 𝓤 H 𝓜 𝓖 𝓡))))

@@ -1,5 +1,5 @@
 -- `query::refine_one` meets its contract. Assumes nothing.
-use Rattle.query_loop.proofs.Prelude.{kept-all, can-write, retained-range, retained-list, one-refused, one-answered}
+use Rattle.query.proofs.Prelude.{kept-all, can-write, retained-range, retained-list, one-refused, one-answered}
 use borrow.Author.Needs.{needs}
 use Rattle.query.proofs.refine_one.Statement.{statement}
 use Rattle.query.proofs.refine_one.Tie as tie

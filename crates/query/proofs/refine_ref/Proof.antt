@@ -1,16 +1,16 @@
 -- `query::refine_ref` meets its contract: a manual proof over its MIR. The list of conditions is passed on whole; out is lent to
 -- `scan` and returned, and is given up to `close_refine`. Assumes nothing.
-use Rattle.query_loop.proofs.Prelude.{refl, _∙_, ℕ, List, [], _∷_, length, URA, Val, SProp, ent, emp, id⊢, via, fst∗, Lft, Share, GName, ftrue, fsep, flft, Memory, Routine, Heap, Tables, WpFn, Atoms, Fun, givenOf, tables, tablesOf, Given, ‵, raw, ⋆, _$_, _∵_, !, qed, move, keep, drop, group, use1}
-use Rattle.query_loop.proofs.Prelude.{split, join, fsplit, fjoin, feqL, suffices, frame, done, agg, whole, sub, look-in, look, init, forget, stop, hop, fld, from, load, addr, lit, and-then, no-more, assigns, land, returns, enter, alloc1, alloc0, params1, pass1, pass0, free1, free0, fmOf, u32, Is}
-use Rattle.query_loop.proofs.Prelude.{shows, now, sliceVal, Room, peeks, nothing, Clauses, onEntry, cited, says, ends-at, Scan, Refine, RefineClosed, can-close, list-answered}
+use Rattle.query.proofs.Prelude.{refl, _∙_, ℕ, List, [], _∷_, length, URA, Val, SProp, ent, emp, id⊢, via, fst∗, Lft, Share, GName, ftrue, fsep, flft, Memory, Routine, Heap, Tables, WpFn, Atoms, Fun, givenOf, tables, tablesOf, Given, ‵, raw, ⋆, _$_, _∵_, !, qed, move, keep, drop, group, use1}
+use Rattle.query.proofs.Prelude.{split, join, fsplit, fjoin, feqL, suffices, frame, done, agg, whole, sub, look-in, look, init, forget, stop, hop, fld, from, load, addr, lit, and-then, no-more, assigns, land, returns, enter, alloc1, alloc0, params1, pass1, pass0, free1, free0, fmOf, u32, Is}
+use Rattle.query.proofs.Prelude.{shows, now, sliceVal, Room, peeks, nothing, Clauses, onEntry, cited, says, ends-at, Scan, Refine, RefineClosed, can-close, list-answered}
 use denote.Enum.Laws as EL
 use Rattle.constraints.proofs.Constraint as CT
 use Rattle.offsets.proofs.SubsetAnswer as AT
 use Rattle.query_scan.proofs.Scan as ST
 use Rattle.query_scan.proofs.QueryKind as QT
-use Rattle.query_loop.proofs.Lent.{Lent, OwnConditions, OwnOut, Owns, Ranged, Rooms, fits, head-val, header-val, headers, heads, lent-of, lifetimes, out-at, query-kinds, shares, slice-val, slices-off, slices-on, scan-val, scans, tokens-off, tokens-on}
-use Rattle.query_loop.proofs.Walking.{AllPassed, Callee, Cites, Tokens, Walked, arg, by-value, calls, given-slice, lent-slice, own, stays, typed, walk-runs}
-use Rattle.query_loop.proofs.scan as scan
+use Rattle.query.proofs.Lent.{Lent, OwnConditions, OwnOut, Owns, Ranged, Rooms, fits, head-val, header-val, headers, heads, lent-of, lifetimes, out-at, query-kinds, shares, slice-val, slices-off, slices-on, scan-val, scans, tokens-off, tokens-on}
+use Rattle.query.proofs.Walking.{AllPassed, Callee, Cites, Tokens, Walked, arg, by-value, calls, given-slice, lent-slice, own, stays, typed, walk-runs}
+use Rattle.query.proofs.loops.scan as scan
 use Rattle.query_scan.proofs.close_refine as cls
 use Rattle.query.proofs.ScanCall.{CitesScan, ScanResult, calls-scan-lent}
 use Rattle.query.proofs.refine_ref as f
@@ -80,5 +80,5 @@ refine-ref-spec 𝓤 H 𝓜 𝓖 𝓡 =
     walk-runs f.ended params 𝓤 H 𝓜 𝓖 𝓡 (f.clauses 𝓤 H (𝓖 .A) (𝓜 .mem) (𝓡 .run)) f.Code.env f.Key.name f.Code.function (f.Code.unfolded 𝓤 H 𝓜 𝓡) (λ κs qs bounds a g are. via 𝓤 _ (fst∗ 𝓤 _ (emp 𝓤))
     (walk 𝓤 H (𝓖 .A) (givenOf 𝓤 H 𝓜 𝓖) (𝓜 .mem) (𝓡 .run) (lent-of κs qs a (a .1 .1 .1 .1 .0)) (κs .1 .1 .1 .0) (qs .1 .1 .1 .0) (a .1 .1 .1 .1 .1 .0 .ptr .0) (a .1 .1 .1 .1 .1 .0 .ptr .1) (a .1 .1 .1 .1 .1 .0 .name) (a .1 .1 .1 .1 .1 .0 .now)
     (are .0, are .1 .1 .0) (are .1 .0 .0 .1, (are .1 .1 .1 .0 .0 .1, are .1 .1 .1 .1 .0 .0 .1)) (are .1 .1 .1 .1 .1 .0 .0 .1) (tablesOf 𝓤 H 𝓜 (tables 𝓤 H 𝓜 𝓡 f.Code.env))
-    (cited 𝓤 H _ 𝓜 𝓡 f.Code.env scan.Symbol.name scan.Symbol.routine f.Code.calls-query-loop·scan (scan.Met.met 𝓤 H 𝓜 𝓖 𝓡))
+    (cited 𝓤 H _ 𝓜 𝓡 f.Code.env scan.Symbol.name scan.Symbol.routine f.Code.calls-query·loops·scan (scan.Met.met 𝓤 H 𝓜 𝓖 𝓡))
     (cited 𝓤 H _ 𝓜 𝓡 f.Code.env cls.Symbol.name cls.Symbol.routine f.Code.calls-query-scan·close-refine (cls.Met.met 𝓤 H 𝓜 𝓖 𝓡))))

@@ -1,6 +1,6 @@
 -- "Whatever visits ids under the page, the refinements and the match test .. promises this too" (document 02, change 1): the loops
 -- under the four queries visit exactly these ids, and the dead count that each returns is of exactly these. `query_scan::scan_one`
--- is the loop of refine by one, `query_loop::scan` that of the other three. Assumes nothing.
+-- is the loop of refine by one, `query::loops::scan` that of the other three. Assumes nothing.
 use Prim.Native.Nat.{ℕ}
 use mathlib.Core.Path.{_≡_}
 use mathlib.Core.List.{List, [], _∷_}

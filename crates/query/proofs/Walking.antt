@@ -13,7 +13,7 @@
 --                            By kind: by-value, lent-slice, kept-slice, given-slice
 --     walk-runs              from the manual proof over a function's MIR to its theorem
 -- Assumes `Given`.
-use Rattle.query_loop.proofs.Prelude.{_≡_, refl, ap, subst, _∙_, ℕ, Bool, List, [], _∷_, URA, fullShare, Body, Place, Ty, Operand, call, seq, Val, vbool, SProp, ent, id⊢, Lft, Share, ftrue, flft, fat, froom, fdies, Heap, Calls, Env, Loops, WpFn, Atoms, Fun, givenOf, tables, tablesOf, Given, Goal, Item, Post, Seq, Step, lands, regoal, runs, settles, step, ‵, raw, _⊛_, some, later, _$_, move, use1, split, pick, await, Opds, look, stop, from, load, and-then, FmC, bool, yes, Is, shows, RattleType, RefT, plain, ShrSlice, facts, owned, only, Clauses, onEntry, zero, suc, Fn, Lifetime, Local, local, place, copy, sep, Closed, spotOf, Soaks, mean, nth, recast, flat, Slot, AllWithin, meetAt, mutSliceOf, nameOf, shrSliceOf, typeAt, typesAt, slice-vals, shr-slice-copy, shr-slice-tells, mut-slice-tells}
+use Rattle.query.proofs.Prelude.{_≡_, refl, ap, subst, _∙_, ℕ, Bool, List, [], _∷_, URA, fullShare, Body, Place, Ty, Operand, call, seq, Val, vbool, SProp, ent, id⊢, Lft, Share, ftrue, flft, fat, froom, fdies, Heap, Calls, Env, Loops, WpFn, Atoms, Fun, givenOf, tables, tablesOf, Given, Goal, Item, Post, Seq, Step, lands, regoal, runs, settles, step, ‵, raw, _⊛_, some, later, _$_, move, use1, split, pick, await, Opds, look, stop, from, load, and-then, FmC, bool, yes, Is, shows, RattleType, RefT, plain, ShrSlice, facts, owned, only, Clauses, onEntry, zero, suc, Fn, Lifetime, Local, local, place, copy, sep, Closed, spotOf, Soaks, mean, nth, recast, flat, Slot, AllWithin, meetAt, mutSliceOf, nameOf, shrSliceOf, typeAt, typesAt, slice-vals, shr-slice-copy, shr-slice-tells, mut-slice-tells}
 use prog.Model.{Model}
 use prog.Routine.{Name, Env as Names}
 use contract.Lifetimes.{Lfts, Shares, AllOutlive, toks}

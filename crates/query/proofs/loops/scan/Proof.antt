@@ -1,6 +1,6 @@
--- `query_loop::scan` meets its contract: a manual proof over its MIR, cut at each call. The list of conditions is passed on whole. The
+-- `query::loops::scan` meets its contract: a manual proof over its MIR, cut at each call. The list of conditions is passed on whole. The
 -- loop's state is the scan and the output, which each iteration lends again to `step`. Assumes nothing.
-use Rattle.query_loop.proofs.Prelude.{_≡_, refl, sym, subst, _∙_, ℕ, _<_, _≤_, Bool, true, false, List, [], _∷_, ltb, length, URA, fullShare, Body, Place, Ty, Operand, call, erased, mut, named, seq, tyBool, tyInt, tyRef, w32, w64, Val, vbool, vint, SProp, ent, emp, id⊢, via, fst∗, Lft, Share, GName, ftrue, fsep, flft, fat, Memory, Routine, Heap, Env, Loops, Tables, Wp, WpFn, afterBlock, afterSeq, atReturn, afterTurn, Atoms, Fun, givenOf, tables, tablesOf, Given, Item, Seq, Sq, anyQ, atRet, lands, runs, ‵, raw, ⋆, _$_, _∵_, !, qed, move, keep, drop, group, use1, split, join, rewrite, fsplit, fjoin, feqL, suffices, frame, done, agg, whole, sub, look-in, Below, Opds, look, store, init, forget, stop, hop, fld, from, load, addr, lit, of-opd, bin, and-then, no-more, assigns, land, again, blocks, exec, first, leaves-loop, loops, goes-on, returns, enter, alloc1, alloc0, params1, pass1, pass0, free1, free0, fmOf, u32, bool, Is, bool-makes, now, sliceTy, sliceVal, Room, owned, nothing, Clauses, onEntry, cited, says, ends-at, land-last, le-ltb, lt-ltb, ltb-false, ltb-true, matches, QueryKind, Scan, Test, Known, Row, RowInStore, RowNeeded, ScanStarts, ScanSteps, CanStart, ScanInvariant, allPass, scanned-all}
+use Rattle.query.proofs.Prelude.{_≡_, refl, sym, subst, _∙_, ℕ, _<_, _≤_, Bool, true, false, List, [], _∷_, ltb, length, URA, fullShare, Body, Place, Ty, Operand, call, erased, mut, named, seq, tyBool, tyInt, tyRef, w32, w64, Val, vbool, vint, SProp, ent, emp, id⊢, via, fst∗, Lft, Share, GName, ftrue, fsep, flft, fat, Memory, Routine, Heap, Env, Loops, Tables, Wp, WpFn, afterBlock, afterSeq, atReturn, afterTurn, Atoms, Fun, givenOf, tables, tablesOf, Given, Item, Seq, Sq, anyQ, atRet, lands, runs, ‵, raw, ⋆, _$_, _∵_, !, qed, move, keep, drop, group, use1, split, join, rewrite, fsplit, fjoin, feqL, suffices, frame, done, agg, whole, sub, look-in, Below, Opds, look, store, init, forget, stop, hop, fld, from, load, addr, lit, of-opd, bin, and-then, no-more, assigns, land, again, blocks, exec, first, leaves-loop, loops, goes-on, returns, enter, alloc1, alloc0, params1, pass1, pass0, free1, free0, fmOf, u32, bool, Is, bool-makes, now, sliceTy, sliceVal, Room, owned, nothing, Clauses, onEntry, cited, says, ends-at, land-last, le-ltb, lt-ltb, ltb-false, ltb-true, matches, QueryKind, Scan, Test, Known, Row, RowInStore, RowNeeded, ScanStarts, ScanSteps, CanStart, ScanInvariant, allPass, scanned-all}
 use types.Kit as Kit
 use denote.Enum.Laws as EL
 use denote.Struct.Laws as LL
@@ -9,14 +9,14 @@ use Rattle.query_scan.proofs.ScanSteps.{can-step, finished, next-in-store, step
 use Rattle.query_scan.proofs.QueryKind as QT
 use Rattle.query_scan.proofs.Scan as ST
 use Rattle.query_scan.proofs.Test as TT
-use Rattle.query_loop.proofs.Again.{lends, gets-back}
-use Rattle.query_loop.proofs.Lent.{Lent, OwnConditions, OwnIds, OwnOut, OwnRows, Owns, Ranged, Rooms, Slices, Tokens₃, apart, fits, head-val, header-val, headers, heads, lent-of, lifetimes, numbers, out-at, owns-on, query-val, query-kinds, shares, slice-val, slices-off, slices-on, subset, scan-val, scans, test-val, tests, together, tokens-off, tokens-on}
-use Rattle.query_loop.proofs.LoopSteps.{Fewer, all-known, fewer-wf, row-matches}
-use Rattle.query_loop.proofs.Walking.{AllPassed, Callee, Cell, Cells, Cites, Tokens, Walked, arg, bool-lands, by-value, calls, calls-last, empty, env-of, holds, kept-slice, lent-slice, own, stays, typed, value-lands, value-settles, walk-runs}
-use Rattle.query_loop.proofs.all_pass as all
+use Rattle.query.proofs.Again.{lends, gets-back}
+use Rattle.query.proofs.Lent.{Lent, OwnConditions, OwnIds, OwnOut, OwnRows, Owns, Ranged, Rooms, Slices, Tokens₃, apart, fits, head-val, header-val, headers, heads, lent-of, lifetimes, numbers, out-at, owns-on, query-val, query-kinds, shares, slice-val, slices-off, slices-on, subset, scan-val, scans, test-val, tests, together, tokens-off, tokens-on}
+use Rattle.query.proofs.LoopSteps.{Fewer, all-known, fewer-wf, row-matches}
+use Rattle.query.proofs.Walking.{AllPassed, Callee, Cell, Cells, Cites, Tokens, Walked, arg, bool-lands, by-value, calls, calls-last, empty, env-of, holds, kept-slice, lent-slice, own, stays, typed, value-lands, value-settles, walk-runs}
+use Rattle.query.proofs.loops.all_pass as all
 use Rattle.query_scan.proofs.begin as opn
 use Rattle.query_scan.proofs.step as stp
-use Rattle.query_loop.proofs.scan as f
+use Rattle.query.proofs.loops.scan as f
 
 -- the type of the local that holds the output as it is lent on
 abbrev LentTy : Ty
@@ -243,6 +243,6 @@ scan-spec 𝓤 H 𝓜 𝓖 𝓡 =
     (walk 𝓤 H (𝓖 .A) (givenOf 𝓤 H 𝓜 𝓖) (𝓜 .mem) (𝓡 .run) (lent-of κs qs (a .1) (a .1 .1 .1 .1 .1 .0)) (are .1 .0, are .1 .1 .1 .0) (a .0) (κs .1 .1 .1 .0) (qs .1 .1 .1 .0)
     (a .1 .1 .1 .1 .1 .1 .0 .ptr .0) (a .1 .1 .1 .1 .1 .1 .0 .ptr .1) (a .1 .1 .1 .1 .1 .1 .0 .name) (a .1 .1 .1 .1 .1 .1 .0 .now)
     (are .0) (are .1 .1 .0 .0 .1, (are .1 .1 .1 .1 .0 .0 .1, are .1 .1 .1 .1 .1 .0 .0 .1)) (are .1 .1 .1 .1 .1 .1 .0 .0 .1) (tablesOf 𝓤 H 𝓜 (tables 𝓤 H 𝓜 𝓡 f.Code.env))
-    (cited 𝓤 H _ 𝓜 𝓡 f.Code.env all.Symbol.name all.Symbol.routine f.Code.calls-query-loop·all-pass (all.Met.met 𝓤 H 𝓜 𝓖 𝓡))
+    (cited 𝓤 H _ 𝓜 𝓡 f.Code.env all.Symbol.name all.Symbol.routine f.Code.calls-query·loops·all-pass (all.Met.met 𝓤 H 𝓜 𝓖 𝓡))
     (cited 𝓤 H _ 𝓜 𝓡 f.Code.env opn.Symbol.name opn.Symbol.routine f.Code.calls-query-scan·begin (opn.Met.met 𝓤 H 𝓜 𝓖 𝓡))
     (cited 𝓤 H _ 𝓜 𝓡 f.Code.env stp.Symbol.name stp.Symbol.routine f.Code.calls-query-scan·step (stp.Met.met 𝓤 H 𝓜 𝓖 𝓡))))

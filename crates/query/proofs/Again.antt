@@ -7,7 +7,7 @@
 --                    [†κ′] ∗ LentAgain γ₁ ∗ finally γ₁ zs  ⊢ ⇛ (own (`&κ mut [T]` ((b, o), γ, zs)) ∗ [κ]_q)
 --     lends, gets-back    both as steps of a manual proof, for a lifetime ν that begins with the one and ends with the other
 -- Assumes `Given`.
-use Rattle.query_loop.proofs.Prelude.{_≡_, sym, ap, subst, ℕ, List, [], _∷_, length, URA, fullShare, Lifetime, Val, ent, sep, ex, Lft, GName, Share, Fml, fsep, flft, fdead, fobs, fauth, flent, fobor, Heap, Atoms, sem, Given, Goal, Item, Seq, Soaks, Step, step, ‵, _⊛_, some, later, _$_, _∵_, !, qed, move, use1, use2, use3, drop, split, pick, fsplit, fjoin, frame, await, updating, show, done, cells, Arr, lft-new, lft-end, RattleType, mem, RefT, sliceVal, MutSlice, heres, Room, finally, at-slice, codedHoleys, Held, lends-slice, slice-back, row, whole-out, whole-in, opens-slice, closes-slice}
+use Rattle.query.proofs.Prelude.{_≡_, sym, ap, subst, ℕ, List, [], _∷_, length, URA, fullShare, Lifetime, Val, ent, sep, ex, Lft, GName, Share, Fml, fsep, flft, fdead, fobs, fauth, flent, fobor, Heap, Atoms, sem, Given, Goal, Item, Seq, Soaks, Step, step, ‵, _⊛_, some, later, _$_, _∵_, !, qed, move, use1, use2, use3, drop, split, pick, fsplit, fjoin, frame, await, updating, show, done, cells, Arr, lft-new, lft-end, RattleType, mem, RefT, sliceVal, MutSlice, heres, Room, finally, at-slice, codedHoleys, Held, lends-slice, slice-back, row, whole-out, whole-in, opens-slice, closes-slice}
 use types.Kit.{now as at-once}
 use denote.Shadow.{pureL, pureI}
 
