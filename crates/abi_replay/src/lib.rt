@@ -5,7 +5,7 @@ ghost use Rattle.refusals.specs.Refusals.{accepted};
 ghost use Rattle.offsets.specs.Answers.{subsetOf};
 ghost use Rattle.table.specs.Numbers.{tableView};
 ghost use Rattle.table.specs.Contracts.{body, compactionWords};
-ghost use Rattle.replay_calls.specs.Encoding.{decoded};
+ghost use Rattle.replay.specs.Encoding.{decoded};
 ghost use Rattle.replay.specs.Replays.{Replayed};
 ghost use Rattle.replay_queries.specs.Encoding.{queriesIn};
 ghost use Rattle.replay_run.specs.RunQueries.{RunMade};

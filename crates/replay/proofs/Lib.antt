@@ -1,1 +1,3 @@
+mod Prelude
+pub mod Headers
 pub mod ReplaySteps

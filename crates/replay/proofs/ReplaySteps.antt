@@ -9,9 +9,9 @@ use Rattle.replay_frames.specs.inner.Lengths.{Cut, Whole}
 use Rattle.replay_frames.specs.Laws.Frames.{framed-end, framed-next}
 use Rattle.plain_table.specs.Refusing.{Lengths}
 use Rattle.table.specs.Contracts.{Stores, CompactionWords}
-use Rattle.replay_calls.specs.Encoding.{requestOf, decoded}
-use Rattle.replay_calls.specs.inner.Making.{Made}
-use Rattle.replay_calls.specs.Laws.Making.{none-made, made-then}
+use Rattle.replay.specs.Encoding.{requestOf, decoded}
+use Rattle.replay.specs.inner.Making.{Made}
+use Rattle.replay.specs.Laws.Making.{none-made, made-then}
 
 -- stores keep their lengths
 pub lengths-same : {l l′ : Lengths} → l′ .rows ≡ l .rows → l′ .keys ≡ l .keys → l′ .sorts ≡ l .sorts → l′ .pending ≡ l .pending → l′ .liveWords ≡ l .liveWords → l′ .baseWords ≡ l .baseWords

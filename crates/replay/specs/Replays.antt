@@ -14,7 +14,7 @@ use Rattle.table.specs.declared.TableAnswer.{TableAnswer}
 use Rattle.table.specs.declared.TableAnswer.the-variants.{Table}
 use Rattle.table.specs.Numbers.{tableView}
 use Rattle.table.specs.Contracts.{Stores, Body, stores, joined, CompactionWords, lengths, SlotsPast, WordsPast, Opened}
-use Rattle.replay_calls.specs.Requests.{Request, isRefresh, IndexPast, lentAll, ServedAll}
+use Rattle.replay.specs.Requests.{Request, isRefresh, IndexPast, lentAll, ServedAll}
 
 -- the calls, each with the lengths of the whole stores
 abbrev pub callsLent : List Call → Body → List ℕ → CompactionWords → List LentCall

@@ -1,15 +1,17 @@
 // Lists of requests, decoded from words and executed one after another on lent stores, starting with the opening: the claim about
 // histories holds for running code.
 ghost use Rattle.table.specs.Contracts.{stores, body, compactionWords, lengths};
-ghost use Rattle.replay_calls.specs.Encoding.{decoded};
-ghost use Rattle.replay_calls.specs.inner.Making.{Made};
+ghost use Rattle.replay.specs.Encoding.{decoded};
+ghost use Rattle.replay.specs.inner.Making.{Made};
 ghost use Rattle.replay.specs.Replays.{Replayed};
-use replay_calls::make_call;
+use calls::make_call;
 use replay_frames::Frame;
 use replay_frames::frame_at;
 use table::Header;
 use table::TableAnswer;
 use table_open::open_table;
+
+mod calls; // calls.rt: one request decoded and executed
 
 // Executes all requests, in order. A refused request changes nothing.
 fn make_calls(

@@ -15,7 +15,7 @@ use Rattle.table.specs.Contracts.{Body, CompactionWords}
 use Rattle.history.specs.Runs.{Query}
 use Rattle.replay_queries.specs.declared.RunAnswer.{RunAnswer}
 use Rattle.refresh_spec.specs.Index.{isNew}
-use Rattle.replay_calls.specs.Requests.{Request, isRefresh}
+use Rattle.replay.specs.Requests.{Request, isRefresh}
 use Rattle.replay.specs.Replays.{Replayed}
 use Rattle.replay.specs.Laws.Determined.{ReplayLeft, SameReplay, replayed-determined}
 use Rattle.replay_run.specs.RunQueries.{RunMade}

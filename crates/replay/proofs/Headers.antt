@@ -1,5 +1,5 @@
 -- The header that an answer leaves. Assumes nothing.
-use Rattle.replay_calls.proofs.Prelude.{ℕ, _≡_, Header, TableAnswer, Merge, MergeAnswer, RefreshAnswer}
+use Rattle.replay.proofs.Prelude.{ℕ, _≡_, Header, TableAnswer, Merge, MergeAnswer, RefreshAnswer}
 use Rattle.table.specs.declared.TableAnswer.the-variants.{Refused as TableRefused, Table}
 use Rattle.table.specs.declared.MergeAnswer.the-variants.{Refused as MergeRefused, Merged}
 use Rattle.table.specs.Numbers.{tableView, mergeView}

@@ -7,7 +7,7 @@ use Rattle.plain_table.specs.Plain.{Plain}
 use Rattle.plain_table.specs.Calls.{Call, afterAll}
 use Rattle.table.specs.declared.Header.{Header}
 use Rattle.table.specs.Contracts.{Stores, stores, lengths, Represents, CompactionWords, compactionWords, SlotsPast, WordsPast}
-use Rattle.replay_calls.specs.Requests.{Request, lentAll, ServedAll}
+use Rattle.replay.specs.Requests.{Request, lentAll, ServedAll}
 
 -- requests on stores and compaction words of these lengths, and on an index store
 pub record Made (requests : List Request) (l : Lengths) (s : Stores) (w : CompactionWords) (index : List ℕ) (s′ : Stores) (w′ : CompactionWords) (index′ : List ℕ) : Type 0 where

@@ -1,7 +1,7 @@
--- `replay_calls::make_call` meets its contract. Assumes nothing.
-use Rattle.replay_calls.proofs.Prelude.{arith, call-merge, call-compact, call-clear, call-refresh, call-none, none-made, merging-made, compacting-made, clearing-made, index-made, needs}
-use Rattle.replay_calls.proofs.make_call.Statement.{statement}
-use Rattle.replay_calls.proofs.make_call.Tie as tie
+-- `replay::calls::make_call` meets its contract. Assumes nothing.
+use Rattle.replay.proofs.Prelude.{arith, call-merge, call-compact, call-clear, call-refresh, call-none, none-made, merging-made, compacting-made, clearing-made, index-made, needs}
+use Rattle.replay.proofs.calls.make_call.Statement.{statement}
+use Rattle.replay.proofs.calls.make_call.Tie as tie
 
 returns : tie.Need-returns
 returns c =

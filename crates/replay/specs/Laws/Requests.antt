@@ -1,12 +1,12 @@
 -- Requests executed one after another: they are steps of a history; their effect on the index store; and that with a new index
 -- store the calls are those requested. Assumes nothing.
-use Rattle.replay_calls.specs.Laws.Prelude.{ℕ, _+_, _*_, _-_, _≤_, _≡_, refl, sym, ap, _∙_, inl, inr, true, false, false≢true, List, [], _∷_, _++_, map, append-nil, mul-le-mul-left, arith, length, drop, drop-drop, ltb-false, or-no-left, or-no-right, some-number, Opening, Lengths, Plain, firstRefusal-no, firstRefusal-rest, onward-all, Header, Stores, body, Represents, RefreshAnswer, isNew, IndexSound, number, ownRefresh, OwnIndex, adopted, other-call, refreshes, step-represents, own-indexes-sound, behind-nothing, whole-step}
+use Rattle.replay.specs.Laws.CallPrelude.{ℕ, _+_, _*_, _-_, _≤_, _≡_, refl, sym, ap, _∙_, inl, inr, true, false, false≢true, List, [], _∷_, _++_, map, append-nil, mul-le-mul-left, arith, length, drop, drop-drop, ltb-false, or-no-left, or-no-right, some-number, Opening, Lengths, Plain, firstRefusal-no, firstRefusal-rest, onward-all, Header, Stores, body, Represents, RefreshAnswer, isNew, IndexSound, number, ownRefresh, OwnIndex, adopted, other-call, refreshes, step-represents, own-indexes-sound, behind-nothing, whole-step}
 use Rattle.lists.specs.Lists.{any}
 use Rattle.plain_table.specs.Refreshing.{Refresh, refreshChecks}
 use Rattle.plain_table.specs.Calls.{Call, refreshing, afterAll, LentCall}
 use Rattle.refresh_spec.specs.Refreshes.{refreshRefusal, Refreshing}
 use Rattle.history.specs.Histories.{refreshedStores, Called, behind, Steps, end as steps-end, next as steps-next, History}
-use Rattle.replay_calls.specs.Requests.{Request, make, refresh, isRefresh, requested, IndexPast, lentTo, lentAll, Served, made, refreshed, refreshed-unsound, ServedAll, end, next}
+use Rattle.replay.specs.Requests.{Request, make, refresh, isRefresh, requested, IndexPast, lentTo, lentAll, Served, made, refreshed, refreshed-unsound, ServedAll, end, next}
 
 -- ---- steps of a history
 

@@ -8,7 +8,7 @@ use lib.ListN.{length, take, drop, getD}
 use Rattle.replay_frames.specs.Frames.{framed}
 use Rattle.plain_table.specs.Staged.{insert, removeKey, removeRow}
 use Rattle.plain_table.specs.Calls.{staging, merging, compacting, clearing}
-use Rattle.replay_calls.specs.Requests.{Request, make, refresh}
+use Rattle.replay.specs.Requests.{Request, make, refresh}
 
 -- a removal by row: the row, then the key; without a row no request
 unfoldable pub rowRemoval : List ℕ → List Request

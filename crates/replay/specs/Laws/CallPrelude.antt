@@ -1,4 +1,4 @@
--- The names that the laws of this crate take from elsewhere, re-exported. It defines nothing of its own.
+-- The names that the laws of one call (Encoding, Requests, Making) take from elsewhere, re-exported. It defines nothing of its own.
 pub use Prim.Native.Nat.{_*_, _+_, _-_, _<_, _≤_, suc, ℕ}
 pub use mathlib.Core.Bool.{false, false≢true, true}
 pub use mathlib.Core.List.{List, [], _++_, _∷_, append-nil, map, map-append}
@@ -28,8 +28,8 @@ pub use Rattle.refresh_spec.specs.Laws.Keeps.{number}
 pub use Rattle.refresh_spec.specs.Refreshes.{Refreshing, headerRefreshed, refreshView}
 pub use Rattle.refresh_spec.specs.declared.RefreshAnswer.{RefreshAnswer}
 pub use Rattle.refusals.specs.Laws.Replies.{some-number}
-pub use Rattle.replay_calls.specs.Requests.{Request, Served, end, lentAll, lentTo, made, make, next, refresh, refreshed, refreshed-unsound}
-pub use Rattle.replay_calls.specs.inner.Making.{Made, MadeOnIndex, MadeOnPending}
+pub use Rattle.replay.specs.Requests.{Request, Served, end, lentAll, lentTo, made, make, next, refresh, refreshed, refreshed-unsound}
+pub use Rattle.replay.specs.inner.Making.{Made, MadeOnIndex, MadeOnPending}
 pub use Rattle.table.specs.Contracts.{Clearing, Compacting, CompactionWords, Merging, Represents, SlotsPast, Staging, Stores, WordsPast, body, compactionWords, headerAfter, headerMerged, lengths, stores}
 pub use Rattle.table.specs.Laws.Checks.{compact-checks, merge-checks}
 pub use Rattle.table.specs.Numbers.{mergeView, tableView}

@@ -4,8 +4,8 @@ pub use mathlib.Core.Path.{_∙_, _≡_}
 pub use native.Mathlib.Omega.{arith}
 pub use borrow.Author.Needs.{needs}
 pub use Rattle.refresh_spec.specs.declared.RefreshAnswer.{RefreshAnswer}
-pub use Rattle.replay_calls.specs.Laws.Encoding.{call-clear, call-compact, call-insert, call-merge, call-none, call-refresh, call-remove, call-row, refresh-none, refresh-some, row-none, row-some}
-pub use Rattle.replay_calls.specs.Laws.Making.{clearing-made, compacting-made, index-made, merging-made, none-made, nothing-refreshed, nothing-staged, refreshing-made, staging-made}
+pub use Rattle.replay.specs.Laws.Encoding.{call-clear, call-compact, call-insert, call-merge, call-none, call-refresh, call-remove, call-row, refresh-none, refresh-some, row-none, row-some}
+pub use Rattle.replay.specs.Laws.Making.{clearing-made, compacting-made, index-made, merging-made, none-made, nothing-refreshed, nothing-staged, refreshing-made, staging-made}
 pub use Rattle.table.specs.declared.Header.{Header}
 pub use Rattle.table.specs.declared.Merge.{Merge}
 pub use Rattle.table.specs.declared.MergeAnswer.{MergeAnswer}

@@ -1,7 +1,7 @@
--- `replay_calls::stage` meets its contract. Assumes nothing.
-use Rattle.replay_calls.proofs.Prelude.{_∙_, arith, call-insert, call-remove, call-row, row-none, row-some, nothing-staged, staging-made, needs}
-use Rattle.replay_calls.proofs.stage.Statement.{statement}
-use Rattle.replay_calls.proofs.stage.Tie as tie
+-- `replay::calls::stage` meets its contract. Assumes nothing.
+use Rattle.replay.proofs.Prelude.{_∙_, arith, call-insert, call-remove, call-row, row-none, row-some, nothing-staged, staging-made, needs}
+use Rattle.replay.proofs.calls.stage.Statement.{statement}
+use Rattle.replay.proofs.calls.stage.Tie as tie
 
 returns : tie.Need-returns
 returns c = staging-made (call-insert _ _ (c .before .before .before .before .before .if1 .taken)) (c .before .before .before .stage-insert .ensures) (c .header-after .ensures)

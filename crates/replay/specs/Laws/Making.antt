@@ -1,10 +1,10 @@
 -- Requests executed one after another, and the step of each. Assumes nothing.
-use Rattle.replay_calls.specs.Laws.Prelude.{ℕ, _≡_, refl, sym, ap, _∙_, inl, inr, List, [], _∷_, _++_, map-append, arith, some-number, Staged, Refresh, onward-all, accepted-done, Header, TableAnswer, MergeAnswer, tableView, mergeView, mergeRefusal, compactRefusal, Stores, stores, body, CompactionWords, compactionWords, lengths, Represents, SlotsPast, WordsPast, headerAfter, headerMerged, Staging, Merging, Compacting, Clearing, merge-checks, compact-checks, RefreshAnswer, refreshView, headerRefreshed, Refreshing, index-decided, steps-represents, Request, make, refresh, lentTo, lentAll, Served, made, refreshed, refreshed-unsound, end, next, Made, MadeOnPending, MadeOnIndex}
+use Rattle.replay.specs.Laws.CallPrelude.{ℕ, _≡_, refl, sym, ap, _∙_, inl, inr, List, [], _∷_, _++_, map-append, arith, some-number, Staged, Refresh, onward-all, accepted-done, Header, TableAnswer, MergeAnswer, tableView, mergeView, mergeRefusal, compactRefusal, Stores, stores, body, CompactionWords, compactionWords, lengths, Represents, SlotsPast, WordsPast, headerAfter, headerMerged, Staging, Merging, Compacting, Clearing, merge-checks, compact-checks, RefreshAnswer, refreshView, headerRefreshed, Refreshing, index-decided, steps-represents, Request, make, refresh, lentTo, lentAll, Served, made, refreshed, refreshed-unsound, end, next, Made, MadeOnPending, MadeOnIndex}
 use Rattle.plain_table.specs.Refusing.{Lengths, storesShort, wordsShort, compactChecks}
 use Rattle.plain_table.specs.Plain.{Plain, compacted}
 use Rattle.plain_table.specs.Calls.{Call, staging, merging, compacting, clearing, refusal, done, after, LentCall, afterAll}
 use Rattle.history.specs.Histories.{stages, merges, compacts, clears, refreshes, refreshes-unsound}
-use Rattle.replay_calls.specs.Laws.Requests.{served-steps, served-then}
+use Rattle.replay.specs.Laws.Requests.{served-steps, served-then}
 
 -- no request
 pub none-made : {requests : List Request} (l : Lengths) (s : Stores) (w : CompactionWords) (index : List ℕ) → requests ≡ [] → Made requests l s w index s w index

@@ -1,7 +1,7 @@
--- `replay_calls::refresh` meets its contract. Assumes nothing.
-use Rattle.replay_calls.proofs.Prelude.{arith, refresh-none, refresh-some, nothing-refreshed, refreshing-made, needs}
-use Rattle.replay_calls.proofs.refresh.Statement.{statement}
-use Rattle.replay_calls.proofs.refresh.Tie as tie
+-- `replay::calls::refresh` meets its contract. Assumes nothing.
+use Rattle.replay.proofs.Prelude.{arith, refresh-none, refresh-some, nothing-refreshed, refreshing-made, needs}
+use Rattle.replay.proofs.calls.refresh.Statement.{statement}
+use Rattle.replay.proofs.calls.refresh.Tie as tie
 
 returns-3 : tie.Need-returns-3
 returns-3 c = refreshing-made (refresh-some _ (c .before .before .before .before .before .before .before .before .before .before .before .if2 .left)) (c .before .before .before .before .before .refresh-rows-for-values .ensures) (c .header-refreshed .ensures)

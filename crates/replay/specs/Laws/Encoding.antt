@@ -1,6 +1,6 @@
 -- The request of each kind. Assumes nothing.
-use Rattle.replay_calls.specs.Laws.Prelude.{ℕ, suc, _+_, _-_, _≤_, _<_, _≡_, refl, sym, ap, _∙_, List, [], _∷_, arith, length, take, drop, getD, ne-eqb, lt-ltb, le-ltb, part-to-end, insert, removeKey, removeRow, Refresh, staging, merging, compacting, clearing, make, refresh}
-use Rattle.replay_calls.specs.Encoding.{rowRemoval, refreshIn, requestOf}
+use Rattle.replay.specs.Laws.CallPrelude.{ℕ, suc, _+_, _-_, _≤_, _<_, _≡_, refl, sym, ap, _∙_, List, [], _∷_, arith, length, take, drop, getD, ne-eqb, lt-ltb, le-ltb, part-to-end, insert, removeKey, removeRow, Refresh, staging, merging, compacting, clearing, make, refresh}
+use Rattle.replay.specs.Encoding.{rowRemoval, refreshIn, requestOf}
 
 module _ (kind : ℕ) (words : List ℕ) where
   pub call-insert : kind ≡ 0 → requestOf kind words ≡ make (staging (insert words)) ∷ []

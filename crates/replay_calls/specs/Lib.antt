@@ -1,4 +1,0 @@
-pub mod Requests
-pub mod Encoding
-pub mod inner
-pub mod Laws
