@@ -8,7 +8,7 @@ ghost use Rattle.table.specs.Contracts.{body, compactionWords};
 ghost use Rattle.replay.specs.Encoding.{decoded};
 ghost use Rattle.replay.specs.Replays.{Replayed};
 ghost use Rattle.replay_queries.specs.Encoding.{queriesIn};
-ghost use Rattle.replay_run.specs.RunQueries.{RunMade};
+ghost use Rattle.replay_queries.specs.RunQueries.{RunMade};
 ghost use Rattle.abi.specs.Encoding.{decodeHeader, decodeOpening, openingGeneration, decodeSubset, encodeHeader, Stored, Answers};
 ghost use Rattle.abi_replay.specs.Encoding.{encodeRun};
 use abi::decode_header;
@@ -101,6 +101,6 @@ pub extern "C" fn mouldgrey_run_queries(
 {
     let h = decode_header(header);
     let start = decode_subset(subset);
-    let run = replay_run::run_queries(h, rows, sorts, start, ids, queries, first, second);
+    let run = replay_queries::run::run_queries(h, rows, sorts, start, ids, queries, first, second);
     store_run(run, answer)
 }

@@ -1,1 +1,3 @@
 pub mod ExecutingSteps
+mod Prelude
+pub mod RunSteps

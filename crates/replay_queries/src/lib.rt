@@ -17,6 +17,8 @@ use table::Header;
 use table::RangeAnswer;
 use table_read::fast_subset;
 
+pub mod run; // run.rt: a list of queries
+
 // The kinds of queries: refining by a condition or by a list of them, intersecting with ids, with a range, or with the
 // sort-column range of a condition.
 const REFINE_ONE: u32 = 0;

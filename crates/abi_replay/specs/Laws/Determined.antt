@@ -18,8 +18,8 @@ use Rattle.refresh_spec.specs.Index.{isNew}
 use Rattle.replay.specs.Requests.{Request, isRefresh}
 use Rattle.replay.specs.Replays.{Replayed}
 use Rattle.replay.specs.Laws.Determined.{ReplayLeft, SameReplay, replayed-determined}
-use Rattle.replay_run.specs.RunQueries.{RunMade}
-use Rattle.replay_run.specs.Laws.Determined.{RunLeft, SameRun, run-made-determined}
+use Rattle.replay_queries.specs.RunQueries.{RunMade}
+use Rattle.replay_queries.specs.Laws.Determined.{RunLeft, SameRun, run-made-determined}
 use Rattle.abi.specs.Encoding.{decodeOpening, openingGeneration, encodeHeader, Answers}
 use Rattle.abi.specs.Laws.Determined.{SameOutcome, answers-determined}
 use Rattle.abi_replay.specs.Encoding.{encodeRun}

@@ -1,9 +1,9 @@
 -- A run, query by query. Assumes nothing.
-use Rattle.replay_run.proofs.Prelude.{ℕ, zero, suc, _+_, _-_, _≤_, min, _≡_, refl, sym, ap, _∙_, Bool, false, _||_, List, [], _∷_, _++_, append-assoc, append-nil, arith, length, take, drop, getD, length-take, length-append, Cut, Whole, framed-end, framed-next, Header, Query, refines, Outcome, outcome, or-assoc, or-false, any-both, RunAnswer, queryOf, queriesIn, shorter, RunMade, QueriesExecuted, QueryExecuted, queried-then}
+use Rattle.replay_queries.proofs.Prelude.{ℕ, zero, suc, _+_, _-_, _≤_, min, _≡_, refl, sym, ap, _∙_, Bool, false, _||_, List, [], _∷_, _++_, append-assoc, append-nil, arith, length, take, drop, getD, length-take, length-append, Cut, Whole, framed-end, framed-next, Header, Query, refines, Outcome, outcome, or-assoc, or-false, any-both, RunAnswer, queryOf, queriesIn, shorter, RunMade, QueriesExecuted, QueryExecuted, queried-then}
 use Rattle.lists.specs.Lists.{any}
 use Rattle.offsets.specs.declared.SubsetHead.{SubsetHead}
 use Rattle.offsets.specs.Answers.{subsetOf}
 use Rattle.replay_queries.specs.Outcomes.{idsAt, subsetLeft, behind, QueriedAll, end}
 
 -- the first ids of a list, as they are lent
 pub lent-count : (n : ℕ) (l : List ℕ) → n ≤ length l → n ≡ length (take n l)

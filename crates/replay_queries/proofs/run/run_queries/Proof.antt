@@ -1,8 +1,8 @@
--- `replay_run::run_queries` meets its contract. Assumes nothing.
-use Rattle.replay_run.proofs.Prelude.{refl, needs}
-use Rattle.replay_run.proofs.RunSteps.{room-first, room-second, room-alike, made-within}
-use Rattle.replay_run.proofs.run_queries.Statement.{statement}
-use Rattle.replay_run.proofs.run_queries.Tie as tie
+-- `replay_queries::run::run_queries` meets its contract. Assumes nothing.
+use Rattle.replay_queries.proofs.Prelude.{refl, needs}
+use Rattle.replay_queries.proofs.RunSteps.{room-first, room-second, room-alike, made-within}
+use Rattle.replay_queries.proofs.run.run_queries.Statement.{statement}
+use Rattle.replay_queries.proofs.run.run_queries.Tie as tie
 
 slice-aggregate-run-queries-within : tie.Need-slice-aggregate-run-queries-within
 slice-aggregate-run-queries-within c = let a = c .before .before .before .before .before .before .before .before .args in room-first _ (a .first .now) (a .second .now) (c .before .smaller .ensures)

@@ -3,18 +3,18 @@ ghost use mathlib.Core.Path.{_≡_};
 ghost use Prim.Native.Nat.{_≤_, _<_};
 ghost use lib.ListN.{length};
 ghost use Rattle.offsets.specs.Answers.{subsetOf};
 ghost use Rattle.replay_queries.specs.Encoding.{queryOf, queriesIn};
-ghost use Rattle.replay_run.specs.RunQueries.{RunMade};
-ghost use Rattle.replay_run.specs.inner.Executing.{QueriesExecuted, QueryExecuted};
+ghost use Rattle.replay_queries.specs.RunQueries.{RunMade};
+ghost use Rattle.replay_queries.specs.inner.Running.{QueriesExecuted, QueryExecuted};
+use super::FIRST_LIST;
+use super::RunAnswer;
+use super::SECOND_LIST;
+use super::STARTING_LIST;
+use super::execute;
 use offsets::SubsetHead;
 use query_spec::refusing::smaller;
 use replay_frames::Frame;
 use replay_frames::frame_at;
-use replay_queries::FIRST_LIST;
-use replay_queries::RunAnswer;
-use replay_queries::SECOND_LIST;
-use replay_queries::STARTING_LIST;
-use replay_queries::execute;
 use table::Header;
 
 // Runs one query on the ids left. Its output goes to the lent list that does not have them.

@@ -10,9 +10,9 @@ pub use Rattle.history.specs.Laws.Narrowing.{any-both, or-assoc, or-false}
 pub use Rattle.history.specs.Runs.{Outcome, Query, outcome, refines}
 pub use Rattle.replay_frames.specs.Laws.Frames.{framed-end, framed-next}
 pub use Rattle.replay_frames.specs.inner.Lengths.{Cut, Whole}
 pub use Rattle.replay_queries.specs.Encoding.{queriesIn, queryOf}
 pub use Rattle.replay_queries.specs.declared.RunAnswer.{RunAnswer}
-pub use Rattle.replay_run.specs.Laws.Executing.{execute-first, execute-neither, execute-second, queried-then}
-pub use Rattle.replay_run.specs.RunQueries.{RunMade, shorter}
-pub use Rattle.replay_run.specs.inner.Executing.{QueriesExecuted, QueryExecuted}
+pub use Rattle.replay_queries.specs.Laws.Running.{execute-first, execute-neither, execute-second, queried-then}
+pub use Rattle.replay_queries.specs.RunQueries.{RunMade, shorter}
+pub use Rattle.replay_queries.specs.inner.Running.{QueriesExecuted, QueryExecuted}
 pub use Rattle.table.specs.declared.Header.{Header}

@@ -1,9 +1,9 @@
 -- One query run on the ids left, and one after another. Assumes nothing.
-use Rattle.replay_run.specs.Laws.Prelude.{ℕ, _≤_, _≡_, refl, List, _++_, append-assoc, length, take, ne-eqb, Header, Query, Outcome, RunAnswer, Executed, QueryExecuted}
+use Rattle.replay_queries.specs.Laws.Prelude.{ℕ, _≤_, _≡_, refl, List, _++_, append-assoc, length, take, ne-eqb, Header, Query, Outcome, RunAnswer, Executed, QueryExecuted}
 use Rattle.offsets.specs.declared.SubsetHead.{SubsetHead}
 use Rattle.offsets.specs.Subsets.{Subset}
 use Rattle.offsets.specs.Answers.{subsetOf}
 use Rattle.replay_queries.specs.Outcomes.{idsAt, subsetLeft, behind, QueriedAll, end, next}
 
 -- ---- one query
 

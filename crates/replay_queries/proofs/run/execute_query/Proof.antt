@@ -1,8 +1,8 @@
--- `replay_run::execute_query` meets its contract. Assumes nothing.
-use Rattle.replay_run.proofs.Prelude.{arith, execute-first, execute-second, execute-neither, needs}
-use Rattle.replay_run.proofs.RunSteps.{lent-count}
-use Rattle.replay_run.proofs.execute_query.Statement.{statement}
-use Rattle.replay_run.proofs.execute_query.Tie as tie
+-- `replay_queries::run::execute_query` meets its contract. Assumes nothing.
+use Rattle.replay_queries.proofs.Prelude.{arith, execute-first, execute-second, execute-neither, needs}
+use Rattle.replay_queries.proofs.RunSteps.{lent-count}
+use Rattle.replay_queries.proofs.run.execute_query.Statement.{statement}
+use Rattle.replay_queries.proofs.run.execute_query.Tie as tie
 
 returns : tie.Need-returns
 returns c = execute-first _ (c .before .before .before .before .before .before .before .before .before .before .before .before .before .before .pre .0) (c .before .before .before .before .before .before .before .before .before .before .before .before .before .before .pre .1) (c .before .before .before .before .before .if1 .taken) (c .before .before .execute .ensures)

@@ -20,11 +20,11 @@ pub use Rattle.plain_table.specs.Calls.{LentCall}
 pub use Rattle.plain_table.specs.Staged.{Opening}
 pub use Rattle.refusals.specs.Laws.Replies.{ruled-refused, some-number}
 pub use Rattle.refusals.specs.Refusals.{Reply, accepted, refused, reply}
 pub use Rattle.replay_queries.specs.Outcomes.{subsetLeft}
 pub use Rattle.replay_queries.specs.declared.RunAnswer.{RunAnswer}
 pub use Rattle.replay_queries.specs.inner.Executing.{Executed}
-pub use Rattle.replay_run.specs.RunQueries.{RunMade, shorter}
-pub use Rattle.replay_run.specs.inner.Executing.{QueryExecuted}
+pub use Rattle.replay_queries.specs.RunQueries.{RunMade, shorter}
+pub use Rattle.replay_queries.specs.inner.Running.{QueryExecuted}
 pub use Rattle.sort_entries.specs.Entries.{entriesOf, entriesSound}
 pub use Rattle.table.specs.Contracts.{RangeRead, Stores, fastSubset, stores}
 pub use Rattle.table.specs.Laws.Replies.{reply-accepted, reply-refused}

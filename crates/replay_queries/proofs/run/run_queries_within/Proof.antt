@@ -1,9 +1,9 @@
--- `replay_run::run_queries_within` meets its contract. The loop's invariant: the remaining queries lead to the result of all of them.
+-- `replay_queries::run::run_queries_within` meets its contract. The loop's invariant: the remaining queries lead to the result of all of them.
 -- Assumes nothing.
-use Rattle.replay_run.proofs.Prelude.{_-_, sym, _∙_, arith, length, needs}
-use Rattle.replay_run.proofs.RunSteps.{Going, going-begin, going-again, going-end}
-use Rattle.replay_run.proofs.run_queries_within.Statement.{statement}
-use Rattle.replay_run.proofs.run_queries_within.Tie as tie
+use Rattle.replay_queries.proofs.Prelude.{_-_, sym, _∙_, arith, length, needs}
+use Rattle.replay_queries.proofs.RunSteps.{Going, going-begin, going-again, going-end}
+use Rattle.replay_queries.proofs.run.run_queries_within.Statement.{statement}
+use Rattle.replay_queries.proofs.run.run_queries_within.Tie as tie
 
 abbrev Inv-loop : tie.InvT-loop
 Inv-loop h rows sorts ids queries first₀ second₀ n₀ at₀ first second n at =

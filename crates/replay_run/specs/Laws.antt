@@ -1,5 +1,0 @@
--- What follows from the definitions.
-mod Prelude
-pub mod Executing
-pub mod Claimed
-pub mod Determined

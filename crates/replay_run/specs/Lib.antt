@@ -1,3 +1,0 @@
-pub mod RunQueries
-pub mod inner
-pub mod Laws
