@@ -20,9 +20,9 @@ use Rattle.table.specs.Laws.Refusals.{outside-inside}
 use Rattle.table_check.specs.inner.Checks.{RowsSound, PendingIn, PendingWhole}
 use Rattle.image_spec.specs.Image.{Image, Reads, SoundImage}
 use Rattle.image_spec.specs.Contracts.{Decoded, checkReply, ImageChecked}
-use Rattle.image_parse.specs.declared.Layout.{Layout}
-use Rattle.image_parse.specs.inner.Parsed.{part, imageIn, IsAt}
-use Rattle.image_parse.specs.Laws.Images.{Proper, image-in-proper}
+use Rattle.image_check.specs.declared.parse.Layout.{Layout}
+use Rattle.image_check.specs.inner.Parsed.{part, imageIn, IsAt}
+use Rattle.image_check.specs.Laws.Images.{Proper, image-in-proper}
 use Rattle.image_check.specs.declared.Decoding.{Decoding}
 use Rattle.image_check.specs.declared.Decoding.the-variants.{Refused, Sound}
 use Rattle.image_check.specs.inner.Decoding.{DecodingIs}

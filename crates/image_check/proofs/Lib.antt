@@ -1,1 +1,3 @@
+mod Prelude
 pub mod CheckingSteps
+pub mod ParsingSteps

@@ -1,2 +1,5 @@
 -- What follows from the definitions.
+mod Prelude
+pub mod Bytes
+pub mod Images
 pub mod Determined

@@ -8,15 +8,17 @@ ghost use Rattle.table.specs.Refusing.{outside};
 ghost use Rattle.table.specs.Sound.{KeysDiffer};
 ghost use Rattle.image_spec.specs.Image.{SoundImage};
 ghost use Rattle.image_spec.specs.Contracts.{ImageChecked};
-ghost use Rattle.image_parse.specs.inner.Parsed.{imageIn, IsAt};
+ghost use Rattle.image_check.specs.inner.Parsed.{imageIn, IsAt};
 ghost use Rattle.image_check.specs.inner.Decoding.{DecodingIs};
-use image_parse::Layout;
-use image_parse::Parsed;
 use key_index::IndexShape;
+use parse::Layout;
+use parse::Parsed;
 use refusals::NO_IMAGE;
 use refusals::UNSOUND_IMAGE;
 use table::Header;
 use table::TableAnswer;
+
+pub mod parse; // parse.rt: whether words are an image, and where its parts are
 
 // Two slots for each row of the largest table.
 const MOST_SLOTS: usize = 131072;
@@ -69,7 +71,7 @@ fn is_contents_sound(words: &[u32], l: Layout) -> bool
 pub fn decode(words: &[u32]) -> Decoding
     ensures { λ r. ⌜ DecodingIs (now (words .entry)) r ⌝ }
 {
-    let parsed = image_parse::parse(words);
+    let parsed = parse::parse(words);
     let Parsed::Image(l) = parsed else {
         return Decoding::Refused(NO_IMAGE);
     };

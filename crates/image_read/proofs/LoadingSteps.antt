@@ -5,7 +5,7 @@ use Rattle.plain_table.specs.Refusing.{Lengths, storesShort}
 use Rattle.table.specs.Numbers.{openingOf, tableView}
 use Rattle.table.specs.Refusing.{outside, rowsShort}
 use Rattle.image_spec.specs.Contracts.{withCapacity, checkReply, readRefusal, ImageRead}
-use Rattle.image_parse.specs.inner.Parsed.{part, imageIn, IsAt}
+use Rattle.image_check.specs.inner.Parsed.{part, imageIn, IsAt}
 use Rattle.image_check.specs.declared.Decoding.the-variants.{Refused as NotDecoded, Sound}
 use Rattle.image_read.specs.inner.Loading.{loadRefusal, storesRefusal, PartsFit, PartsWritten, Loading}
 

@@ -14,9 +14,9 @@ pub use borrow.Author.Tests.{eq-eqb, le-ltb, lt-ltb, ltb-false, ne-eqb}
 pub use Rattle.crc32.specs.Crc.{bytesOf}
 pub use Rattle.image_check.specs.declared.Decoding.{Decoding}
 pub use Rattle.image_check.specs.inner.Decoding.{DecodingIs}
-pub use Rattle.image_parse.specs.Laws.Bytes.{byte-of, bytes-cons, length-bytes}
-pub use Rattle.image_parse.specs.Laws.Images.{image-in-proper, text-length}
-pub use Rattle.image_parse.specs.declared.Layout.{Layout}
+pub use Rattle.image_check.specs.Laws.Bytes.{byte-of, bytes-cons, length-bytes}
+pub use Rattle.image_check.specs.Laws.Images.{image-in-proper, text-length}
+pub use Rattle.image_check.specs.declared.parse.Layout.{Layout}
 pub use Rattle.image_read.specs.inner.Loading.{TextIn}
 pub use Rattle.image_spec.specs.Image.{Image, Reads}
 pub use Rattle.key_index.specs.Laws.SizeClasses.{past-sizeClass}

@@ -4,7 +4,7 @@ use Rattle.lists.specs.Lists.{splice}
 use Rattle.refusals.specs.Refusals.{firstRefusal, reply}
 use Rattle.image_spec.specs.declared.LengthAnswer.the-variants.{Refused, Length}
 use Rattle.image_spec.specs.Contracts.{lengthView, textRefusal, textOf, TextRead}
-use Rattle.image_parse.specs.inner.Parsed.{imageIn, IsAt}
+use Rattle.image_check.specs.inner.Parsed.{imageIn, IsAt}
 
 -- ---- `byte_at`
 

@@ -7,11 +7,11 @@ ghost use Rattle.crc32.specs.Crc.{bytesOf};
 ghost use Rattle.table.specs.inner.Lent.{lengthsOf};
 ghost use Rattle.table.specs.Contracts.{body};
 ghost use Rattle.image_spec.specs.Contracts.{withCapacity, ImageRead, TextRead};
-ghost use Rattle.image_parse.specs.inner.Parsed.{part, IsAt};
+ghost use Rattle.image_check.specs.inner.Parsed.{part, IsAt};
 ghost use Rattle.image_read.specs.inner.Loading.{loadRefusal, PartsFit, PartsWritten, Loading, TextIn};
 use image_check::Decoding;
-use image_parse::Layout;
-use image_parse::Parsed;
+use image_check::parse::Layout;
+use image_check::parse::Parsed;
 use image_spec::BYTE_RANGE;
 use image_spec::LengthAnswer;
 use image_spec::TEXT_AT;
@@ -167,7 +167,7 @@ fn write_text(words: &[u32], count: usize, output: &mut [u8])
 pub fn read_text(words: &[u32], output: &mut [u8]) -> LengthAnswer
     ensures { λ r. ⌜ TextRead (now (words .entry)) (now (output .entry)) r (now (output .exit)) ⌝ }
 {
-    let parsed = image_parse::parse(words);
+    let parsed = image_check::parse::parse(words);
     let Parsed::Image(l) = parsed else {
         return LengthAnswer::Refused(NO_IMAGE);
     };

@@ -6,8 +6,8 @@ use mathlib.Core.List.{List}
 use mathlib.Core.Option.{some}
 use Rattle.refusals.specs.Refusals.{refused}
 use Rattle.image_spec.specs.Contracts.{Decoded, checkReply}
-use Rattle.image_parse.specs.declared.Layout.{Layout}
-use Rattle.image_parse.specs.inner.Parsed.{imageIn, IsAt}
+use Rattle.image_check.specs.declared.parse.Layout.{Layout}
+use Rattle.image_check.specs.inner.Parsed.{imageIn, IsAt}
 use Rattle.image_check.specs.declared.Decoding.{Decoding}
 use Rattle.image_check.specs.declared.Decoding.the-variants.{Refused, Sound}
 

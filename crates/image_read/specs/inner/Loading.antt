@@ -14,8 +14,8 @@ use Rattle.table.specs.Numbers.{openingOf, tableView}
 use Rattle.table.specs.Refusing.{outside}
 use Rattle.table.specs.Contracts.{Body, lengths}
 use Rattle.image_spec.specs.Contracts.{withCapacity, Loaded}
-use Rattle.image_parse.specs.declared.Layout.{Layout}
-use Rattle.image_parse.specs.inner.Parsed.{part, imageIn, IsAt}
+use Rattle.image_check.specs.declared.parse.Layout.{Layout}
+use Rattle.image_check.specs.inner.Parsed.{part, imageIn, IsAt}
 
 -- ---- the table
 

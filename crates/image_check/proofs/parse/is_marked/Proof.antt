@@ -1,8 +1,8 @@
--- `image_parse::is_marked` meets its contract. Assumes nothing.
+-- `image_check::parse::is_marked` meets its contract. Assumes nothing.
 use borrow.Author.Needs.{needs}
-use Rattle.image_parse.proofs.ParsingSteps.{other-magic, other-format, some-flag, no-flag}
-use Rattle.image_parse.proofs.is_marked.Statement.{statement}
-use Rattle.image_parse.proofs.is_marked.Tie as tie
+use Rattle.image_check.proofs.ParsingSteps.{other-magic, other-format, some-flag, no-flag}
+use Rattle.image_check.proofs.parse.is_marked.Statement.{statement}
+use Rattle.image_check.proofs.parse.is_marked.Tie as tie
 
 pub is-marked-spec : {M : Type 1} → statement M
 is-marked-spec =

@@ -10,9 +10,9 @@ use Rattle.table.specs.declared.Header.{Header}
 use Rattle.table.specs.Refusing.{outside}
 use Rattle.abi.specs.Encoding.{decodeHeader}
 use Rattle.image_spec.specs.Image.{Image, packed, Reads}
-use Rattle.image_parse.specs.declared.Layout.{Layout}
-use Rattle.image_parse.specs.declared.Parsed.{Parsed}
-use Rattle.image_parse.specs.declared.Parsed.the-variants.{None, Image as IsImage}
+use Rattle.image_check.specs.declared.parse.Layout.{Layout}
+use Rattle.image_check.specs.declared.parse.Parsed.{Parsed}
+use Rattle.image_check.specs.declared.parse.Parsed.the-variants.{None, Image as IsImage}
 
 -- ---- the parts
 

@@ -13,8 +13,8 @@ pub use lib.Seq.{drop-at, drop-cons, drop-drop, getD-at, getD-drop, getD-take, l
 pub use borrow.Author.Tests.{eq-eqb, eqb-true, le-leb, leb-false, leb-true, lt-ltb, ltb-false, ltb-true, ne-eqb, not-true}
 pub use Rattle.abi.specs.Laws.Encoding.{flag-refused, header-decoded}
 pub use Rattle.crc32.specs.Crc.{bytesOf, crc32}
-pub use Rattle.image_parse.specs.declared.Layout.{Layout}
-pub use Rattle.image_parse.specs.inner.Parsed.{Filled, Words}
+pub use Rattle.image_check.specs.declared.parse.Layout.{Layout}
+pub use Rattle.image_check.specs.inner.Parsed.{Filled, Words}
 pub use Rattle.image_spec.specs.Laws.Unique.{length-packed}
 pub use Rattle.lists.specs.Laws.All.{all-head, all-tail}
 pub use Rattle.lists.specs.Laws.Filter.{all-getD, all-of, and-left, and-right, split}

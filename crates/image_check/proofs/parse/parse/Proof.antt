@@ -1,8 +1,8 @@
--- `image_parse::parse` meets its contract. Assumes nothing.
-use Rattle.image_parse.proofs.Prelude.{sym, _∙_, arith, needs, not-true, not-false, placed-of}
-use Rattle.image_parse.proofs.ParsingSteps.{parsed-none, parsed-outside, parsed-broken, parsed-whole}
-use Rattle.image_parse.proofs.parse.Statement.{statement}
-use Rattle.image_parse.proofs.parse.Tie as tie
+-- `image_check::parse::parse` meets its contract. Assumes nothing.
+use Rattle.image_check.proofs.Prelude.{sym, _∙_, arith, needs, not-true, not-false, placed-of}
+use Rattle.image_check.proofs.ParsingSteps.{parsed-none, parsed-outside, parsed-broken, parsed-whole}
+use Rattle.image_check.proofs.parse.parse.Statement.{statement}
+use Rattle.image_check.proofs.parse.parse.Tie as tie
 
 is-whole-requires : tie.Need-is-whole-requires
 is-whole-requires c κs =

@@ -6,7 +6,7 @@ ghost use Prim.Native.Nat.{_≤_};
 ghost use lib.ListN.{length, drop};
 ghost use Rattle.sort_entries.specs.inner.Checks.{Decides};
 ghost use Rattle.table.specs.Refusing.{outside};
-ghost use Rattle.image_parse.specs.inner.Parsed.{headerIn, layoutOf, Placed, Marked, Filled, Measured, Whole, ParsedIs};
+ghost use Rattle.image_check.specs.inner.Parsed.{headerIn, layoutOf, Placed, Marked, Filled, Measured, Whole, ParsedIs};
 use abi::places;
 use image_spec::BYTE_RANGE;
 use image_spec::FIXED_WORDS;

@@ -1,8 +1,8 @@
--- `image_parse::layout_for` meets its contract. Assumes nothing.
-use Rattle.image_parse.proofs.Prelude.{refl, arith, needs}
-use Rattle.image_parse.proofs.ParsingSteps.{few, layout-is}
-use Rattle.image_parse.proofs.layout_for.Statement.{statement}
-use Rattle.image_parse.proofs.layout_for.Tie as tie
+-- `image_check::parse::layout_for` meets its contract. Assumes nothing.
+use Rattle.image_check.proofs.Prelude.{refl, arith, needs}
+use Rattle.image_check.proofs.ParsingSteps.{few, layout-is}
+use Rattle.image_check.proofs.parse.layout_for.Statement.{statement}
+use Rattle.image_check.proofs.parse.layout_for.Tie as tie
 
 pub layout-for-spec : {M : Type 1} → statement M
 layout-for-spec =

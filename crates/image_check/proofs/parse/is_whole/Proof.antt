@@ -1,8 +1,8 @@
--- `image_parse::is_whole` meets its contract. Assumes nothing.
-use Rattle.image_parse.proofs.Prelude.{arith, needs, not-true, not-false}
-use Rattle.image_parse.proofs.ParsingSteps.{whole-other-count, whole-unfilled, whole-measured, whole-part, whole-checked}
-use Rattle.image_parse.proofs.is_whole.Statement.{statement}
-use Rattle.image_parse.proofs.is_whole.Tie as tie
+-- `image_check::parse::is_whole` meets its contract. Assumes nothing.
+use Rattle.image_check.proofs.Prelude.{arith, needs, not-true, not-false}
+use Rattle.image_check.proofs.ParsingSteps.{whole-other-count, whole-unfilled, whole-measured, whole-part, whole-checked}
+use Rattle.image_check.proofs.parse.is_whole.Statement.{statement}
+use Rattle.image_check.proofs.parse.is_whole.Tie as tie
 
 is-filled-requires : tie.Need-is-filled-requires
 is-filled-requires c κs =

@@ -11,10 +11,10 @@ pub use lib.Seq.{drop-length, getD-drop, getD-take, length-take-le}
 pub use borrow.Author.Needs.{needs}
 pub use borrow.Author.Tests.{eqb-false, eqb-true, not-false, not-true}
 pub use Rattle.crc32.specs.Crc.{bytesOf, crc32}
-pub use Rattle.image_parse.specs.Laws.Bytes.{filled-one, filled-three, filled-two, filled-whole}
-pub use Rattle.image_parse.specs.Laws.Images.{image-passes, layoutIn, passes-image, placed-of}
-pub use Rattle.image_parse.specs.declared.Layout.{Layout}
-pub use Rattle.image_parse.specs.declared.Parsed.the-variants.{Image, None}
+pub use Rattle.image_check.specs.Laws.Bytes.{filled-one, filled-three, filled-two, filled-whole}
+pub use Rattle.image_check.specs.Laws.Images.{image-passes, layoutIn, passes-image, placed-of}
+pub use Rattle.image_check.specs.declared.parse.Layout.{Layout}
+pub use Rattle.image_check.specs.declared.parse.Parsed.the-variants.{Image, None}
 pub use Rattle.image_spec.specs.Image.{reads-none}
 pub use Rattle.sort_entries.specs.inner.Checks.{Decides, decides-no, decides-yes}
 pub use Rattle.table.specs.Laws.Refusals.{outside-inside}

@@ -1,8 +1,8 @@
--- `image_parse::is_filled` meets its contract. Assumes nothing.
+-- `image_check::parse::is_filled` meets its contract. Assumes nothing.
 use borrow.Author.Needs.{needs}
-use Rattle.image_parse.proofs.ParsingSteps.{fill-none, fill-one, fill-two, fill-three}
-use Rattle.image_parse.proofs.is_filled.Statement.{statement}
-use Rattle.image_parse.proofs.is_filled.Tie as tie
+use Rattle.image_check.proofs.ParsingSteps.{fill-none, fill-one, fill-two, fill-three}
+use Rattle.image_check.proofs.parse.is_filled.Statement.{statement}
+use Rattle.image_check.proofs.parse.is_filled.Tie as tie
 
 pub is-filled-spec : {M : Type 1} → statement M
 is-filled-spec =

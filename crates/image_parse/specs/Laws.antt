@@ -1,4 +1,0 @@
--- What follows from the definitions.
-mod Prelude
-pub mod Bytes
-pub mod Images
