@@ -3,15 +3,13 @@
 ghost use mathlib.Core.Path.{_≡_};
 ghost use Prim.Native.Nat.{_≤_, _+_, _<_};
 ghost use Rattle.key_index.specs.Slots.{slots};
-ghost use Rattle.plain_table.specs.Plain.{below};
-ghost use Rattle.table.specs.Numbers.{largestView};
 ghost use Rattle.table.specs.Sound.{indexShapeOf};
 ghost use Rattle.merge_append.specs.inner.Appending.{Enterable, AdmissionIs, grownTo, outgrown, Rebuildable, RebuiltGrown, Growable, NewIs, ReplaceIs};
 use refusals::OLD_SORT_VALUE;
 use refusals::TABLE_FULL;
 use table::Header;
-use table::Largest;
 use table::index_shape;
+use table::refusing::is_old;
 
 // The result of an insert of a merge: no change, a row appended, or the merge stopped with a number.
 pub enum Insertion {
@@ -24,17 +22,6 @@ pub enum Insertion {
 enum Admission {
     Stop(u32),
     Entries(u32),
-}
-
-// Whether a sort value is below the largest one appended.
-pub fn is_old(h: Header, value: u32) -> bool
-    ensures { λ r. ⌜ r ≡ below value (largestView (h .largest)) ⌝ }
-{
-    let largest = h.largest;
-    match largest {
-        Largest::None => false,
-        Largest::Value(last) => value < last,
-    }
 }
 
 // Adds the sort entry of a row with this sort value, unless the row stops the merge. 8 is tested before 9.

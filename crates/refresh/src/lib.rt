@@ -38,6 +38,7 @@ use refusals::TOO_MANY_COLUMNS;
 use refusals::TOO_SHORT;
 use table::Header;
 use table::INSERT;
+use table::refusing::is_old;
 use table::refusing::is_pending_outside;
 use table::refusing::is_rows_short;
 use table_stage::is_overfull;
@@ -96,7 +97,7 @@ fn refresh_refusal(
     if is_index_short(h, index, columns) {
         return TOO_SHORT;
     }
-    if merge_append::is_old(h, stamp) {
+    if is_old(h, stamp) {
         return OLD_SORT_VALUE;
     }
     0

@@ -3,12 +3,14 @@
 ghost use mathlib.Core.Path.{_≡_};
 ghost use mathlib.Core.Bool.{false};
 ghost use Rattle.plain_table.specs.Staged.{openable};
+ghost use Rattle.plain_table.specs.Plain.{below};
 ghost use Rattle.plain_table.specs.Refusing.{storesShort, wordsShort, openRefusal};
-ghost use Rattle.table.specs.Numbers.{openingOf};
+ghost use Rattle.table.specs.Numbers.{openingOf, largestView};
 ghost use Rattle.table.specs.Refusing as rules;
 ghost use Rattle.table.specs.inner.Lent.{lengthsOf};
 use super::Header;
 use super::LAST_RULE;
+use super::Largest;
 use super::Lent;
 use super::MOST_COLUMNS;
 use constraints::Constraint;
@@ -119,6 +121,17 @@ fn is_words_short(h: Header, l: Lent) -> bool
         return true;
     }
     l.base < needed as usize
+}
+
+// Whether a sort value is below the largest one appended.
+pub fn is_old(h: Header, value: u32) -> bool
+    ensures { λ r. ⌜ r ≡ below value (largestView (h .largest)) ⌝ }
+{
+    let largest = h.largest;
+    match largest {
+        Largest::None => false,
+        Largest::Value(last) => value < last,
+    }
 }
 
 // *Open*, of a header with no rows.

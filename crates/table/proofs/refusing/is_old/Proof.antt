@@ -1,9 +1,9 @@
--- `merge_append::is_old` meets its contract. Assumes nothing.
+-- `table::refusing::is_old` meets its contract. Assumes nothing.
 use borrow.Author.Needs.{needs}
 use Rattle.plain_table.specs.Plain.{below}
 use Rattle.table.specs.Numbers.{largestView}
-use Rattle.merge_append.proofs.is_old.Statement.{statement}
-use Rattle.merge_append.proofs.is_old.Tie as tie
+use Rattle.table.proofs.refusing.is_old.Statement.{statement}
+use Rattle.table.proofs.refusing.is_old.Tie as tie
 
 returns : tie.Need-returns
 unfolding below largestView
