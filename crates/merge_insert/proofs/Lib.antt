@@ -1,3 +1,4 @@
 mod Prelude
+pub mod AppendSteps
 pub mod InsertSteps
 pub mod PassInserts

@@ -3,13 +3,14 @@ ghost use Rattle.merge_pending.specs.inner.Becoming.{Ready};
 ghost use Prim.Native.Nat.{_≤_};
 ghost use lib.ListN.{length};
 ghost use Rattle.merge_insert.specs.inner.Insertions.{Insertions, FirstInsert, InsertNext, InsertedNext};
-use merge_append::Insertion;
+use append::Insertion;
 use merge_pending::next_record;
 use merge_pending::record_length;
 use row::insert_row;
 use table::Header;
 use table::INSERT;
 
+mod append; // append.rt: one row appended
 mod row; // row.rt: one insert
 
 // The result of the passes over the pending records, before the compaction that may follow.

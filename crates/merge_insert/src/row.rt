@@ -7,10 +7,10 @@ ghost use Rattle.merge_pending.specs.inner.Becoming.{Ready};
 ghost use lib.ListN.{take, drop};
 ghost use Rattle.merge_insert.specs.inner.Inserting.{Inserting};
 ghost use Rattle.merge_insert.specs.inner.Ruling.{MadeIs, Makeable, KnownIs};
+use super::append::Insertion;
+use super::append::insert_new;
+use super::append::replace_row;
 use key_index::Found;
-use merge_append::Insertion;
-use merge_append::insert_new;
-use merge_append::replace_row;
 use table::Header;
 use table::index_shape;
 

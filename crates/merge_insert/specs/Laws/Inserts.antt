@@ -35,22 +35,22 @@ use Rattle.plain_table.specs.Proper.{rowOf}
 use Rattle.plain_table.specs.Laws.Rows.{keysDistinct-of}
 use Rattle.plain_table.specs.Laws.Proper.{insertion-proper}
 use Rattle.table.specs.declared.Header.{Header}
-use Rattle.merge_append.specs.declared.Insertion.{Insertion}
-use Rattle.merge_append.specs.declared.Insertion.the-variants.{Unchanged, Appended, Stopped}
+use Rattle.merge_insert.specs.declared.append.Insertion.{Insertion}
+use Rattle.merge_insert.specs.declared.append.Insertion.the-variants.{Unchanged, Appended, Stopped}
 use Rattle.table.specs.Sound.{indexShapeOf}
 use Rattle.table.specs.inner.FullIndexShape.{fullIndexShapeOf}
 use Rattle.table.specs.Laws.Refusals.{full-shape-fits}
 use Rattle.table.specs.Contracts.{Stores, stores, Represents}
 use Rattle.merge_pending.specs.inner.Becoming.{Recounted, hashOf}
 use Rattle.merge_insert.specs.inner.Inserting.{InsertAgrees, Inserting}
-use Rattle.merge_append.specs.inner.Appending.{grownTo, outgrown, KeysGrown, Grew, NewIs, Replaced}
+use Rattle.merge_insert.specs.inner.Appending.{grownTo, outgrown, KeysGrown, Grew, NewIs, Replaced}
 use Rattle.merge_insert.specs.inner.Ruling.{Changes, rowMade, KnownIs}
 use Rattle.table.specs.Laws.Stored.{marked-dead}
 use Rattle.table.specs.Laws.Shown.{in-live}
 use Rattle.table.specs.Laws.Lookup.{live-passes, row-lookup, none-found}
 use Rattle.merge_pending.specs.Laws.Dying.{killAt, killIf-one, dead-killAt}
-use Rattle.merge_append.specs.Laws.Admission.{stop-same}
-use Rattle.merge_append.specs.Laws.Growth.{prepared-same, prepared-dead, grown-steps}
+use Rattle.merge_insert.specs.Laws.Admission.{stop-same}
+use Rattle.merge_insert.specs.Laws.Growth.{prepared-same, prepared-dead, grown-steps}
 
 keys-same : {p : Plain} {s : Stores} → Represents p s → s .header .keys ≡ p .opening .keys
 keys-same r = ap (λ (h : Header). h .keys) (r .shown .header)

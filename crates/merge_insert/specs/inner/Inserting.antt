@@ -6,8 +6,8 @@ use Rattle.refusals.specs.Refusals.{refused, accepted}
 use Rattle.plain_table.specs.Staged.{insert}
 use Rattle.plain_table.specs.Plain.{Plain, insertion}
 use Rattle.table.specs.declared.Header.{Header}
-use Rattle.merge_append.specs.declared.Insertion.{Insertion}
-use Rattle.merge_append.specs.declared.Insertion.the-variants.{Unchanged, Appended, Stopped}
+use Rattle.merge_insert.specs.declared.append.Insertion.{Insertion}
+use Rattle.merge_insert.specs.declared.append.Insertion.the-variants.{Unchanged, Appended, Stopped}
 use Rattle.table.specs.Contracts.{Stores, stores, Represents, SlotsPast}
 use Rattle.merge_pending.specs.inner.Becoming.{Becomes, Recounted, hashOf}
 

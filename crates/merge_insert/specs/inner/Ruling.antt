@@ -8,9 +8,9 @@ use lib.ListN.{length, take, drop}
 use Rattle.lists.specs.Lists.{splice, rowAt}
 use Rattle.merge_rules.specs.Rules.{changesFrom, madeFrom, survivor}
 use Rattle.table.specs.declared.Header.{Header}
-use Rattle.merge_append.specs.declared.Insertion.{Insertion}
-use Rattle.merge_append.specs.declared.Insertion.the-variants.{Unchanged, Appended, Stopped}
-use Rattle.merge_append.specs.inner.Appending.{Stayed, Replaced}
+use Rattle.merge_insert.specs.declared.append.Insertion.{Insertion}
+use Rattle.merge_insert.specs.declared.append.Insertion.the-variants.{Unchanged, Appended, Stopped}
+use Rattle.merge_insert.specs.inner.Appending.{Stayed, Replaced}
 
 -- a cell outside keys and sort column changes
 abbrev pub Changes : Header → List ℕ → List ℕ → Bool

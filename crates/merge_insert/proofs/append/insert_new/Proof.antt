@@ -1,8 +1,8 @@
--- `merge_append::insert_new` meets its contract. Assumes nothing.
-use Rattle.merge_append.proofs.Prelude.{sym, ap, _∙_, arith, needs, IndexShape}
-use Rattle.merge_append.proofs.AppendSteps.{stop-of, entered-of, Entering, entering, rebuilds, stayed-of, grew-stepped, grew-rebuilt}
-use Rattle.merge_append.proofs.insert_new.Statement.{statement}
-use Rattle.merge_append.proofs.insert_new.Tie as tie
+-- `merge_insert::append::insert_new` meets its contract. Assumes nothing.
+use Rattle.merge_insert.proofs.Prelude.{sym, ap, _∙_, arith, needs, IndexShape}
+use Rattle.merge_insert.proofs.AppendSteps.{stop-of, entered-of, Entering, entering, rebuilds, stayed-of, grew-stepped, grew-rebuilt}
+use Rattle.merge_insert.proofs.append.insert_new.Statement.{statement}
+use Rattle.merge_insert.proofs.append.insert_new.Tie as tie
 
 enters : (c : tie.After-entries) → let a = c .before .before .before .before .before .before .before .before .before .before .before .before .args in Entering (a .h) (a .rows .now) (a .keys .now) (a .cells .now)
 enters c = entering (c .before .before .before .before .before .before .before .before .before .before .before .before .pre) (entered-of _ _ _ _ _ (c .before .before .before .before .admit .ensures) _ (c .entries .given .1) .room)

@@ -18,10 +18,10 @@ use Rattle.plain_table.specs.Plain.{below}
 use Rattle.table.specs.declared.Header.{Header}
 use Rattle.table.specs.declared.Largest.the-variants.{Value}
 use Rattle.table.specs.Numbers.{largestView}
-use Rattle.merge_append.specs.declared.Insertion.{Insertion}
-use Rattle.merge_append.specs.declared.Insertion.the-variants.{Unchanged, Appended, Stopped}
-use Rattle.merge_append.specs.declared.Admission.{Admission}
-use Rattle.merge_append.specs.declared.Admission.the-variants.{Stop, Entries}
+use Rattle.merge_insert.specs.declared.append.Insertion.{Insertion}
+use Rattle.merge_insert.specs.declared.append.Insertion.the-variants.{Unchanged, Appended, Stopped}
+use Rattle.merge_insert.specs.declared.append.Admission.{Admission}
+use Rattle.merge_insert.specs.declared.append.Admission.the-variants.{Stop, Entries}
 use Rattle.table.specs.Sound.{indexShapeOf}
 use Rattle.table.specs.inner.FullIndexShape.{fullIndexShapeOf}
 use Rattle.table.specs.Contracts.{SlotsPast}

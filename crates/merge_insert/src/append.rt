@@ -4,7 +4,7 @@ ghost use mathlib.Core.Path.{_≡_};
 ghost use Prim.Native.Nat.{_≤_, _+_, _<_};
 ghost use Rattle.key_index.specs.Slots.{slots};
 ghost use Rattle.table.specs.Sound.{indexShapeOf};
-ghost use Rattle.merge_append.specs.inner.Appending.{Enterable, AdmissionIs, grownTo, outgrown, Rebuildable, RebuiltGrown, Growable, NewIs, ReplaceIs};
+ghost use Rattle.merge_insert.specs.inner.Appending.{Enterable, AdmissionIs, grownTo, outgrown, Rebuildable, RebuiltGrown, Growable, NewIs, ReplaceIs};
 use refusals::OLD_SORT_VALUE;
 use refusals::TABLE_FULL;
 use table::Header;

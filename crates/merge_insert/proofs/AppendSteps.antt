@@ -1,6 +1,6 @@
 -- Steps of an append in the code's form: what an admission implies, by its answer, the key store with the row, and the combined
 -- answers of the parts. Assumes nothing.
-use Rattle.merge_append.proofs.Prelude.{ℕ, _+_, _*_, _≤_, _<_, _≡_, refl, sym, ap, _∙_, Bool, true, false, false≢true, List, add-zero, arith, length, getD, set, splice, IndexShape, slots, tagged, Fits, PutIs, replace-tail, fits-stores, past-sizeClass, fits-fewer, Rebuilt, Header, Insertion, Admission, Stop, Entries, indexShapeOf, SlotsPast, full-shape-fits, fullIndexShapeOf, Placed, placed, grownTo, Stops, Entered, AdmissionIs, outgrown, KeysGrown, Rebuildable, RebuiltGrown, Growable, Stayed, Grew, NewIs, Replaced, ReplaceIs}
+use Rattle.merge_insert.proofs.Prelude.{ℕ, _+_, _*_, _≤_, _<_, _≡_, refl, sym, ap, _∙_, Bool, true, false, false≢true, List, add-zero, arith, length, getD, set, splice, IndexShape, slots, tagged, Fits, PutIs, replace-tail, fits-stores, past-sizeClass, fits-fewer, Rebuilt, Header, Insertion, Admission, Stop, Entries, indexShapeOf, SlotsPast, full-shape-fits, fullIndexShapeOf, Placed, placed, grownTo, Stops, Entered, AdmissionIs, outgrown, KeysGrown, Rebuildable, RebuiltGrown, Growable, Stayed, Grew, NewIs, Replaced, ReplaceIs}
 
 -- ---- admissions
 

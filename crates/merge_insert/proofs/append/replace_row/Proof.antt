@@ -1,8 +1,8 @@
--- `merge_append::replace_row` meets its contract. Assumes nothing.
-use Rattle.merge_append.proofs.Prelude.{ℕ, _*_, sym, ap, _∙_, List, arith, length, length-set, needs, splice, Placed, placed}
-use Rattle.merge_append.proofs.AppendSteps.{stop-of, entered-of, Entering, entering, rebuilds, stayed-of, replaced-stepped, replaced-rebuilt}
-use Rattle.merge_append.proofs.replace_row.Statement.{statement}
-use Rattle.merge_append.proofs.replace_row.Tie as tie
+-- `merge_insert::append::replace_row` meets its contract. Assumes nothing.
+use Rattle.merge_insert.proofs.Prelude.{ℕ, _*_, sym, ap, _∙_, List, arith, length, length-set, needs, splice, Placed, placed}
+use Rattle.merge_insert.proofs.AppendSteps.{stop-of, entered-of, Entering, entering, rebuilds, stayed-of, replaced-stepped, replaced-rebuilt}
+use Rattle.merge_insert.proofs.append.replace_row.Statement.{statement}
+use Rattle.merge_insert.proofs.append.replace_row.Tie as tie
 
 enters : (c : tie.After-entries) → let a = c .before .before .before .before .before .before .before .before .before .before .before .before .args in Entering (a .h) (a .rows .now) (a .keys .now) (a .cells .now)
 enters c = entering (c .before .before .before .before .before .before .before .before .before .before .before .before .pre .0) (entered-of _ _ _ _ _ (c .before .before .before .before .admit .ensures) _ (c .entries .given .1) .room)

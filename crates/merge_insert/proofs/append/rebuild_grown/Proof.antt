@@ -1,8 +1,8 @@
--- `merge_append::rebuild_grown` meets its contract. Assumes nothing.
-use Rattle.merge_append.proofs.Prelude.{ap, needs, Appended}
-use Rattle.merge_append.proofs.AppendSteps.{rebuildable, rebuilt-grown}
-use Rattle.merge_append.proofs.rebuild_grown.Statement.{statement}
-use Rattle.merge_append.proofs.rebuild_grown.Tie as tie
+-- `merge_insert::append::rebuild_grown` meets its contract. Assumes nothing.
+use Rattle.merge_insert.proofs.Prelude.{ap, needs, Appended}
+use Rattle.merge_insert.proofs.AppendSteps.{rebuildable, rebuilt-grown}
+use Rattle.merge_insert.proofs.append.rebuild_grown.Statement.{statement}
+use Rattle.merge_insert.proofs.append.rebuild_grown.Tie as tie
 
 rebuild-requires : tie.Need-rebuild-requires
 rebuild-requires c κs = let s = c .before .before .before .before .before in rebuildable _ _ _ _ _ _ (s .pre) _ (c .before .before .grown .ensures) _ (c .before .index-shape .ensures)

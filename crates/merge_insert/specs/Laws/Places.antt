@@ -1,5 +1,5 @@
 -- Places in the row store. Assumes nothing.
-use Rattle.merge_append.specs.Laws.Prelude.{ℕ, _+_, _*_, _≤_, _<_, List, mul-le-mul, arith, length, row-in, Fits, Header, fullIndexShapeOf}
+use Rattle.merge_insert.specs.Laws.Prelude.{ℕ, _+_, _*_, _≤_, _<_, List, mul-le-mul, arith, length, row-in, Fits, Header, fullIndexShapeOf}
 
 -- a row's place is a number that fits, and its cells are within the store
 pub record Placed (h : Header) (rows : List ℕ) (i : ℕ) : Type 0 where

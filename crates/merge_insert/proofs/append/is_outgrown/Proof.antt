@@ -1,8 +1,8 @@
--- `merge_append::is_outgrown` meets its contract. Assumes nothing.
+-- `merge_insert::append::is_outgrown` meets its contract. Assumes nothing.
 use borrow.Author.Needs.{needs}
-use Rattle.merge_append.specs.inner.Appending.{outgrown}
-use Rattle.merge_append.proofs.is_outgrown.Statement.{statement}
-use Rattle.merge_append.proofs.is_outgrown.Tie as tie
+use Rattle.merge_insert.specs.inner.Appending.{outgrown}
+use Rattle.merge_insert.proofs.append.is_outgrown.Statement.{statement}
+use Rattle.merge_insert.proofs.append.is_outgrown.Tie as tie
 
 returns : tie.Need-returns
 unfolding outgrown

@@ -1,5 +1,0 @@
--- What follows from the definitions.
-mod Prelude
-pub mod Admission
-pub mod Growth
-pub mod Places
