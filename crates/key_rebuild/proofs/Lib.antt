@@ -1,2 +1,3 @@
 mod Prelude
 pub mod RebuildSteps
+pub mod RenumberSteps

@@ -5,6 +5,8 @@ ghost use Rattle.key_index.specs.inner.Index.{Fits};
 ghost use Rattle.key_rebuild.specs.inner.Rebuilding.{RowPut, Rebuilt};
 use key_index::IndexShape;
 
+pub mod renumber; // renumber.rt: new row numbers after a compaction
+
 // Inserts a row if it is live.
 fn put_row(t: IndexShape, rows: &[u32], store: &mut [u32], row: u32)
     requires { ⌜ Fits t (now rows) (now store) × (row < t .rows) ⌝ }

@@ -20,8 +20,8 @@ pub use Rattle.key_index.specs.Slots.{slots}
 pub use Rattle.key_index.specs.declared.IndexShape.{IndexShape}
 pub use Rattle.key_index.specs.inner.Index.{Fits}
 pub use Rattle.key_rebuild.specs.inner.Rebuilding.{Rebuilt}
-pub use Rattle.key_renumber.specs.Laws.Renumbering.{below-number, live-among}
-pub use Rattle.key_renumber.specs.inner.Renumbering.{Ranked, renumbered}
+pub use Rattle.key_rebuild.specs.Laws.Renumbering.{below-number, live-among}
+pub use Rattle.key_rebuild.specs.inner.Renumbering.{Ranked, renumbered}
 pub use Rattle.lists.specs.Laws.Filter.{length-filter}
 pub use Rattle.lists.specs.Laws.Parts.{getD-splice-in, splice-nil}
 pub use Rattle.lists.specs.Laws.Rows.{row-in}

@@ -6,7 +6,7 @@ ghost use Prim.Native.Nat.{_<_, _≤_};
 ghost use lib.ListN.{length};
 ghost use Rattle.key_index.specs.Slots.{slots};
 ghost use Rattle.key_index.specs.inner.Index.{Fits};
-ghost use Rattle.key_renumber.specs.inner.Renumbering.{Ranked};
+ghost use Rattle.key_rebuild.specs.inner.Renumbering.{Ranked};
 ghost use Rattle.table.specs.Sound.{indexShapeOf};
 ghost use Rattle.table.specs.Contracts.{body, compactionWords, Compacting};
 ghost use Rattle.table_compact.specs.inner.Compaction.{Lendable, KeysUpdated, nextGeneration, Compaction};
@@ -109,7 +109,7 @@ fn update_keys(h: Header, n: Header, rows: &[u32], keys: &mut [u32], live: &[u64
         key_rebuild::rebuild(after, rows, keys);
         return;
     }
-    key_renumber::renumber(t, keys, live, base);
+    key_rebuild::renumber::renumber(t, keys, live, base);
 }
 
 // Compacts a table whose header and stores have passed the tests.

@@ -354,7 +354,7 @@ pub extern "C" fn mouldgrey_renumber(
         room,
         rows: count,
     };
-    key_renumber::renumber(t, store, live, base);
+    key_rebuild::renumber::renumber(t, store, live, base);
     1
 }
 

@@ -16,7 +16,7 @@ pub use Rattle.key_index.specs.Laws.Lines.{small}
 pub use Rattle.key_index.specs.Laws.SizeClasses.{past-sizeClass}
 pub use Rattle.key_index.specs.Slots.{KeysSound, LiveAt}
 pub use Rattle.key_index.specs.inner.Index.{Fits}
-pub use Rattle.key_renumber.specs.Laws.Renumbering.{Compacted, below-number, live-among, live-rises, renumber-sound, slots-renumbered}
+pub use Rattle.key_rebuild.specs.Laws.Renumbering.{Compacted, below-number, live-among, live-rises, renumber-sound, slots-renumbered}
 pub use Rattle.lists.specs.Laws.All.{all-cons}
 pub use Rattle.lists.specs.Laws.Filter.{all-filter, count-le, filter-all, filter-append, length-filter, split}
 pub use Rattle.lists.specs.Laws.Parts.{length-splice, part-after, splice-front, splice-then}

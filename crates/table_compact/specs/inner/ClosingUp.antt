@@ -11,7 +11,7 @@ use Rattle.sort_entries.specs.Entries.{Entry, entryWords, rebuilt}
 use Rattle.sort_entries.specs.inner.Append.{EntryFits, Append}
 use Rattle.key_index.specs.Slots.{LiveAt}
 use Rattle.key_index.specs.inner.Index.{RowsIn}
-use Rattle.key_renumber.specs.inner.Renumbering.{liveBelow, newRow}
+use Rattle.key_rebuild.specs.inner.Renumbering.{liveBelow, newRow}
 use Rattle.table.specs.declared.Header.{Header}
 use Rattle.table_compact.specs.declared.KeptCounts.{KeptCounts}
 use Rattle.table.specs.Sound.{indexShapeOf}

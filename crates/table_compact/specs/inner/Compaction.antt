@@ -8,7 +8,7 @@ use Rattle.lists.specs.inner.Searching.{mapFront}
 use Rattle.key_index.specs.Slots.{slots}
 use Rattle.key_index.specs.inner.Index.{Fits}
 use Rattle.key_rebuild.specs.inner.Rebuilding.{Rebuilt}
-use Rattle.key_renumber.specs.inner.Renumbering.{renumbered}
+use Rattle.key_rebuild.specs.inner.Renumbering.{renumbered}
 use Rattle.plain_table.specs.Plain.{Plain, compacted}
 use Rattle.table.specs.Numbers.{openingOf, header}
 use Rattle.table.specs.declared.Header.{Header}

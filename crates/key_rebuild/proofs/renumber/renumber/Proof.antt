@@ -1,8 +1,8 @@
--- `key_renumber::renumber` meets its contract. Assumes nothing.
-use Rattle.key_renumber.proofs.Prelude.{_-_, arith, needs, slots}
-use Rattle.key_renumber.proofs.RenumberSteps.{Pass, pass-begin, pass-block, pass-step, pass-end}
-use Rattle.key_renumber.proofs.renumber.Statement.{statement}
-use Rattle.key_renumber.proofs.renumber.Tie as tie
+-- `key_rebuild::renumber::renumber` meets its contract. Assumes nothing.
+use Rattle.key_rebuild.proofs.Prelude.{_-_, arith, needs, slots}
+use Rattle.key_rebuild.proofs.RenumberSteps.{Pass, pass-begin, pass-block, pass-step, pass-end}
+use Rattle.key_rebuild.proofs.renumber.renumber.Statement.{statement}
+use Rattle.key_rebuild.proofs.renumber.renumber.Tie as tie
 
 abbrev Inv-loop : tie.InvT-loop
 Inv-loop t store₀ live base n at₀ store at = Pass t live base store₀ store at

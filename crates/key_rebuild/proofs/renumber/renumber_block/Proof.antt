@@ -1,8 +1,8 @@
--- `key_renumber::renumber_block` meets its contract. Assumes nothing.
-use Rattle.key_renumber.proofs.Prelude.{_+_, _-_, _<_, arith, and-le-r, trailingZeros}
-use Rattle.key_renumber.proofs.RenumberSteps.{Left, left-begin, left-end, left-in, left-step}
-use Rattle.key_renumber.proofs.renumber_block.Statement.{statement}
-use Rattle.key_renumber.proofs.renumber_block.Tie as tie
+-- `key_rebuild::renumber::renumber_block` meets its contract. Assumes nothing.
+use Rattle.key_rebuild.proofs.Prelude.{_+_, _-_, _<_, arith, and-le-r, trailingZeros}
+use Rattle.key_rebuild.proofs.RenumberSteps.{Left, left-begin, left-end, left-in, left-step}
+use Rattle.key_rebuild.proofs.renumber.renumber_block.Statement.{statement}
+use Rattle.key_rebuild.proofs.renumber.renumber_block.Tie as tie
 
 abbrev Inv-loop : tie.InvT-loop
 Inv-loop t store₀ from count live base word₀ store word = Left t live base store₀ from count store word

@@ -20,7 +20,7 @@ use Rattle.key_index.specs.declared.IndexShape.{IndexShape}
 use Rattle.key_index.specs.Slots.{LiveAt, keyAt, slots, word, home, slotFrom, ReachableAt, KeysSound}
 use Rattle.key_index.specs.Laws.Ring.{word-row, word-same, word-some, names-none, names-word, slot-below}
 use Rattle.key_index.specs.Laws.Lines.{Small}
-use Rattle.key_renumber.specs.inner.Renumbering.{liveBelow, Renamed, Renumbered, newRow, renumbered}
+use Rattle.key_rebuild.specs.inner.Renumbering.{liveBelow, Renamed, Renumbered, newRow, renumbered}
 
 -- a free slot remains free
 pub renumbered-free : (t : IndexShape) (live base : List ℕ) (w : ℕ) → w ≡ 0 → renumbered t live base w ≡ 0

@@ -1,8 +1,8 @@
--- `key_renumber::renumber_word` meets its contract. Assumes nothing.
-use Rattle.key_renumber.proofs.Prelude.{_-_, _/_, _%_, _^_, _≤_, _<_, _≡_, sym, _∙_, true, arith, length, getD, needs, not-true, not-false, setBelow-le, namesRow}
-use Rattle.key_renumber.proofs.RenumberSteps.{stays, too-large, has-new, in-words}
-use Rattle.key_renumber.proofs.renumber_word.Statement.{statement}
-use Rattle.key_renumber.proofs.renumber_word.Tie as tie
+-- `key_rebuild::renumber::renumber_word` meets its contract. Assumes nothing.
+use Rattle.key_rebuild.proofs.Prelude.{_-_, _/_, _%_, _^_, _≤_, _<_, _≡_, sym, _∙_, true, arith, length, getD, needs, not-true, not-false, setBelow-le, namesRow}
+use Rattle.key_rebuild.proofs.RenumberSteps.{stays, too-large, has-new, in-words}
+use Rattle.key_rebuild.proofs.renumber.renumber_word.Statement.{statement}
+use Rattle.key_rebuild.proofs.renumber.renumber_word.Tie as tie
 
 -- the word names a row, whose bitmap word and base are inside their lists
 names : (c : tie.Else1) → let a = c .before .before .before .before .args in namesRow (a .t) (a .word) ≡ true

@@ -1,8 +1,8 @@
--- `key_renumber::half_bits` meets its contract. Assumes nothing.
-use Rattle.key_renumber.proofs.Prelude.{_-_, refl, arith, needs}
-use Rattle.key_renumber.proofs.RenumberSteps.{Half, half-begin, half-free, half-taken, half-fits, half-end}
-use Rattle.key_renumber.proofs.half_bits.Statement.{statement}
-use Rattle.key_renumber.proofs.half_bits.Tie as tie
+-- `key_rebuild::renumber::half_bits` meets its contract. Assumes nothing.
+use Rattle.key_rebuild.proofs.Prelude.{_-_, refl, arith, needs}
+use Rattle.key_rebuild.proofs.RenumberSteps.{Half, half-begin, half-free, half-taken, half-fits, half-end}
+use Rattle.key_rebuild.proofs.renumber.half_bits.Statement.{statement}
+use Rattle.key_rebuild.proofs.renumber.half_bits.Tie as tie
 
 abbrev Inv-loop : tie.InvT-loop
 Inv-loop store from word₀ place₀ word place = Half store from word place

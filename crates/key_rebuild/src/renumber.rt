@@ -7,7 +7,7 @@ ghost use Rattle.lists.specs.inner.Searching.{mapFront};
 ghost use Rattle.row_buffer.specs.Ranks.{bitmapWord};
 ghost use Rattle.bitmap.specs.inner.Marking.{Spaced, otherAt};
 ghost use Rattle.key_index.specs.Slots.{slots};
-ghost use Rattle.key_renumber.specs.inner.Renumbering.{renumbered, Ranked, Block, BlockRenumbered};
+ghost use Rattle.key_rebuild.specs.inner.Renumbering.{renumbered, Ranked, Block, BlockRenumbered};
 use bitmap::word::block;
 use bitmap::word::different_bits;
 use key_index::IndexShape;

@@ -1,8 +1,8 @@
--- `key_renumber::taken_bits` meets its contract. Assumes nothing.
-use Rattle.key_renumber.proofs.Prelude.{_≡_, sym, ap, _∙_, arith, needs, bitmapWord, otherAt}
-use Rattle.key_renumber.proofs.RenumberSteps.{word-halves}
-use Rattle.key_renumber.proofs.taken_bits.Statement.{statement}
-use Rattle.key_renumber.proofs.taken_bits.Tie as tie
+-- `key_rebuild::renumber::taken_bits` meets its contract. Assumes nothing.
+use Rattle.key_rebuild.proofs.Prelude.{_≡_, sym, ap, _∙_, arith, needs, bitmapWord, otherAt}
+use Rattle.key_rebuild.proofs.RenumberSteps.{word-halves}
+use Rattle.key_rebuild.proofs.renumber.taken_bits.Statement.{statement}
+use Rattle.key_rebuild.proofs.renumber.taken_bits.Tie as tie
 
 returns-2 : tie.Need-returns-2
 returns-2 c =
