@@ -3,3 +3,5 @@ mod Prelude
 pub mod Subsets
 pub mod Forms
 pub mod Answers
+pub mod Strides
+pub mod Retained

@@ -1,6 +1,5 @@
 // Subsets: offsets/mod.rs. A subset is a range or a rising list of ids. This crate checks that a subset is well-formed and computes
-// its size and its ends. `offsets_search`, `offsets_intersect` and `offsets_retain` are the rest of the subset layer. Proofs above
-// this layer use the set laws in specs/Laws.
+// its size and its ends. `offsets_intersect` is the rest of the subset layer. Proofs above this layer use the set laws in specs/Laws.
 ghost use mathlib.Core.Path.{_≡_};
 ghost use mathlib.Core.Bool.{true};
 ghost use lib.ListN.{length};
@@ -12,6 +11,9 @@ ghost use Rattle.offsets.specs.Answers.{subsetOf};
 ghost use Rattle.offsets.specs.inner.Rising.{RisesUpTo};
 ghost use Rattle.offsets.specs.inner.Writing as ends;
 ghost use Rattle.offsets.specs.inner.Writing.{boundsView};
+
+pub mod retain; // retain.rt: the answer of a refinement as it grows
+pub mod search; // search.rt: binary search, and search by doubling strides
 
 // A borrowed subset's kind and two ends. Its list of ids is passed beside it. A dense subset ignores the list, a sparse one the
 // ends.

@@ -1,6 +1,6 @@
 -- The intersection of two lists, one step at a time: a block, an id, an id that is common, a search by strides. Assumes nothing.
 use Rattle.offsets_intersect.proofs.Prelude.{ℕ, zero, suc, _+_, _-_, _≤_, _<_, _≡_, refl, sym, ap, _∙_, inl, inr, Bool, true, false, not, _&&_, List, [], _∷_, _++_, append-assoc, append-nil, decLt, add-one, arith, eqb, length, take, drop, getD, set, length-take, length-drop, length-set, take-append-drop, drop-of-length-le, length-take-le, drop-cons, drop-drop, getD-take, getD-drop, not-true, eqb-false, splice, filter, rising, elem, splice-alike, set-splice, front-splice, drop-splice, split, and-left, and-right, filter-append, filter-yes, rising-at, rising-drop, elem-at, elem-notBelow, filter-nothing, Wrote, common, Lacks, Apart, ApartAt, SkippedTo, MergedTo, true≢false, notBelow-le, notBelow-past, notBelow-mono, elem-in-notBelow, scanPlace, scan, Scanned, Fitting, Searchable, firstNotBelow, notBelow-below}
-use Rattle.offsets_search.specs.declared.Scan.the-variants.{Hit, Next}
+use Rattle.offsets.specs.declared.search.Scan.the-variants.{Hit, Next}
 use Rattle.offsets_intersect.proofs.Common.{common-comm}
 
 -- ---- ids that the others lack

@@ -27,6 +27,6 @@ pub use Rattle.offsets.specs.inner.Writing.{Wrote}
 pub use Rattle.offsets_intersect.specs.inner.Blocks.{Lacks, Apart, ApartAt, SkippedTo, MergedTo}
 pub use Rattle.offsets_intersect.specs.inner.Common.{MuchLonger, Fitting, Searchable}
 unfoldable pub use Rattle.offsets_intersect.specs.inner.Common.{similar, common}
-pub use Rattle.offsets_search.specs.inner.Search.{Scanned}
-unfoldable pub use Rattle.offsets_search.specs.inner.Search.{scanPlace, scan}
+pub use Rattle.offsets.specs.inner.Search.{Scanned}
+unfoldable pub use Rattle.offsets.specs.inner.Search.{scanPlace, scan}
 pub use Rattle.lists.specs.inner.Searching.{firstNotBelow}

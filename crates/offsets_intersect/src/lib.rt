@@ -14,10 +14,10 @@ ghost use Rattle.offsets_intersect.specs.inner.Common.{Fitting, Searchab
 use offsets::SubsetAnswer;
 use offsets::SubsetHead;
 use offsets::is_well_formed;
-use offsets_search::Scan;
-use offsets_search::binary_search_by_id;
-use offsets_search::binary_search_from;
-use offsets_search::scan_for_offset;
+use offsets::search::Scan;
+use offsets::search::binary_search_by_id;
+use offsets::search::binary_search_from;
+use offsets::search::scan_for_offset;
 use refusals::MALFORMED_SUBSET;
 use refusals::TOO_SHORT;
 

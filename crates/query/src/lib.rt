@@ -35,7 +35,7 @@ pub fn refine_one(
         return SubsetAnswer::Refused(done.refused);
     }
     if head.dense {
-        return offsets_retain::finish_retain(done.found);
+        return offsets::retain::finish_retain(done.found);
     }
     let count = write_found(done.found, out);
     SubsetAnswer::List(count)

@@ -11,13 +11,13 @@ ghost use Rattle.constraints.specs.Constraints as rules;
 ghost use Rattle.offsets.specs.Answers.{subsetOf};
 ghost use Rattle.offsets.specs.Subsets as subsets;
 ghost use Rattle.offsets.specs.Subsets.{members};
-ghost use Rattle.offsets_retain.specs.inner.RetainBuilder.{CanAdd};
+ghost use Rattle.offsets.specs.inner.RetainBuilder.{CanAdd};
 ghost use Rattle.query_spec.specs.Queries.{matches, deadAmong};
 ghost use Rattle.query_scan.specs.inner.Scanning.{RowInStore, RowNeeded, starts, passes, BeginsAt, CanMove, Moves, Keeps, CanStep, ScanSteps, CanStart, Finished, ScanStarts, ScanAnswered, CanWrite, Writes, whole, CanClose, RefineClosed, nextOf, nextAt, PageClosed, MatchClosed};
 use constraints::Constraint;
 use offsets::SubsetAnswer;
 use offsets::SubsetHead;
-use offsets_retain::RetainBuilder;
+use offsets::retain::RetainBuilder;
 use query_spec::MatchAnswer;
 use query_spec::NextPlace;
 use query_spec::Page;
@@ -148,7 +148,7 @@ fn at_place(head: SubsetHead, ids: &[u32], refused: u32, next: u32, end: u32, mo
         id: 0,
         most: most,
         dead: 0,
-        found: offsets_retain::empty(),
+        found: offsets::retain::empty(),
     };
     if next < end {
         s.id = id_at(head, ids, next);
@@ -161,7 +161,7 @@ fn keep_id(s: Scan, out: &mut [u32]) -> Scan
     requires { ⌜ (s .next < s .end) × CanAdd (now out) (s .found) (s .id) ⌝ }
     ensures { λ r. ⌜ Keeps s (now (out .entry)) r (now (out .exit)) ⌝ }
 {
-    let found = offsets_retain::add_row_sorted(s.found, out, s.id);
+    let found = offsets::retain::add_row_sorted(s.found, out, s.id);
     let mut n = s;
     n.found = found;
     if found.count == s.most {
@@ -328,7 +328,7 @@ pub fn write_found(g: RetainBuilder, out: &mut [u32]) -> u32
     ensures { λ r. ⌜ Writes (now (out .entry)) g r (now (out .exit)) ⌝ }
 {
     if g.written == 0 {
-        offsets_retain::fill_from_dense(out, g.start, g.count);
+        offsets::retain::fill_from_dense(out, g.start, g.count);
     }
     g.count
 }

@@ -11,7 +11,7 @@ use constraints::AT_MOST;
 use constraints::EQUAL;
 use constraints::GREATER;
 use constraints::LESS;
-use offsets_search::binary_search_cells;
+use offsets::search::binary_search_cells;
 
 // Appends the entry of a row that is appended, or kept by a compaction, if its value rises. Returns the new number of entries.
 pub fn append_entry(sorts: &mut [u32], entries: u32, value: u32, row: u32) -> u32

@@ -8,14 +8,14 @@ use lib.Dec.{ltb, eqb}
 use lib.ListN.{length, getD}
 use Rattle.lists.specs.Lists.{splice, filter, all, rowAt}
 use Rattle.refusals.specs.Refusals.{accepted}
-use Rattle.offsets_retain.specs.declared.RetainBuilder.{RetainBuilder}
+use Rattle.offsets.specs.declared.retain.RetainBuilder.{RetainBuilder}
 use Rattle.offsets.specs.declared.SubsetAnswer.{SubsetAnswer}
 use Rattle.offsets.specs.declared.SubsetAnswer.the-variants.{Refused}
 use Rattle.offsets.specs.declared.SubsetHead.{SubsetHead}
 use Rattle.offsets.specs.Subsets.{Subset, wellFormed, members, size, narrowed}
 use Rattle.offsets.specs.Answers.{subsetOf, Answered}
 use Rattle.offsets.specs.inner.Writing.{Wrote}
-use Rattle.offsets_retain.specs.inner.RetainBuilder.{Builds, CanAdd, Adds, BuilderBegins}
+use Rattle.offsets.specs.inner.RetainBuilder.{Builds, CanAdd, Adds, BuilderBegins}
 use Rattle.constraints.specs.declared.Constraint.{Constraint}
 use Rattle.constraints.specs.Constraints.{known, met, isLive}
 use Rattle.table.specs.declared.Header.{Header}
