@@ -2,5 +2,6 @@ mod Prelude
 pub mod FindSteps
 pub mod PutSteps
 pub mod ScanSteps
+pub mod ShiftSteps
 pub mod WindowSteps
 pub mod WordSteps

@@ -8,3 +8,4 @@ pub mod Rows
 pub mod Unrolled
 pub mod Ring
 pub mod SizeClasses
+pub mod BackwardShift

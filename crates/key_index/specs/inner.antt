@@ -2,3 +2,4 @@
 pub mod Index
 pub mod Ring
 pub mod Window
+pub mod BackwardShift

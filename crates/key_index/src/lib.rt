@@ -11,6 +11,8 @@ ghost use Rattle.key_index.specs.inner.Ring.{spread, tagged, namesRow};
 ghost use Rattle.key_index.specs.inner.Index.{SlotsFit, RowsIn, Fits, HitIs, FoundIs, PutIs, EmptyIs};
 ghost use Rattle.key_index.specs.inner.Window.{isFree, hasBits, someOf, Ahead, FreeSoon, TakenRun};
 
+pub mod remove; // remove.rt: a row removed by backward-shift deletion
+
 // The parameters of a key index. `room` is the number of rows that the slots in use are sized for; there are twice as many slots.
 pub struct IndexShape {
     pub columns: u32,

@@ -20,7 +20,7 @@ pub use Rattle.key_index.specs.declared.Found.{Found}
 pub use Rattle.key_index.specs.declared.Found.the-variants.{At, None}
 pub use Rattle.key_index.specs.declared.IndexShape.{IndexShape}
 pub use Rattle.key_index.specs.inner.Index.{Fits, FoundAt, FoundIs}
-pub use Rattle.key_remove.specs.inner.BackwardShift.{RowRemoved}
+pub use Rattle.key_index.specs.inner.BackwardShift.{RowRemoved}
 pub use Rattle.lists.specs.Laws.Filter.{split}
 pub use Rattle.lists.specs.Laws.Rows.{row-in}
 pub use Rattle.merge_pending.specs.Laws.Dying.{dying, dying-steps, withoutKey-none, withoutKey-one, withoutRow-none, withoutRow-one, withoutRow-other}

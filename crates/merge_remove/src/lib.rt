@@ -20,7 +20,7 @@ fn kill(t: IndexShape, rows: &mut [u32], keys: &mut [u32], row: u32, slot: u32) 
     requires { ⌜ Fits t (now rows) (now keys) × (row < t .rows) × (slot < slots t) ⌝ }
     ensures { λ r. ⌜ Kills t (now (rows .entry)) (now (keys .entry)) row slot r (now (rows .exit)) (now (keys .exit)) ⌝ }
 {
-    key_remove::remove_row(t, rows, keys, slot);
+    key_index::remove::remove_row(t, rows, keys, slot);
     let at = (row * t.columns) as usize;
     !row_buffer::set_stale(rows, at)
 }

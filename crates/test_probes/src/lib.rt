@@ -319,7 +319,7 @@ pub extern "C" fn mouldgrey_take_out(
     if 2 * room <= slot {
         return UNFIT;
     }
-    key_remove::remove_row(t, rows, store, slot);
+    key_index::remove::remove_row(t, rows, store, slot);
     1
 }
 

@@ -1,8 +1,8 @@
--- `key_remove::slots_away` meets its contract. Assumes nothing.
+-- `key_index::remove::slots_away` meets its contract. Assumes nothing.
 use borrow.Author.Needs.{needs}
-use Rattle.key_remove.proofs.ShiftSteps.{away-ahead, away-behind}
-use Rattle.key_remove.proofs.slots_away.Statement.{statement}
-use Rattle.key_remove.proofs.slots_away.Tie as tie
+use Rattle.key_index.proofs.ShiftSteps.{away-ahead, away-behind}
+use Rattle.key_index.proofs.remove.slots_away.Statement.{statement}
+use Rattle.key_index.proofs.remove.slots_away.Tie as tie
 
 pub slots-away-spec : {M : Type 1} → statement M
 slots-away-spec =

@@ -4,15 +4,15 @@
 ghost use mathlib.Core.Path.{_≡_};
 ghost use mathlib.Core.Bool.{true, cond};
 ghost use Prim.Native.Nat.{_≤_, _<_};
 ghost use Rattle.key_index.specs.Slots.{slots};
 ghost use Rattle.key_index.specs.inner.Ring.{namesRow, away};
 ghost use Rattle.key_index.specs.inner.Index.{RowsIn, Fits, homeOf};
-ghost use Rattle.key_remove.specs.inner.BackwardShift.{Shifted, RowRemoved};
-use key_index::IndexShape;
-use key_index::ROW_RANGE;
-use key_index::home_slot;
-use key_index::names_row;
-use key_index::next_slot;
+ghost use Rattle.key_index.specs.inner.BackwardShift.{Shifted, RowRemoved};
+use super::IndexShape;
+use super::ROW_RANGE;
+use super::home_slot;
+use super::names_row;
+use super::next_slot;
 
 // The cyclic distance from slot `from` to slot `to`.
 fn slots_away(n: u32, from: u32, to: u32) -> u32
@@ -30,7 +30,7 @@ fn home_away(t: IndexShape, rows: &[u32], word: u32, at: u32) -> u32
     requires { ⌜ (RowsIn t (now rows)) × (namesRow t word ≡ true) × (at < slots t) ⌝ }
     ensures { λ r. ⌜ r ≡ away (slots t) (homeOf t (now (rows .entry)) word) at ⌝ }
 {
-    let hash = key_index::row_hash(t, rows, word % ROW_RANGE - 1);
+    let hash = super::row_hash(t, rows, word % ROW_RANGE - 1);
     let n = 2 * t.room;
     let home = home_slot(n, hash);
     slots_away(n, home, at)

@@ -1,8 +1,8 @@
--- `key_remove::remove_row` meets its contract. Assumes nothing.
+-- `key_index::remove::remove_row` meets its contract. Assumes nothing.
 use borrow.Author.Needs.{needs}
-use Rattle.key_remove.proofs.ShiftSteps.{taken}
-use Rattle.key_remove.proofs.remove_row.Statement.{statement}
-use Rattle.key_remove.proofs.remove_row.Tie as tie
+use Rattle.key_index.proofs.ShiftSteps.{taken}
+use Rattle.key_index.proofs.remove.remove_row.Statement.{statement}
+use Rattle.key_index.proofs.remove.remove_row.Tie as tie
 
 returns : tie.Need-returns
 returns c =

@@ -1,8 +1,8 @@
--- `key_remove::close_hole` meets its contract. Assumes nothing.
-use Rattle.key_remove.proofs.Prelude.{sym, _∙_, arith, needs, not-true, not-false, rows-in}
-use Rattle.key_remove.proofs.ShiftSteps.{ShiftInvariant, begin, finish, stop, turn}
-use Rattle.key_remove.proofs.close_hole.Statement.{statement}
-use Rattle.key_remove.proofs.close_hole.Tie as tie
+-- `key_index::remove::close_hole` meets its contract. Assumes nothing.
+use Rattle.key_index.proofs.Prelude.{sym, _∙_, arith, needs, not-true, not-false, rows-in}
+use Rattle.key_index.proofs.ShiftSteps.{ShiftInvariant, begin, finish, stop, turn}
+use Rattle.key_index.proofs.remove.close_hole.Statement.{statement}
+use Rattle.key_index.proofs.remove.close_hole.Tie as tie
 
 abbrev Inv-loop : tie.InvT-loop
 Inv-loop t rows store₀ slot n hole₀ held₀ gap₀ at₀ left₀ store hole held gap at left = ShiftInvariant t rows store₀ slot store hole held gap at left

@@ -1,8 +1,8 @@
--- `key_remove::home_away` meets its contract. Assumes nothing.
-use Rattle.key_remove.proofs.Prelude.{ℕ, ap, _∙_, arith, needs, slots, away, names-number}
-use Rattle.key_remove.proofs.ShiftSteps.{home-hash}
-use Rattle.key_remove.proofs.home_away.Statement.{statement}
-use Rattle.key_remove.proofs.home_away.Tie as tie
+-- `key_index::remove::home_away` meets its contract. Assumes nothing.
+use Rattle.key_index.proofs.Prelude.{ℕ, ap, _∙_, arith, needs, slots, away, names-number}
+use Rattle.key_index.proofs.ShiftSteps.{home-hash}
+use Rattle.key_index.proofs.remove.home_away.Statement.{statement}
+use Rattle.key_index.proofs.remove.home_away.Tie as tie
 
 returns : tie.Need-returns
 returns c =

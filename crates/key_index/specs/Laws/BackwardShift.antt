@@ -17,15 +17,15 @@ use Rattle.lists.specs.Laws.Filter.{split}
 use Rattle.lists.specs.Laws.Rows.{row-in, getD-rowAt, rowAt-set-other}
 use Rattle.cells.specs.Cells.{isDead}
 use Rattle.constraints.specs.Constraints.{isLive}
 use Rattle.key_index.specs.declared.IndexShape.{IndexShape}
 use Rattle.key_index.specs.Slots.{LiveAt, keyAt, slots, word, home, slotFrom, KeysSound}
 use Rattle.key_index.specs.inner.Ring.{rowNamed, namesRow, away}
 use Rattle.key_index.specs.Laws.Ring.{word-some, word-row, word-same, names-none, names-word, home-below, slot-below, slot-then, slot-zero, slot-round, away-below, away-slot, away-line}
 use Rattle.key_index.specs.inner.Index.{Fits, homeOf}
-use Rattle.key_remove.specs.inner.BackwardShift.{backwardShift}
+use Rattle.key_index.specs.inner.BackwardShift.{backwardShift}
 use Rattle.key_index.specs.Laws.Index.{free-slot}
 use Rattle.key_index.specs.Laws.Unrolled.{line, line-at, line-put, Line, LineWithHole, hole-open, hole-stay, hole-move, hole-close, line-homes}
 use Rattle.key_index.specs.Laws.Lines.{Small, small, Stored, lineHome, unroll, roll}
 
 -- ---- the scan, one slot at a time
 
