@@ -8,6 +8,7 @@ ghost use Rattle.merge_insert.specs.inner.Appending.{Enterable, Admissio
 use refusals::OLD_SORT_VALUE;
 use refusals::TABLE_FULL;
 use table::Header;
+use table::Largest;
 use table::index_shape;
 use table::refusing::is_old;
 
