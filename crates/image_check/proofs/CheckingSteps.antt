@@ -8,7 +8,9 @@ use native.Mathlib.Omega.{arith}
 use lib.ListN.{length}
 use Rattle.refusals.specs.Refusals.{firstRefusal, reply}
 use Rattle.key_index.specs.declared.IndexShape.{IndexShape}
+use Rattle.key_index.specs.Slots.{KeysSound}
 use Rattle.key_index.specs.inner.Index.{Fits}
+use Rattle.key_check.specs.inner.Check.{KeyStoreSound}
 use Rattle.sort_entries.specs.inner.Search.{EntriesFit}
 use Rattle.sort_entries.specs.inner.Checks.{Decides, decides-no, Cells}
 use Rattle.table.specs.declared.Header.{Header}
@@ -51,6 +53,11 @@ rows-fit h rows store e long any slots =
       cells = long;
       long = omega (arith, i .rows-fit, b .capacity-few);
     }
+
+-- in a sound key store, the check of the whole decides that keys differ
+pub differ-decided : (h : Header) (rows store : List ℕ) → KeysSound (rowsAlone h) rows store → (r : Bool) → Decides (KeyStoreSound (rowsAlone h) rows store) r
+    → Decides (KeysDiffer h rows) r
+differ-decided h rows store s r d = record { yes = λ e. d .yes e .keys-differ; no = λ e k. d .no e (record { keys-sound = s; keys-differ = k }) }
 
 -- ---- `is_contents_sound`
 

@@ -45,7 +45,7 @@ fn is_key_unique(h: Header, rows: &[u32]) -> bool
     };
     let mut slots = [0u32; MOST_SLOTS];
     key_rebuild::rebuild(t, rows, &mut slots);
-    table_check::keys_differ(t, rows, &slots)
+    key_check::key_store_sound(t, rows, &slots)
 }
 
 // Whether the table of an image is sound.

@@ -122,7 +122,7 @@ pub fn names_row(t: IndexShape, word: u32) -> bool
 
 // Whether a slot's word leads to a row with this key. The 15 hash bits are tested first: they rule out most other keys, whose rows
 // are then not read.
-fn is_hit(t: IndexShape, rows: &[u32], key: &[u32], hash: u32, word: u32) -> bool
+pub fn is_hit(t: IndexShape, rows: &[u32], key: &[u32], hash: u32, word: u32) -> bool
     requires { ⌜ (RowsIn t (now rows)) × (length (now key) ≡ t .keys) ⌝ }
     ensures { λ r. ⌜ HitIs t (now (rows .entry)) (now (key .entry)) hash word (word % 2 ^ 17 - 1) r ⌝ }
 {

@@ -1,6 +1,6 @@
 -- The steps of checking.rt, by the laws of specs/Laws/Checks.antt: one law for each way that a function answers, and what
 -- holds at the head of the loop over the pending words. Assumes nothing.
-use Rattle.table_check.proofs.Prelude.{ℕ, _+_, _-_, _*_, _≤_, _<_, _≡_, refl, sym, ap, _∙_, Bool, true, false, not, false≢true, List, [], _∷_, add-zero, ℕ-discrete, arith, leb, eqb, length, take, drop, getD, length-drop, getD-drop, drop-drop, ne-eqb, le-leb, leb-true, outcome-refused, count-append, count-le, length-rowsOf, rowsOf-snoc, isLive, live-first, key-part, IndexShape, Found, None, At, LiveAt, keyAt, KeysSound, Fits, FoundIs, KeysDiffer, SlotsSound, entriesOf, entriesSound, Decides, decides-yes, decides-no, cellsSound, cells-live, cells-of, last-entriesOf, last-none, sound-climb, last-all, Header, soundRefusal, indexShapeOf, Checked, parts-sound, sound-rows, sound-index, sound-whole, own-differ, own-sound, own-dead, own-none, own-at, begins-words, begins-hash, words-begin, holds-cons, holds-head, holds-tail, holds-none, holds-some, holds-pending, pending-holds}
+use Rattle.table_check.proofs.Prelude.{ℕ, _+_, _-_, _*_, _≤_, _<_, _≡_, refl, sym, ap, _∙_, Bool, true, false, not, false≢true, List, [], _∷_, add-zero, ℕ-discrete, arith, leb, length, take, drop, getD, length-drop, getD-drop, drop-drop, ne-eqb, le-leb, leb-true, outcome-refused, count-append, count-le, length-rowsOf, rowsOf-snoc, isLive, live-first, IndexShape, entriesOf, entriesSound, Decides, decides-yes, decides-no, cellsSound, cells-live, cells-of, last-entriesOf, last-none, sound-climb, last-all, Header, soundRefusal, indexShapeOf, Checked, parts-sound, sound-rows, sound-index, sound-whole, begins-words, begins-hash, words-begin, holds-cons, holds-head, holds-tail, holds-none, holds-some, holds-pending, pending-holds}
 use mathlib.Core.Option.{Option, none as no-value, some as a-value}
 use Rattle.refusals.specs.Refusals.{reply, outcome}
 use Rattle.lists.specs.Lists.{all, count, rowAt, rowsOf}
@@ -10,7 +10,8 @@ use Rattle.plain_table.specs.Staged.{Opening, Staged, insert, removeKey, remove
 use Rattle.table.specs.declared.Largest.the-variants.{None as NoLargest, Value}
 use Rattle.table.specs.declared.SoundAnswer.the-variants.{Refused, Sound as IsSound}
 use Rattle.table.specs.Numbers.{openingOf, largestView, soundView}
-use Rattle.table_check.specs.inner.Checks.{deadRows, lastKept, RowsSound, KeyStoreSound, OwnIs, AllOwn, kindWords, keyPlace, keyWords, Begins, RecordRead, HoldsFrom, PendingWhole, SoundStores}
+use Rattle.key_check.specs.inner.Check.{KeyStoreSound}
+use Rattle.table_check.specs.inner.Checks.{deadRows, lastKept, RowsSound, kindWords, keyPlace, keyWords, Begins, RecordRead, HoldsFrom, PendingWhole, SoundStores}
 
 -- ---- rows
 
@@ -91,45 +92,6 @@ module _ (h : Header) (rows sorts : List ℕ) where
             };
         no = λ q s.
             false≢true (sym q ∙ f ∙ cells-of rows (h .columns) (h .sort) (h .rows) (entriesOf (h .entries) sorts) (λ i k l. s .sorted i (k, l)));
-      }
-
--- ---- keys
-
--- the answers of `finds_itself`, after the row's key is looked up
-module _ (t : IndexShape) (rows keys : List ℕ) (row : ℕ) (fits : Fits t rows keys) (below : row < t .rows) where
-  abbrev lent : List ℕ
-  lent = take (row * t .columns + t .keys - row * t .columns) (drop (row * t .columns) rows)
-
-  pub itself-dead : isDead (getD rows (row * t .columns) 0) ≡ true → OwnIs t rows keys row true
-  itself-dead e = own-dead t rows keys row (live-first (t .columns) row rows (fits .some-columns) ∙ ap not e)
-
-  module _ (first : isDead (getD rows (row * t .columns) 0) ≡ false) (hash : ℕ) (r : Found) (h : hash ≡ compactHash (keyHash lent)) (f : FoundIs t rows keys lent hash r) where
-    live : LiveAt t rows row
-    live = (below, live-first (t .columns) row rows (fits .some-columns) ∙ ap not first)
-
-    found : FoundIs t rows keys (keyAt t rows row) (compactHash (keyHash (keyAt t rows row))) r
-    found = rw (← key-part t rows row (fits .most-keys), ← h) f
-
-    pub itself-none : r ≡ None → OwnIs t rows keys row false
-    itself-none e = own-none t rows keys row live (rw e at found)
-
-    pub itself-at : (i slot : ℕ) → r ≡ At i slot → OwnIs t rows keys row (eqb i row)
-    itself-at i slot e = own-at t rows keys row live i slot (rw e at found)
-
--- with a sound key store, live rows are found by their keys exactly if these differ
-pub differ-decided : (t : IndexShape) (rows keys : List ℕ) → KeysSound t rows keys → (r : Bool) → AllOwn t rows keys r → Decides (KeysDiffer t rows) r
-differ-decided t rows keys sound r d = record { yes = λ q. own-differ t rows keys (d .yes q); no = λ q. d .no q sound }
-
--- the answers of `key_store_sound`
-module _ (t : IndexShape) (rows keys : List ℕ) where
-  pub index-astray : (KeysSound t rows keys → ⊥) → Decides (KeyStoreSound t rows keys) false
-  index-astray f = decides-no (λ s. f (s .keys-sound))
-
-  pub key-store-decided : Fits t rows keys → SlotsSound t rows keys → (r : Bool) → AllOwn t rows keys r → Decides (KeyStoreSound t rows keys) r
-  key-store-decided fits k r d =
-      record {
-        yes = λ q. record { keys-sound = own-sound t rows keys fits k (d .yes q); keys-differ = own-differ t rows keys (d .yes q) };
-        no = λ q s. d .no q (s .keys-sound) (s .keys-differ);
       }
 
 -- ---- pending records

@@ -1,27 +1,20 @@
 -- The names that the proofs of this crate take from elsewhere, re-exported. It defines nothing of its own.
 pub use Prim.Native.Nat.{_*_, _+_, _-_, _<_, _≤_, ℕ}
-pub use mathlib.Core.Bool.{Bool, false, false≢true, not, true, true≢false}
+pub use mathlib.Core.Bool.{Bool, false, false≢true, not, true}
 pub use mathlib.Core.List.{List, [], _∷_}
 pub use mathlib.Core.Path.{_∙_, _≡_, ap, refl, sym}
 pub use native.Mathlib.Decide.{ℕ-discrete}
 pub use native.Mathlib.Nat.{add-zero}
 pub use native.Mathlib.Omega.{arith}
-pub use lib.Dec.{eqb, leb}
+pub use lib.Dec.{leb}
 pub use lib.ListN.{drop, getD, length, length-drop, take}
 pub use lib.Seq.{drop-drop, getD-drop}
-pub use borrow.Author.Count.{below-more}
 pub use borrow.Author.Needs.{needs}
 pub use borrow.Author.Tests.{eq-eqb, le-leb, leb-true, ne-eqb, not-false, not-true}
 pub use Rattle.constraints.specs.Constraints.{isLive}
 pub use Rattle.constraints.specs.Laws.Rows.{live-first}
-pub use Rattle.key_check.specs.inner.Check.{SlotsSound}
-pub use Rattle.key_index.specs.Laws.Index.{rows-in}
-pub use Rattle.key_index.specs.Laws.Places.{Inside, inside, key-part, row-inside}
-pub use Rattle.key_index.specs.Slots.{KeysSound, LiveAt, keyAt}
-pub use Rattle.key_index.specs.declared.Found.{Found}
-pub use Rattle.key_index.specs.declared.Found.the-variants.{At, None}
+pub use Rattle.key_index.specs.Laws.Places.{Inside, inside}
 pub use Rattle.key_index.specs.declared.IndexShape.{IndexShape}
-pub use Rattle.key_index.specs.inner.Index.{Fits, FoundIs, KeysDiffer}
 pub use Rattle.lists.specs.Laws.Filter.{count-append, count-le}
 pub use Rattle.lists.specs.Laws.Rows.{length-rowsOf, rowsOf-snoc}
 pub use Rattle.refusals.specs.Laws.Replies.{outcome-refused}
@@ -36,5 +29,4 @@ pub use Rattle.table.specs.Numbers.{openingOf}
 pub use Rattle.table.specs.Refusing.{soundRefusal}
 pub use Rattle.table.specs.Sound.{indexShapeOf}
 pub use Rattle.table.specs.declared.Header.{Header}
-pub use Rattle.table_check.specs.Laws.Checks.{begins-hash, begins-words, holds-cons, holds-head, holds-none, holds-pending, holds-some, holds-tail, own-at, own-dead, own-differ, own-none, own-sound, parts-sound, pending-holds, sound-cells, sound-fits, sound-held, sound-index, sound-pending, sound-rows, sound-whole, words-begin}
-pub use Rattle.table_check.specs.inner.Checks.{Own}
+pub use Rattle.table_check.specs.Laws.Checks.{begins-hash, begins-words, holds-cons, holds-head, holds-none, holds-pending, holds-some, holds-tail, parts-sound, pending-holds, sound-cells, sound-fits, sound-held, sound-index, sound-pending, sound-rows, sound-whole, words-begin}

@@ -4,16 +4,12 @@
 ghost use mathlib.Core.Path.{_≡_};
 ghost use Prim.Native.Nat.{_<_, _≤_};
 ghost use lib.ListN.{length};
-ghost use Rattle.key_index.specs.Slots.{KeysSound};
-ghost use Rattle.key_index.specs.inner.Index.{Fits, KeysDiffer};
 ghost use Rattle.sort_entries.specs.inner.Search.{EntriesFit};
 ghost use Rattle.sort_entries.specs.inner.Checks.{Decides, Cells};
 ghost use Rattle.table.specs.Numbers.{openingOf};
 ghost use Rattle.table.specs.Refusing.{soundRefusal};
 ghost use Rattle.table.specs.Contracts.{Checked};
-ghost use Rattle.table_check.specs.inner.Checks.{deadRows, lastKept, RowsSound, KeyStoreSound, OwnIs, AllOwn, PendingIn, kindWords, keyPlace, RecordRead, PendingWhole, SoundStores};
-use key_index::Found;
-use key_index::IndexShape;
+ghost use Rattle.table_check.specs.inner.Checks.{deadRows, lastKept, RowsSound, PendingIn, kindWords, keyPlace, RecordRead, PendingWhole, SoundStores};
 use table::Header;
 use table::INSERT;
 use table::Largest;
@@ -75,59 +71,6 @@ pub fn rows_sound(h: Header, rows: &[u32], sorts: &[u32]) -> bool
         return false;
     }
     sort_entries::sort_cells_sound(rows, h.columns, h.sort, h.rows, sorts, h.entries)
-}
-
-// Whether a row is dead or found by its key. If two live rows have the same key, a lookup finds the first of them in the key store.
-fn finds_itself(t: IndexShape, rows: &[u32], keys: &[u32], row: u32) -> bool
-    requires { ⌜ (Fits t (now rows) (now keys)) × (row < t .rows) ⌝ }
-    ensures { λ r. ⌜ OwnIs t (now (rows .entry)) (now (keys .entry)) row r ⌝ }
-{
-    let from = (row * t.columns) as usize;
-    if row_buffer::is_dead(rows, from) {
-        return true;
-    }
-    let to = from + t.keys as usize;
-    let hash = cells::compact_hash(&rows[from..to]);
-    let found = key_index::find(t, rows, keys, &rows[from..to], hash);
-    match found {
-        Found::None => false,
-        Found::At(at, _) => at == row,
-    }
-}
-
-// Whether each live row is found by its key.
-fn rows_found(t: IndexShape, rows: &[u32], keys: &[u32]) -> bool
-    requires { ⌜ Fits t (now rows) (now keys) ⌝ }
-    ensures { λ r. ⌜ AllOwn t (now (rows .entry)) (now (keys .entry)) r ⌝ }
-{
-    let mut row: u32 = 0;
-    while row < t.rows {
-        if !finds_itself(t, rows, keys, row) {
-            return false;
-        }
-        row += 1;
-    }
-    true
-}
-
-// Whether the keys of live rows differ, given a sound key store.
-pub fn keys_differ(t: IndexShape, rows: &[u32], keys: &[u32]) -> bool
-    requires { ⌜ (Fits t (now rows) (now keys)) × (KeysSound t (now rows) (now keys)) ⌝ }
-    ensures { λ r. ⌜ Decides (KeysDiffer t (now (rows .entry))) r ⌝ }
-{
-    rows_found(t, rows, keys)
-}
-
-// Whether the key store refers to exactly the live rows, and their keys differ. If each live row is found, it has a slot, and no
-// row has two if the slots are sound.
-fn key_store_sound(t: IndexShape, rows: &[u32], keys: &[u32]) -> bool
-    requires { ⌜ Fits t (now rows) (now keys) ⌝ }
-    ensures { λ r. ⌜ Decides (KeyStoreSound t (now (rows .entry)) (now (keys .entry))) r ⌝ }
-{
-    if !key_check::slots_sound(t, rows, keys) {
-        return false;
-    }
-    rows_found(t, rows, keys)
 }
 
 // The number of words of a record of this kind; 0 for an unknown kind.
@@ -204,7 +147,7 @@ fn stores_sound(h: Header, rows: &[u32], keys: &[u32], sorts: &[u32], pending: &
         return false;
     }
     let t = table::index_shape(h);
-    if !key_store_sound(t, rows, keys) {
+    if !key_check::key_store_sound(t, rows, keys) {
         return false;
     }
     pending_whole(h, pending)

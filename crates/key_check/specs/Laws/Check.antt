@@ -1,24 +1,25 @@
--- Laws of counting rows and slots, and of the unrolled ring (a line of slots) that the check visits position by position; and that
--- sound slots in which each live row is found are a sound key store. Assumes nothing.
-use Prim.Native.Nat.{ℕ, zero, suc, _+_, _-_, _≤_, _<_}
+-- Laws of counting rows and slots; and that a key store is sound, and live rows have different keys, exactly if each live row is
+-- reached from its key's home and taken slots and live rows are equally many. Assumes nothing.
+use Prim.Native.Nat.{ℕ, zero, suc, _+_, _≤_, _<_}
 use mathlib.Core.Path.{_≡_, refl, sym, ap, _∙_}
 use mathlib.Core.Logic.{inl, inr}
-use mathlib.Core.Bool.{Bool, true, false, not, _&&_, and-true}
+use mathlib.Core.Bool.{Bool, true, false, not, _&&_, false≢true, and-true}
 use mathlib.Core.List.{List}
 use native.Mathlib.Decide.{decLt, ℕ-discrete}
 use native.Mathlib.Numerals.{add-one}
 use native.Mathlib.Omega.{arith}
-use lib.Dec.{eqb, ltb}
+use lib.Dec.{eqb}
 use lib.ListN.{getD}
-use borrow.Author.Tests.{eq-eqb, ne-eqb, lt-ltb}
+use borrow.Author.Tests.{eq-eqb, ne-eqb, le-ltb, lt-ltb, ltb-true}
 use Rattle.lists.specs.Laws.Filter.{split}
+use Rattle.cells.specs.Cells.{compactHash, keyHash}
 use Rattle.key_index.specs.declared.IndexShape.{IndexShape}
-use Rattle.key_index.specs.Slots.{LiveAt, keyAt, slots, word, slotFrom, KeysSound}
-use Rattle.key_index.specs.inner.Index.{Fits}
-use Rattle.key_index.specs.Laws.Ring.{word-some, word-same}
-use Rattle.key_index.specs.Laws.Unrolled.{away, slot-below, slot-then, slot-zero, slot-round, slot-one, away-below, away-slot, away-line, line, line-at}
-use Rattle.key_index.specs.Laws.Lines.{small, roll}
-use Rattle.key_check.specs.inner.Check.{isLiveRow, tally, takenCount, Front, SlotsSound}
+use Rattle.key_index.specs.Slots.{LiveAt, keyAt, slots, word, home, slotFrom, ReachableAt, KeysSound}
+use Rattle.key_index.specs.inner.Ring.{spread, rowNamed}
+use Rattle.key_index.specs.inner.Index.{Fits, KeysDiffer, Leads, FirstHit}
+use Rattle.key_index.specs.Laws.Ring.{home-spread, home-below, slot-below, slot-one, word-tagged, word-some, word-row, word-same}
+use Rattle.key_index.specs.Laws.Index.{first-one}
+use Rattle.key_check.specs.inner.Check.{isLiveRow, tally, liveCount, isTaken, takenCount, Own, KeyStoreSound}
 
 module _ (test : ℕ → Bool) (n : ℕ) where
   suc-yes : test n ≡ true → tally test (suc n) ≡ suc (tally test n)
@@ -94,85 +95,7 @@ matched R f (suc n) g m has own =
       | inr e ↦ rw (suc-no f n e) (matched R f n g m (λ p k. has p (omega arith)) (λ p q s k l. own p q s (omega arith) (omega arith)))
     ]
 
--- ---- the line, one position at a time
-
--- the condition for a taken position p to extend the front
-pub record Joins (homeOf : ℕ → ℕ) (Held : ℕ → Type 0) (l : ℕ → ℕ) (p : ℕ) : Type 0 where
-  pub held : Held (l p)
-  pub after : homeOf (l p) ≤ p
-  pub way : (e : ℕ) → homeOf (l p) ≤ e → e ≤ p → 0 < l e
-
-module _ (homeOf : ℕ → ℕ) (Held : ℕ → Type 0) (l : ℕ → ℕ) where
-  pub front-none : Front homeOf Held l 0
-  front-none =
-      record {
-        only = λ q h. absurd (omega arith);
-        after = λ q h. absurd (omega arith);
-        way = λ q h. absurd (omega arith);
-      }
-
-  pub front-more : (p : ℕ) → Front homeOf Held l p → (0 < l p → Joins homeOf Held l p) → Front homeOf Held l (p + 1)
-  front-more p f j =
-      record {
-        only = λ q h c. elim (ℕ-discrete q p) [ yes e ↦ rw e (j (rw e at c) .held) | no e ↦ f .only q (omega arith) c ];
-        after = λ q h c. elim (ℕ-discrete q p) [ yes e ↦ rw e (j (rw e at c) .after) | no e ↦ f .after q (omega arith) c ];
-        way = λ q h c e i k. elim (ℕ-discrete q p) [ yes u ↦ j (rw u at c) .way e (rw u at i) (omega arith) | no u ↦ f .way q (omega arith) c e i k ];
-      }
-
--- the `run` positions before p are taken, and the one before them is free
-pub record Run (l : ℕ → ℕ) (p run : ℕ) : Type 0 where
-  pub below : run < p
-  pub taken : (q : ℕ) → p ≤ q + run → q < p → 0 < l q
-  pub before : (q : ℕ) → q + run + 1 ≡ p → l q ≡ 0
-
-module _ (l : ℕ → ℕ) (p : ℕ) where
-  pub run-none : l p ≡ 0 → Run l (p + 1) 0
-  run-none e = record { below = omega arith; taken = λ q h k. absurd (omega arith); before = λ q h. let u : q ≡ p = omega arith in ap l u ∙ e }
-
-  pub run-more : (run : ℕ) → Run l p run → 0 < l p → Run l (p + 1) (run + 1)
-  run-more run s c =
-      record {
-        below = omega (arith, s .below);
-        taken = λ q h k. elim (ℕ-discrete q p) [ yes e ↦ rw e c | no e ↦ s .taken q (omega arith) (omega arith) ];
-        before = λ q h. s .before q (omega arith);
-      }
-
--- a home at most p slots before position p, cyclically, is at or before position p on the line
-module _ (n z h p : ℕ) (zn : z < n) (hn : h < n) (pn : p < n) where
-  pub near-line : away n h (slotFrom n z p) ≤ p → away n z h ≤ p
-  near-line near =
-      elim (decLt p k) [
-        | no i ↦ omega arith
-        | yes i ↦ elim (decLt (k + d) n) [
-          | yes j ↦ absurd (let u = slot-one n z (k + d) p zn j pn same in omega arith)
-          | no j ↦
-              let m : k + d - n < n = omega (arith, away-below n z h (omega arith), dn) in
-              let e : n + (k + d - n) ≡ k + d = omega arith in
-              let f : slotFrom n z (k + d - n) ≡ slotFrom n z p =
-              ap (λ (x : ℕ). slotFrom n x (k + d - n)) (sym (slot-round n z zn)) ∙ slot-then n z n (k + d - n) ∙ ap (slotFrom n z) e ∙ same in
-              absurd (let u = slot-one n z (k + d - n) p zn m pn f in omega (arith, away-below n z h (omega arith)))
-        ]
-      ]
-    where
-      k : ℕ
-      k = away n z h
-
-      d : ℕ
-      d = away n h (slotFrom n z p)
-
-      dn : d < n
-      dn = away-below n h (slotFrom n z p) (omega arith)
-
-      same : slotFrom n z (k + d) ≡ slotFrom n z p
-      same =
-          sym (slot-then n z k d)
-          ∙ ap (λ (x : ℕ). slotFrom n x d) (away-slot n z h zn hn)
-          ∙ away-slot n h (slotFrom n z p) hn (slot-below n z p (omega arith))
-
-  pub far-line : away n z h ≤ p → away n h (slotFrom n z p) ≡ p - away n z h
-  far-line i = ap (λ (x : ℕ). away n x (slotFrom n z p)) (sym (away-slot n z h zn hn)) ∙ away-line n z (away n z h) p zn i pn
-
--- ---- sound slots in which each live row is found
+-- ---- live rows and their slots
 
 pub live-is : (t : IndexShape) (rows : List ℕ) (row : ℕ) → row < t .rows → isLiveRow t rows row ≡ true → LiveAt t rows row
 unfolding isLiveRow
@@ -182,57 +105,169 @@ pub is-live : (t : IndexShape) (rows : List ℕ) (row : ℕ) → LiveAt t rows r
 unfolding isLiveRow
 is-live t rows row s = s .1
 
+taken-is : (store : List ℕ) (slot : ℕ) → isTaken store slot ≡ true → 0 < getD store slot 0
+unfolding isTaken
+taken-is store slot e = ltb-true 0 (getD store slot 0) e
+
+pub is-taken : (store : List ℕ) (slot : ℕ) → 0 < getD store slot 0 → isTaken store slot ≡ true
+unfolding isTaken
+is-taken store slot h = lt-ltb 0 (getD store slot 0) h
+
+pub not-taken : (store : List ℕ) (slot : ℕ) → getD store slot 0 ≤ 0 → isTaken store slot ≡ false
+unfolding isTaken
+not-taken store slot h = le-ltb 0 (getD store slot 0) h
+
 module _ (t : IndexShape) (rows store : List ℕ) (f : Fits t rows store) where
-  -- live rows with a position each, other than a: there are fewer of them than taken positions
-  spared : (l : ℕ → ℕ) (n a : ℕ) → a < n → 0 < l a
-      → ((row : ℕ) → LiveAt t rows row → (q : ℕ) × (q < n) × (q ≡ a → ⊥) × (l q ≡ word (keyAt t rows row) row))
-      → tally (isLiveRow t rows) (t .rows) < takenCount l n
-  spared l n a h c places =
-      let m = matched (λ row q. l q ≡ word (keyAt t rows row) row) (isLiveRow t rows) (t .rows) (without (λ q. ltb 0 (l q)) a) n
-      (λ row k e.
-      let p = places row (live-is t rows row k e) in
-      (p .0, p .1, without-other (λ q. ltb 0 (l q)) a (p .0) (p .2) ∙ lt-ltb 0 (l (p .0)) (rw (p .3) (word-some (keyAt t rows row) row)), p .3))
-      (λ i j q h k u v. word-same _ _ i j (omega (arith, f .count, f .most)) (omega (arith, f .count, f .most)) (sym u ∙ v)) in
-      omega (arith, m, tally-without (λ q. ltb 0 (l q)) a n h (lt-ltb 0 (l a) c))
+  -- a slot has the word of a row
+  abbrev Has : ℕ → ℕ → Type 0
+  Has slot row = getD store slot 0 ≡ word (keyAt t rows row) row
 
-  module _ (s : SlotsSound t rows store) (found : (row : ℕ) → LiveAt t rows row → (slot : ℕ) × (slot < slots t) × (getD store slot 0 ≡ word (keyAt t rows row) row)) where
-    abbrev l : ℕ → ℕ
-    l = line (slots t) (s .start) store
+  -- a slot that has the word of a row is taken
+  taken : (slot row : ℕ) → Has slot row → isTaken store slot ≡ true
+  taken slot row e = is-taken store slot (rw e (word-some (keyAt t rows row) row))
 
-    -- the position of a live row
-    position : (row : ℕ) → LiveAt t rows row → (q : ℕ) × (q < slots t) × (l q ≡ word (keyAt t rows row) row)
-    position row live =
-        let p = found row live in (
-          away (slots t) (s .start) (p .0),
-          away-below (slots t) (s .start) (p .0) (omega (arith, s .slot)),
-          line-at (slots t) (s .start) store _ (p .0) (away-slot (slots t) (s .start) (p .0) (s .slot) (p .1)) ∙ p .2,
+  -- a slot has the word of one row
+  one-row : (i j slot : ℕ) → i < t .rows → j < t .rows → Has slot i → Has slot j → i ≡ j
+  one-row i j slot h k u v = word-same _ _ i j (omega (arith, f .count, f .most)) (omega (arith, f .count, f .most)) (sym u ∙ v)
+
+  -- ---- from the check to soundness
+
+  module _ (count : takenCount store (slots t) ≡ liveCount t rows) (own : (row : ℕ) → LiveAt t rows row → Own t rows store row) where
+    reachable : (row : ℕ) → LiveAt t rows row → (d : ℕ) × ReachableAt (slots t) store (keyAt t rows row) row d
+    reachable row live =
+        let o = own row live in
+        let e = home-spread (slots t) _ (keyAt t rows row) refl in
+        (
+          o .0,
+          record {
+            below = o .1 .below;
+            there = rw (← e) (o .1 .there ∙ word-tagged _ row (keyAt t rows row) refl);
+            way = λ d h. rw (← e) (o .1 .taken d h);
+          },
         )
 
-    -- no two positions have the same row: one of them would be spared
-    once : (a b : ℕ) → a < slots t → b < slots t → 0 < l a → l a ≡ l b → a ≡ b
+    slot-of : (row : ℕ) → LiveAt t rows row → (slot : ℕ) × (slot < slots t) × Has slot row
+    slot-of row live = let p = reachable row live in (slotFrom (slots t) _ (p .0), slot-below (slots t) _ (p .0) (omega (arith, f .some)), p .1 .there)
+
+    -- live rows do not all have a slot other than a taken one
+    not-spared : (a : ℕ) → a < slots t → 0 < getD store a 0 → ((row : ℕ) → LiveAt t rows row → (slot : ℕ) × (slot < slots t) × (slot ≡ a → ⊥) × Has slot row) → ⊥
+    not-spared a h c places =
+        let m = matched (λ row slot. Has slot row) (isLiveRow t rows) (t .rows) (without (isTaken store) a) (slots t)
+        (λ row k e.
+        let p = places row (live-is t rows row k e) in
+        (p .0, p .1, without-other (isTaken store) a (p .0) (p .2) ∙ taken (p .0) row (p .3), p .3))
+        (λ i j slot. one-row i j slot) in
+        omega (arith, m, count, tally-without (isTaken store) a (slots t) h (is-taken store a c))
+
+    -- no two slots have the same word: one of them would be spared
+    once : (a b : ℕ) → a < slots t → b < slots t → 0 < getD store a 0 → getD store a 0 ≡ getD store b 0 → a ≡ b
     once a b h k c e =
         elim (ℕ-discrete a b) [
           | yes q ↦ q
-          | no ne ↦ absurd (omega (
-            arith,
-            s .count,
-            spared l (slots t) a h c (λ row live.
-                let p = position row live in
-                elim (ℕ-discrete (p .0) a) [
-                  | yes q ↦ (b, k, (λ v. ne (sym v)), sym e ∙ ap l (sym q) ∙ p .2)
-                  | no q ↦ (p .0, p .1, q, p .2)
-                ]),
-          ))
+          | no ne ↦ absurd (not-spared a h c (λ row live.
+              let p = slot-of row live in
+              elim (ℕ-discrete (p .0) a) [
+                | yes q ↦ (b, k, (λ v. ne (sym v)), sym e ∙ ap (λ (i : ℕ). getD store i 0) (sym q) ∙ p .2)
+                | no q ↦ (p .0, p .1, q, p .2)
+              ]))
         ]
 
-    pub found-sound : KeysSound t rows store
-    found-sound =
-        roll t (small t rows store f) rows (s .start) (s .slot) store
-        (record {
-          free = line-at (slots t) (s .start) store 0 (s .start) (slot-zero (slots t) (s .start) (s .slot)) ∙ s .free;
-          only = s .front .only;
-          once = once;
-          all = λ w m. let p = position (m .0) (m .1) in (p .0, p .1, p .2 ∙ sym (m .2));
-          after = s .front .after;
-          way = s .front .way;
-        })
+    -- a taken slot has the word of a live row: otherwise it would be spared
+    only-live : (slot : ℕ) → slot < slots t → 0 < getD store slot 0 → (row : ℕ) × LiveAt t rows row × Has slot row
+    only-live slot h c =
+        elim (decLt r (t .rows)) [
+          | no i ↦ absurd (other (λ live e. i (live .0)))
+          | yes i ↦ elim (split (isLiveRow t rows r)) [
+            | inr e ↦ absurd (other (λ live _. false≢true (sym e ∙ is-live t rows r live)))
+            | inl e ↦ elim (ℕ-discrete (getD store slot 0) (word (keyAt t rows r) r)) [
+              | yes q ↦ (r, live-is t rows r i e, q)
+              | no q ↦ absurd (other (λ _. q))
+            ]
+          ]
+        ]
+      where
+        r : ℕ
+        r = rowNamed (getD store slot 0)
+
+        other : (LiveAt t rows r → Has slot r → ⊥) → ⊥
+        other none =
+            not-spared slot h c (λ row live.
+            let p = slot-of row live in
+            (
+              p .0,
+              p .1,
+              (λ q.
+              let e : Has slot row = rw q at (p .2) in
+              let z : r ≡ row = ap rowNamed e ∙ word-row (keyAt t rows row) row (omega (arith, live .0, f .count, f .most)) in
+              none (rw z live) (rw z e)),
+              p .2,
+            ))
+
+    own-first : (row : ℕ) → LiveAt t rows row → (d : ℕ) × FirstHit t rows store (keyAt t rows row) (compactHash (keyHash (keyAt t rows row))) row d
+    own-first row live = let o = own row live in (o .0, record { leads = record { tag = o .1 .there; below = live .0; cells = refl }; way = o .1 .others })
+
+    differ : KeysDiffer t rows
+    differ i j a b e =
+        let p = own-first i a in
+        let q = own-first j b in
+        first-one t rows store (keyAt t rows j) (compactHash (keyHash (keyAt t rows j))) i j (p .0) (q .0) (rw e at (p .1)) (q .1)
+
+    pub own-sound : KeyStoreSound t rows store
+    own-sound = record { keys-sound = record { only-live = only-live; once = once; leads = reachable }; keys-differ = differ }
+
+  -- ---- from soundness to the check
+
+  module _ (s : KeyStoreSound t rows store) where
+    k : KeysSound t rows store
+    k = s .keys-sound
+
+    -- each taken slot has a live row of its own, and each live row a slot
+    pub sound-count : takenCount store (slots t) ≡ liveCount t rows
+    sound-count =
+        let x = matched Has (isTaken store) (slots t) (isLiveRow t rows) (t .rows)
+        (λ slot h d. let o = k .only-live slot h (taken-is store slot d) in (o .0, o .1 .0, is-live t rows (o .0) (o .1), o .2))
+        (λ a b row h j u v. k .once a b h j (rw u (word-some (keyAt t rows row) row)) (u ∙ sym v)) in
+        let y = matched (λ row slot. Has slot row) (isLiveRow t rows) (t .rows) (isTaken store) (slots t)
+        (λ row h d.
+        let p = k .leads row (live-is t rows row h d) in
+        let slot = slotFrom (slots t) (home (slots t) (keyAt t rows row)) (p .0) in
+        (slot, slot-below (slots t) _ (p .0) (omega (arith, f .some)), taken slot row (p .1 .there), p .1 .there))
+        (λ i j slot. one-row i j slot) in
+        omega (arith, x, y)
+
+    -- each live row is reached
+    module _ (row : ℕ) (live : LiveAt t rows row) where
+      abbrev key : List ℕ
+      key = keyAt t rows row
+
+      abbrev from : ℕ → ℕ
+      from d = slotFrom (slots t) (home (slots t) key) d
+
+      same-home : spread (slots t) (compactHash (keyHash key)) ≡ home (slots t) key
+      same-home = home-spread (slots t) _ key refl
+
+      -- no slot before the row's own leads to a row with its key: that row would be live, so it would be the same row
+      first : (d : ℕ) → ReachableAt (slots t) store key row d → (e : ℕ) → e < d → (i : ℕ) → Leads t rows key (compactHash (keyHash key)) (getD store (from e) 0) i → ⊥
+      first d p e h i l =
+          let some : 0 < slots t = omega (arith, f .some) in
+          let b = slot-below (slots t) (home (slots t) key) e some in
+          let w : getD store (from e) 0 ≡ word key i = l .tag ∙ word-tagged _ i key refl in
+          let o = k .only-live (from e) b (rw w (word-some key i)) in
+          let q : o .0 ≡ i = word-same _ _ (o .0) i (omega (arith, o .1 .0, f .count, f .most)) (omega (arith, l .below, f .count, f .most)) (sym (o .2) ∙ w) in
+          let z : i ≡ row = s .keys-differ i row (rw q at (o .1)) live (l .cells) in
+          let same : from e ≡ from d = k .once (from e) (from d) b (slot-below (slots t) _ d some) (rw w (word-some key i)) (w ∙ ap (word key) z ∙ sym (p .there)) in
+          let x : e ≡ d = slot-one (slots t) (home (slots t) key) e d (home-below (slots t) key some) (omega (arith, p .below)) (p .below) same in
+          omega arith
+
+      pub sound-own : Own t rows store row
+      sound-own =
+          let p = k .leads row live in
+          (
+            p .0,
+            record {
+              below = p .1 .below;
+              there = rw same-home (p .1 .there ∙ sym (word-tagged _ row key refl));
+              taken = λ e h. rw same-home (p .1 .way e h);
+              others = λ e h i. rw same-home (first (p .0) (p .1) e h i);
+            },
+          )

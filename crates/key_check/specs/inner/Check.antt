@@ -1,22 +1,21 @@
--- The check of a key store's slots: contracts of its functions, and what it leaves open. The ring is unrolled at a free slot. The
--- check tests that each taken position of the line has the word of a live row that can be reached from its home, and that taken
--- positions and live rows are equally many. Two positions may still have the same row. Then some live row has no position, so a
--- lookup of its key does not find it. Assumes nothing.
-use Prim.Native.Nat.{ℕ, zero, suc, _-_, _%_, _^_, _≤_, _<_}
+-- The check of a key store: contracts of its functions. It tests that each live row is reached from its key's home, and that taken
+-- slots and live rows are equally many. Then no taken slot is left for a word of no live row, or for a second word of one. Assumes
+-- nothing.
+use Prim.Native.Nat.{ℕ, zero, suc, _<_}
 use mathlib.Core.Path.{_≡_}
-use mathlib.Core.Bool.{Bool, true, false, cond}
+use mathlib.Core.Bool.{Bool, cond}
 use mathlib.Core.List.{List}
 use lib.Dec.{ltb}
 use lib.ListN.{getD}
 use Rattle.lists.specs.Lists.{rowAt}
+use Rattle.cells.specs.Cells.{compactHash, keyHash}
 use Rattle.constraints.specs.Constraints.{isLive}
 use Rattle.key_index.specs.declared.IndexShape.{IndexShape}
-use Rattle.key_index.specs.Slots.{LiveAt, keyAt, slots, word, home, KeysSound}
-use Rattle.key_index.specs.Laws.Lines.{Stored, lineHome}
-use Rattle.key_index.specs.Laws.Unrolled.{away, line}
-use Rattle.key_index.specs.inner.Index.{Fits}
+use Rattle.key_index.specs.Slots.{keyAt, slots, slotFrom, KeysSound}
+use Rattle.key_index.specs.inner.Ring.{spread, tagged}
+use Rattle.key_index.specs.inner.Index.{Leads, KeysDiffer}
 
--- ---- contracts
+-- ---- counts
 
 unfoldable pub isLiveRow : IndexShape → List ℕ → ℕ → Bool
 isLiveRow t rows i = isLive (rowAt (t .columns) i rows)
@@ -29,53 +28,32 @@ tally test (suc n) = cond (test n) (suc (tally test n)) (tally test n)
 abbrev pub liveCount : IndexShape → List ℕ → ℕ
 liveCount t rows = tally (isLiveRow t rows) (t .rows)
 
--- r is a free slot, or n if there is none
-pub record FreeIs (n : ℕ) (store : List ℕ) (r : ℕ) : Type 0 where
-  pub free : r < n → getD store r 0 ≡ 0
-  pub none : n ≤ r → (slot : ℕ) → slot < n → getD store slot 0 ≡ 0 → ⊥
+-- how many of the first n slots are taken
+unfoldable pub isTaken : List ℕ → ℕ → Bool
+isTaken store slot = ltb 0 (getD store slot 0)
 
--- the row number that a word encodes
-abbrev pub named : ℕ → ℕ
-named w = w % 2 ^ 17 - 1
+abbrev pub takenCount : List ℕ → ℕ → ℕ
+takenCount store n = tally (isTaken store) n
 
--- the word in slot `at` is that of a live row whose home is fewer than `run` slots before `at`
-pub record Reachable (t : IndexShape) (rows : List ℕ) (w at run : ℕ) : Type 0 where
-  pub number : 0 < w % 2 ^ 17
-  pub live : LiveAt t rows (named w)
-  pub word-is : w ≡ word (keyAt t rows (named w)) (named w)
-  pub near : away (slots t) (home (slots t) (keyAt t rows (named w))) at < run
+-- ---- rows that are reached
 
-pub record ReachableIs (t : IndexShape) (rows : List ℕ) (w at run : ℕ) (r : Bool) : Type 0 where
-  pub yes : r ≡ true → Reachable t rows w at run
-  pub no : r ≡ false → Reachable t rows w at run → ⊥
+-- the slot d after the hash's home has the row's word, and no slot before it is free or leads to a row with the key
+pub record ReachedAt (t : IndexShape) (rows store key : List ℕ) (hash row d : ℕ) : Type 0 where
+  pub below : d < slots t
+  pub there : getD store (slotFrom (slots t) (spread (slots t) hash) d) 0 ≡ tagged hash row
+  pub taken : (e : ℕ) → e < d → getD store (slotFrom (slots t) (spread (slots t) hash) e) 0 ≡ 0 → ⊥
+  pub others : (e : ℕ) → e < d → (i : ℕ) → Leads t rows key hash (getD store (slotFrom (slots t) (spread (slots t) hash) e) 0) i → ⊥
 
--- the scan starts at a free slot, with the number of live rows
-pub record RoundFits (t : IndexShape) (rows store : List ℕ) (z live : ℕ) : Type 0 where
-  pub fits : Fits t rows store
-  pub slot : z < slots t
-  pub free : getD store z 0 ≡ 0
-  pub count : live ≡ liveCount t rows
+abbrev pub Reached : IndexShape → List ℕ → List ℕ → List ℕ → ℕ → ℕ → Type 0
+Reached t rows store key hash row = (d : ℕ) × ReachedAt t rows store key hash row d
 
--- The first p positions of a line; the other positions are not scanned yet. Each taken position has a word that must be held, at
--- or after its home, and no position from its home to it is free.
-pub record Front (homeOf : ℕ → ℕ) (Held : ℕ → Type 0) (l : ℕ → ℕ) (p : ℕ) : Type 0 where
-  pub only : (q : ℕ) → q < p → 0 < l q → Held (l q)
-  pub after : (q : ℕ) → q < p → 0 < l q → homeOf (l q) ≤ q
-  pub way : (q : ℕ) → q < p → 0 < l q → (e : ℕ) → homeOf (l q) ≤ e → e ≤ q → 0 < l e
+-- a row is reached from the home of its own key
+abbrev pub Own : IndexShape → List ℕ → List ℕ → ℕ → Type 0
+Own t rows store row = Reached t rows store (keyAt t rows row) (compactHash (keyHash (keyAt t rows row))) row
 
--- how many of the first p positions of a line are taken
-abbrev pub takenCount : (ℕ → ℕ) → ℕ → ℕ
-takenCount l p = tally (λ q. ltb 0 (l q)) p
+-- ---- the whole store
 
--- each taken slot has the word of a live row that can be reached from its home, and taken slots and live rows are equally many
-pub record SlotsSound (t : IndexShape) (rows store : List ℕ) : Type 0 where
-  pub start : ℕ
-  pub slot : start < slots t
-  pub free : getD store start 0 ≡ 0
-  pub front : Front (lineHome t rows start) (Stored t rows) (line (slots t) start store) (slots t)
-  pub count : takenCount (line (slots t) start store) (slots t) ≡ liveCount t rows
-
--- a store that passes has sound slots, and a sound store passes
-pub record SlotsChecked (t : IndexShape) (rows store : List ℕ) (r : Bool) : Type 0 where
-  pub yes : r ≡ true → SlotsSound t rows store
-  pub no : r ≡ false → KeysSound t rows store → ⊥
+-- the part of soundness that concerns the key store
+pub record KeyStoreSound (t : IndexShape) (rows store : List ℕ) : Type 0 where
+  pub keys-sound : KeysSound t rows store
+  pub keys-differ : KeysDiffer t rows

@@ -1,8 +1,8 @@
--- Laws of the soundness check: its parts imply soundness, rows found by their keys have different keys, and the words of the
--- pending store determine its records. Assumes nothing.
+-- Laws of the soundness check: its parts imply soundness, and the words of the pending store determine its records. Assumes
+-- nothing.
 use Prim.Native.Nat.{ℕ, suc, _+_, _≤_, _<_}
-use mathlib.Core.Path.{_≡_, refl, sym, ap, ap₂, subst, _∙_}
-use mathlib.Core.Bool.{true, false, not, false≢true, true≢false}
+use mathlib.Core.Path.{_≡_, refl, sym, ap, ap₂, _∙_}
+use mathlib.Core.Bool.{false, not}
 use mathlib.Core.List.{List, [], _∷_, _++_}
 use native.Mathlib.Nat.{mul-le-mul-right}
 use native.Mathlib.Decide.{ℕ-discrete}
@@ -10,20 +10,13 @@ use native.Mathlib.Omega.{arith}
 use lib.Dec.{eqb}
 use lib.ListN.{length, take, drop, getD, length-take, length-drop}
 use lib.Seq.{take-take, take-add, take-at, drop-at, drop-drop, getD-take}
-use borrow.Author.Tests.{eqb-true, eqb-false, eq-eqb, ne-eqb, not-true}
-use Rattle.lists.specs.Lists.{all, rowAt, flatten}
+use borrow.Author.Tests.{eq-eqb, ne-eqb, not-true}
+use Rattle.lists.specs.Lists.{all, flatten}
 use Rattle.lists.specs.Laws.Parts.{take-drop}
 use Rattle.lists.specs.Laws.All.{all-head, all-tail, all-cons}
 use Rattle.cells.specs.Cells.{compactHash, keyHash}
-use Rattle.constraints.specs.Constraints.{isLive}
-use Rattle.key_index.specs.declared.IndexShape.{IndexShape}
-use Rattle.key_index.specs.declared.Found.the-variants.{None, At}
-use Rattle.key_index.specs.Slots.{LiveAt, keyAt, slots, slotFrom, KeysSound}
-use Rattle.key_index.specs.inner.Index.{Fits, FirstHit, FoundIs, KeysDiffer}
-use Rattle.key_index.specs.Laws.Ring.{word-tagged, slot-below}
-use Rattle.key_index.specs.Laws.Index.{first-one}
-use Rattle.key_check.specs.inner.Check.{SlotsSound}
-use Rattle.key_check.specs.Laws.Check.{found-sound}
+use Rattle.key_index.specs.inner.Index.{Fits}
+use Rattle.key_check.specs.inner.Check.{KeyStoreSound}
 use Rattle.sort_entries.specs.inner.Search.{EntriesFit}
 use Rattle.sort_entries.specs.inner.Checks.{Cells}
 use Rattle.plain_table.specs.Staged.{Opening, Staged, insert, removeKey, removeRow, wordsOf, wordsAll}
@@ -33,7 +26,7 @@ use Rattle.table.specs.Numbers.{openingOf}
 use Rattle.table.specs.Refusing.{soundRefusal}
 use Rattle.table.specs.Stores.{recordWords}
 use Rattle.table.specs.Sound.{indexShapeOf, Sound}
-use Rattle.table_check.specs.inner.Checks.{RowsSound, KeyStoreSound, Own, OwnIs, PendingIn, kindWords, keyPlace, keyWords, Begins, HoldsFrom, Pending}
+use Rattle.table_check.specs.inner.Checks.{RowsSound, PendingIn, kindWords, keyPlace, keyWords, Begins, HoldsFrom, Pending}
 use Rattle.table.specs.Laws.Refusals.{Tested, sound-tested, inside-fits}
 use Rattle.table.specs.Laws.Pending.{length-recordWords}
 
@@ -100,43 +93,6 @@ module _ (h : Header) (rows keys sorts pending : List ℕ) (staged : List Staged
 
   pub sound-whole : Sound h rows keys sorts pending staged → Pending h pending staged
   sound-whole s = record { pending-counted = s .contents .pending-counted; pending-whole = s .contents .pending-whole }
-
--- ---- keys
-
-module _ (t : IndexShape) (rows keys : List ℕ) where
-  -- rows that are found by their keys have different keys
-  pub own-differ : ((i : ℕ) → LiveAt t rows i → Own t rows keys i) → KeysDiffer t rows
-  own-differ own i j a b e =
-      let f = own i a in
-      let g = own j b in
-      first-one t rows keys (keyAt t rows j) (compactHash (keyHash (keyAt t rows j))) i j (f .0) (g .0) (rw e at (f .1)) (g .1)
-
-  -- each of them has a slot, so sound slots are a sound key store
-  pub own-sound : Fits t rows keys → SlotsSound t rows keys → ((i : ℕ) → LiveAt t rows i → Own t rows keys i) → KeysSound t rows keys
-  own-sound fits s own =
-      found-sound t rows keys fits s (λ row live.
-      let o = own row live in
-      (slotFrom (slots t) _ (o .0), slot-below (slots t) _ (o .0) (omega (arith, fits .some)), o .1 .leads .tag ∙ word-tagged _ row _ refl))
-
-  module _ (row : ℕ) where
-    -- a dead row
-    pub own-dead : isLive (rowAt (t .columns) row rows) ≡ false → OwnIs t rows keys row true
-    own-dead e = record { yes = λ _ l. absurd (false≢true (sym e ∙ l .1)); no = λ q. absurd (true≢false q) }
-
-    module _ (live : LiveAt t rows row) where
-      -- a live row that is not found; a sound store excludes this case
-      pub own-none : FoundIs t rows keys (keyAt t rows row) (compactHash (keyHash (keyAt t rows row))) None → OwnIs t rows keys row false
-      own-none f = record { yes = λ q. absurd (false≢true q); no = λ _ sound _. f .none refl sound refl row live refl }
-
-      -- a row is found: itself, or another with the same key
-      pub own-at : (i slot : ℕ) → FoundIs t rows keys (keyAt t rows row) (compactHash (keyHash (keyAt t rows row))) (At i slot) → OwnIs t rows keys row (eqb i row)
-      own-at i slot f =
-          record {
-            yes = λ q _.
-                let g = f .first i slot refl in
-                (g .0, subst (λ (k : ℕ). FirstHit t rows keys (keyAt t rows row) (compactHash (keyHash (keyAt t rows row))) k (g .0)) (eqb-true i row q) (g .1));
-            no = λ q sound differ. let g = f .at refl sound i slot refl in eqb-false i row q (differ i row (g .live) live (g .key-is));
-          }
 
 -- ---- one pending record
 

@@ -6,11 +6,8 @@ use mathlib.Core.List.{List, map}
 use lib.Dec.{eqb}
 use lib.ListN.{length, take, drop, getD}
 use Rattle.lists.specs.Lists.{count, all, rowAt, rowsOf, flatten}
-use Rattle.cells.specs.Cells.{compactHash, keyHash}
 use Rattle.constraints.specs.Constraints.{isLive}
-use Rattle.key_index.specs.declared.IndexShape.{IndexShape}
-use Rattle.key_index.specs.Slots.{LiveAt, keyAt, KeysSound}
-use Rattle.key_index.specs.inner.Index.{FirstHit, KeysDiffer}
+use Rattle.key_index.specs.Slots.{LiveAt}
 use Rattle.sort_entries.specs.Entries.{entriesOf, entriesSound, valueAt}
 use Rattle.sort_entries.specs.Laws.Push.{lastPasses}
 use Rattle.plain_table.specs.Staged.{Opening, Staged, wordsOf, wordsAll}
@@ -37,27 +34,6 @@ pub record RowsSound (h : Header) (rows sorts : List ℕ) : Type 0 where
   pub sorted : (i : ℕ) → LiveAt (indexShapeOf h) rows i
       → getD (rowAt (h .columns) i rows) (h .sort) 0 ≡ valueAt i (entriesOf (h .entries) sorts)
   pub largest-kept : all (λ e. atMost (e .value) (largestView (h .largest))) (entriesOf (h .entries) sorts) ≡ true
-
--- ---- keys
-
--- the part of soundness that concerns the key store
-pub record KeyStoreSound (t : IndexShape) (rows keys : List ℕ) : Type 0 where
-  pub keys-sound : KeysSound t rows keys
-  pub keys-differ : KeysDiffer t rows
-
--- the first slot found for a row's key is the row's own
-abbrev pub Own : IndexShape → List ℕ → List ℕ → ℕ → Type 0
-Own t rows keys row = (d : ℕ) × FirstHit t rows keys (keyAt t rows row) (compactHash (keyHash (keyAt t rows row))) row d
-
--- whether a row is dead or found by its key
-pub record OwnIs (t : IndexShape) (rows keys : List ℕ) (row : ℕ) (r : Bool) : Type 0 where
-  pub yes : r ≡ true → LiveAt t rows row → Own t rows keys row
-  pub no : r ≡ false → KeysSound t rows keys → KeysDiffer t rows → ⊥
-
--- whether each live row is found by its key
-pub record AllOwn (t : IndexShape) (rows keys : List ℕ) (r : Bool) : Type 0 where
-  pub yes : r ≡ true → (i : ℕ) → LiveAt t rows i → Own t rows keys i
-  pub no : r ≡ false → KeysSound t rows keys → KeysDiffer t rows → ⊥
 
 -- ---- pending records
 
