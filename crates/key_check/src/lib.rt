@@ -40,14 +40,7 @@ fn count_taken(n: u32, store: &[u32]) -> u32
 }
 
 // Whether a scan from the home slot reaches the row's own word before a free slot and before another row with the key.
-fn is_reached(
-    t: IndexShape,
-    rows: &[u32],
-    store: &[u32],
-    key: &[u32],
-    hash: u32,
-    row: u32,
-) -> bool
+fn is_reached(t: IndexShape, rows: &[u32], store: &[u32], key: &[u32], hash: u32, row: u32) -> bool
     requires { ⌜ (Fits t (now rows) (now store)) × (length (now key) ≡ t .keys) × (row < t .rows) ⌝ }
     ensures { λ r. ⌜ Decides (Reached t (now (rows .entry)) (now (store .entry)) (now (key .entry)) hash row) r ⌝ }
 {

@@ -35,27 +35,37 @@ const HASH_RANGE: u32 = 0x8000;
 // The most rows that a table has.
 pub const MOST_ROWS: u32 = 65536;
 
-// The size classes below the largest, which is `MOST_ROWS`.
-const SMALL_CLASS: u32 = 128;
+// The size classes below the largest, which is `MOST_ROWS`: each is four times the one before.
+const FIRST_CLASS: u32 = 128;
 
-const MEDIUM_CLASS: u32 = 1024;
+const SECOND_CLASS: u32 = 512;
 
-const LARGE_CLASS: u32 = 8192;
+const THIRD_CLASS: u32 = 2048;
+
+const FOURTH_CLASS: u32 = 8192;
+
+const FIFTH_CLASS: u32 = 32768;
 
 // The size class for this many rows, regardless of the capacity. The largest class is tested first.
 fn size_class(rows: u32) -> u32
     ensures { λ r. ⌜ r ≡ sizeClass rows ⌝ }
 {
-    if LARGE_CLASS < rows {
+    if FIFTH_CLASS < rows {
         return MOST_ROWS;
     }
-    if MEDIUM_CLASS < rows {
-        return LARGE_CLASS;
+    if FOURTH_CLASS < rows {
+        return FIFTH_CLASS;
     }
-    if SMALL_CLASS < rows {
-        return MEDIUM_CLASS;
+    if THIRD_CLASS < rows {
+        return FOURTH_CLASS;
     }
-    SMALL_CLASS
+    if SECOND_CLASS < rows {
+        return THIRD_CLASS;
+    }
+    if FIRST_CLASS < rows {
+        return SECOND_CLASS;
+    }
+    FIRST_CLASS
 }
 
 // The number of rows that the slots in use are sized for. There are two slots for each.

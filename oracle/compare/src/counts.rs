@@ -432,12 +432,10 @@ impl Counts {
                 true => Case::KeysPast128Known,
                 false => Case::KeysPast128New,
             }),
-            (Call::Merge, 1_024, 1_025) if slots(after) > slots(before) => {
-                self.case(match is_known {
-                    true => Case::KeysPast1024Known,
-                    false => Case::KeysPast1024New,
-                });
-            }
+            (Call::Merge, 512, 513) if slots(after) > slots(before) => self.case(match is_known {
+                true => Case::KeysPast512Known,
+                false => Case::KeysPast512New,
+            }),
             (Call::Merge | Call::Compact, ..) if slots(after) < slots(before) => {
                 self.case(Case::KeysFewerSlots);
             }

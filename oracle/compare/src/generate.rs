@@ -80,8 +80,8 @@ const CAPACITIES: [u32; 20] = [
     1, 2, 3, 4, 8, 16, 17, 18, 32, 33, 34, 40, 63, 64, 65, 100, 128, 129, 200, 400,
 ];
 
-/// The size classes of the key store: the most rows before it takes more slots.
-pub const SIZE_CLASSES: [u32; 2] = [128, 1_024];
+/// The first size classes of the key store: the most rows before it takes more slots.
+pub const SIZE_CLASSES: [u32; 2] = [128, 512];
 
 /// Numbers at the edges of what a cell holds.
 pub const EDGES: [u32; 8] = [

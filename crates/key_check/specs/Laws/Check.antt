@@ -136,8 +136,7 @@ module _ (t : IndexShape) (rows store : List ℕ) (f : Fits t rows store) where
     reachable : (row : ℕ) → LiveAt t rows row → (d : ℕ) × ReachableAt (slots t) store (keyAt t rows row) row d
     reachable row live =
         let o = own row live in
-        let e = home-spread (slots t) _ (keyAt t rows row) refl in
-        (
+        let e = home-spread (slots t) _ (keyAt t rows row) refl in (
           o .0,
           record {
             below = o .1 .below;
@@ -192,14 +191,13 @@ module _ (t : IndexShape) (rows store : List ℕ) (f : Fits t rows store) where
         other : (LiveAt t rows r → Has slot r → ⊥) → ⊥
         other none =
             not-spared slot h c (λ row live.
-            let p = slot-of row live in
-            (
+            let p = slot-of row live in (
               p .0,
               p .1,
               (λ q.
-              let e : Has slot row = rw q at (p .2) in
-              let z : r ≡ row = ap rowNamed e ∙ word-row (keyAt t rows row) row (omega (arith, live .0, f .count, f .most)) in
-              none (rw z live) (rw z e)),
+                  let e : Has slot row = rw q at (p .2) in
+                  let z : r ≡ row = ap rowNamed e ∙ word-row (keyAt t rows row) row (omega (arith, live .0, f .count, f .most)) in
+                  none (rw z live) (rw z e)),
               p .2,
             ))
 
@@ -261,8 +259,7 @@ module _ (t : IndexShape) (rows store : List ℕ) (f : Fits t rows store) where
 
       pub sound-own : Own t rows store row
       sound-own =
-          let p = k .leads row live in
-          (
+          let p = k .leads row live in (
             p .0,
             record {
               below = p .1 .below;

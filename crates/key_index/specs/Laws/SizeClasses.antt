@@ -1,24 +1,20 @@
 -- The slots in use suffice for the rows, and are inside the key store. Assumes nothing.
-use Rattle.key_index.specs.Laws.Prelude.{ℕ, _+_, _-_, _*_, _≤_, _≡_, sym, ap, _∙_, inl, inr, List, mul-le-mul-right, arith, leb, drop, drop-drop, leb-true, split, IndexShape, Fits}
+use Rattle.key_index.specs.Laws.Prelude.{ℕ, _+_, _-_, _*_, _≤_, _≡_, sym, ap, _∙_, inl, inr, List, mul-le-mul-right, arith, cond, leb, drop, drop-drop, leb-true, split, IndexShape, Fits}
 use Rattle.key_index.specs.Slots.{sizeClass, sizeClassFor}
 
 record Step (rows step : ℕ) : Type 0 where
   some : 1 ≤ step
   enough : rows ≤ 65536 → rows ≤ step
 
+step-or : (rows class larger : ℕ) → 1 ≤ class → Step rows larger → Step rows (cond (leb rows class) class larger)
+step-or rows class larger some s = elim (split (leb rows class)) [ inl e ↦ rw e (record { some = some; enough = λ _. leb-true rows class e }) | inr e ↦ rw e s ]
+
 step-is : (rows : ℕ) → Step rows (sizeClass rows)
 unfolding sizeClass
 step-is rows =
-    elim (split (leb rows 128)) [
-      | inl a ↦ rw a (record { some = omega arith; enough = λ _. leb-true rows 128 a })
-      | inr a ↦ rw a (elim (split (leb rows 1024)) [
-        | inl b ↦ rw b (record { some = omega arith; enough = λ _. leb-true rows 1024 b })
-        | inr b ↦ rw b (elim (split (leb rows 8192)) [
-          | inl c ↦ rw c (record { some = omega arith; enough = λ _. leb-true rows 8192 c })
-          | inr c ↦ rw c (record { some = omega arith; enough = λ e. e })
-        ])
-      ])
-    ]
+    let largest : Step rows 65536 = record { some = omega arith; enough = λ e. e } in
+    step-or rows 128 _ (omega arith)
+    (step-or rows 512 _ (omega arith) (step-or rows 2048 _ (omega arith) (step-or rows 8192 _ (omega arith) (step-or rows 32768 _ (omega arith) largest))))
 
 module _ (capacity rows : ℕ) where
   pub sizeClass-most : sizeClassFor capacity rows ≤ capacity
