@@ -25,7 +25,8 @@
  *
  * REFUSALS. A function returns 0 if the call is accepted, else the number of the refusal: the first that
  * applies, in the order listed with the function. A refused call has changed nothing: no header, no
- * store, no output, no answer. mouldgrey_refusal_text gives a sentence for each number.
+ * store, no output, no answer. mouldgrey_refusal_text gives a sentence for each number. In the lists below,
+ * 1 alone means a header number out of bounds, and 2 alone a store that is too short.
  *
  * SAFETY. Every call ends and does nothing undefined, whatever numbers the header and the stores hold:
  * no check is needed before a call, not even of a header or of stores that come from elsewhere. The
@@ -38,8 +39,9 @@
  *     a length (to a struct or a single answer) is valid, aligned and not null.
  *   - An answer does not overlap an argument.
  *   - Stores that are passed to one call do not overlap if one of them may be written (no const).
- *   - Nobody writes a store while a call reads or writes it. Calls whose stores are all const may run
- *     concurrently on one table.
+ *   - While a call writes a header, a store or an output, no other thread reads or writes it. Calls that
+ *     take the header and all stores as const may run concurrently on one table, each with its own outputs.
+ *   - The thread has enough stack: about 600 KiB for mouldgrey_check_image and mouldgrey_read_image.
  *
  * HOW TO SAVE AND LOAD. Save an IMAGE of the table: mouldgrey_write_image writes header, rows, sort entries
  * and staged records as one array of 32-bit words, with a text of your own and a checksum. The array is
@@ -124,7 +126,7 @@ uint32_t mouldgrey_library_version(void);
 /* A text has more than 4096 bytes. */
 #define MOULDGREY_TEXT_TOO_LONG 21
 
-/* A sentence in English for a number above, without a newline; "unknown refusal" for any other number. */
+/* A sentence in English for a number above, without a newline; "unknown refusal" for any other number. The string is static. */
 const char *mouldgrey_refusal_text(uint32_t number);
 
 /* --------------------------------------------------------------------------------------- limits -- */
@@ -423,7 +425,8 @@ uint32_t mouldgrey_compact(struct mouldgrey_header *header, uint32_t *rows, size
                            uint64_t *live, size_t live_len, uint32_t *base, size_t base_len);
 
 /*
- * Drops what is staged. If there are rows, drops them all, and the generation rises by one.
+ * Drops what is staged. If there are rows, live or dead, drops them all, forgets the largest sort value, and
+ * raises the generation by one. Without rows the generation and the largest sort value stay.
  *
  * Writes header, and words among the first 2 * capacity of keys.
  * Refuses: 1; 2, keys is too short; 10, if there are rows.
@@ -537,8 +540,8 @@ uint32_t mouldgrey_table_version(const struct mouldgrey_header *header,
  *
  * If the call is accepted, each row below version->rows has the cells that it had when the version was
  * noted, or is dead; and the live rows are the noted ones that are still live, together with the live
- * rows of the range. This holds from one opening to the next: after the table was opened anew, a note of
- * the old one may be accepted and means nothing.
+ * rows of the range. This holds from one opening to the next: after the table was opened anew, or an older
+ * image of it was loaded, a note taken before may be accepted and means nothing.
  *
  * Writes range; found is 1.
  * Refuses: 1; 18, another generation, or more rows than the table has.
@@ -548,8 +551,8 @@ uint32_t mouldgrey_rows_since_version(const struct mouldgrey_header *header,
                                       struct mouldgrey_range *range);
 
 /*
- * Before comes first. Each live row with a pair's first value in a key column needs a live row with the
- * pair's second value in that column, the same other key cells, and a sort cell no larger. A row that
+ * Checks that each row of one kind has an earlier row of another kind: each live row with a pair's first
+ * value in a key column needs a live row with the pair's second value in that column, the same other key cells, and a sort cell no larger. A row that
  * several pairs name must meet them all; a pair of two equal values is met by the row itself.
  *
  * pairs: two words for each of 1 to 16 pairs, the first value and the second.
@@ -646,7 +649,7 @@ uint32_t mouldgrey_intersect(const struct mouldgrey_subset *first, const uint32_
 uint32_t mouldgrey_intersect_ranges(uint32_t start, uint32_t end, uint32_t other_start,
                                     uint32_t other_end, struct mouldgrey_subset *subset);
 
-/* ------------------------------------------------------------------------- column order, for a vault */
+/* --------------------------------------------------------------------------------- column order -- */
 
 /*
  * Rearranges rows: all cells of the first column, then the second, and so on, each cell but a column's
@@ -783,7 +786,7 @@ uint32_t mouldgrey_from_numbered(const uint8_t *text, size_t text_len, uint8_t *
                                  size_t output_len, uint64_t *length);
 
 /*
- * Checks a laboratory's answers: whether the numbers given are, rising and each once, those of the rows
+ * Checks row numbers from another program: whether the numbers given are, rising and each once, those of the rows
  * of a listing in the new form that meet all conditions of a list. A number without a row in the listing
  * is wrongly present.
  *

@@ -17,8 +17,8 @@ the environment variable MOULDGREY_LIBRARIES names, then in target/lib of the re
     >>> Table.load(data).get_cell([7, 1], 2)
     160
 
-A refused call raises Refused and has changed nothing. A merge that stops raises Stopped. A table is not safe to change from two
-threads at a time. A negative level goes in as `level & 0xFFFFFFFF`.
+A refused call raises Refused and has changed nothing. "Refused by 7" means refusal number 7; docs/GUIDE.md, "Refusals", lists all
+numbers. A merge that stops raises Stopped. Do not use a table in one thread while another thread changes it. A negative level goes in as `level & 0xFFFFFFFF`.
 """
 
 import ctypes
@@ -194,7 +194,7 @@ def refusal_text(number):
 
 
 class Refused(Exception):
-    """A call was refused, and has changed nothing. `number` is the paper's."""
+    """A call was refused, and has changed nothing. `number` is the number of the refusal."""
 
     def __init__(self, number):
         super().__init__(number)
@@ -433,15 +433,16 @@ class Table:
         return None if row.cells[0] == DEAD else row
 
     def stores(self):
-        """Header and stores as bytes, as docs/FORMAT.md describes them, one after another. They have no checksum; the bytes that
-        save() gives have one."""
+        """Header and stores as bytes: 12 header words, capacity * columns words of rows, 2 * capacity of keys, 2 * capacity of sorts,
+        and the pending words in use. They have no checksum; the bytes that save() gives have one."""
         return b"".join(bytes(part) for part in (self.header, self._rows, self._keys, self._sorts)) + bytes(
             self._pending
         )[: 4 * self.header.pending]
 
     @classmethod
     def from_stores(cls, data, pending_words=65536):
-        """The table whose bytes stores() gave. Raises ValueError if they are no sound table."""
+        """The table whose bytes stores() gave. Raises Refused (1) if a header word is out of bounds, and ValueError if bytes are missing
+        or left over or the table is not sound."""
         header = Header.from_buffer_copy(data)
         _check(_table_version(byref(header), byref(_Version())))
         table = cls(
@@ -559,7 +560,8 @@ class Table:
         )
 
     def clear(self):
-        """Drops what is staged, and all rows. Refused by 10, if there are rows."""
+        """Drops what is staged. If there are rows, drops them all, forgets the largest sort value, and raises the generation by one.
+        Refused by 10, if there are rows."""
         _check(_clear(byref(self.header), *_store(self._keys)))
 
     def refresh(self, index, columns, values, stamp):
@@ -833,7 +835,7 @@ def from_numbered(text):
 
 
 def check_answers(text, conditions, given):
-    """Checks the row numbers that a laboratory gives for the rows of a listing in the new form that meet all conditions. Refused by
+    """Checks the row numbers that another program has found for the rows of a listing in the new form that meet all conditions. Refused by
     11 and 6."""
     verdict = _Verdict()
     _check(_check_answers(*_bytes(text), *_conditions(conditions), *_words(given), byref(verdict)))

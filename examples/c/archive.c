@@ -93,7 +93,7 @@ int main(void) {
     print_common();
     print_soundness(&t);
 
-    /* An old stamp stops a merge; the table stays as it was. */
+    /* An old stamp stops a merge. What the batch did before would stay; here there is nothing. */
     check("insert", insert(&t, 8, 1, 150, 11));
     merge(&t);
 

@@ -1,4 +1,5 @@
-/* A full table grows: a second one with a larger capacity gets every live row, in order. */
+/* Copies the live rows of a full table into a new, larger one. Row numbers and the largest sort value are not kept, so the new table
+ * gets a generation that the old one never had. To grow a table and keep them, use an image: see image.c. */
 #include "table.h"
 
 static void move_rows(const struct table *from, struct table *to) {
@@ -23,6 +24,7 @@ int main(void) {
     printf("insert %u: %s\n", (unsigned)merged.place, mouldgrey_refusal_text(merged.status));
 
     opening.capacity = 4;
+    opening.generation = small.header.generation + 1;
     table_open(&large, opening, 64);
     move_rows(&small, &large);
     table_insert(&large, rows[2]);

@@ -86,7 +86,7 @@ fn main() -> Result<(), Box<dyn std::error::Error>> {
     println!("{{1, 3, 5, 8}} with 3..8: {}", common.join(" "));
     println!("sound: {}", if table.is_sound()? { "yes" } else { "no" });
 
-    // An old stamp stops a merge; the table stays as it was.
+    // An old stamp stops a merge. What the batch did before would stay; here there is nothing.
     table.stage_insert(&[8, 1, 150, 11])?;
     merge(&mut table)?;
 

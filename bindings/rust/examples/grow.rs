@@ -1,4 +1,5 @@
-//! A full table grows: a second one with a larger capacity gets every live row, in order.
+//! Copies the live rows of a full table into a new, larger one. Row numbers and the largest sort value are not kept, so the new table
+//! gets a generation that the old one never had. To grow a table and keep them, use an image: see image.rs.
 
 use mouldgrey::{Error, Opening, Rule, Table, refusal_text};
 
@@ -26,6 +27,7 @@ fn main() -> Result<(), Error> {
     let mut large = Table::new(
         &Opening {
             capacity: 4,
+            generation: small.version().generation + 1,
             ..opening
         },
         64,

@@ -1,4 +1,4 @@
-//! A table for archives: rows of u32 cells, found by key and recorded in the order of a sort column. The library is written in
+//! A table of u32 cells: rows are found by key and appended in the order of a sort column. The library is written in
 //! Rattle, a language in which every function is proved to meet its contract; this crate calls its C functions and depends on
 //! nothing else.
 //!
@@ -8,14 +8,15 @@
 //!   such bytes, and [`image_text`] reads the text in them. The program `mouldgrey` of this crate works on such files.
 //! - [`lent`] has the same calls over stores that the caller keeps, such as those of a mapped file.
 //! - [`Table::replay`] makes a list of calls, [`Table::run_queries`] a list of queries, each in one call of the library.
-//! - [`to_columns`] and [`from_columns`] put rows into column order, for a vault, and back.
+//! - [`to_columns`] and [`from_columns`] put rows into column order, which compresses well, and back.
 //! - [`Table::listing`] writes a listing as text; [`read_listing`] and [`read_numbered`] read one; [`to_numbered`] and
-//!   [`from_numbered`] convert between the forms; [`check_answers`] checks a laboratory's answers about a listing.
+//!   [`from_numbered`] convert between the forms; [`check_answers`] checks row numbers that another
+//!   program has found in a listing.
 //! - [`ShortHistories`] gives every sequence of at most six steps, in order.
 //! - [`raw`] has the C functions themselves.
 //!
-//! A call that is refused returns a [`Refusal`] with the paper's number, and has changed nothing. A merge that stops returns
-//! [`Error::Stopped`].
+//! A call that is refused returns a [`Refusal`] and has changed nothing. "Refused by 7" means refusal number 7; docs/GUIDE.md,
+//! "Refusals", lists all numbers. A merge that stops returns [`Error::Stopped`].
 //!
 //! The library libmouldgrey.a is looked for in target/lib of the repository, where `make` leaves it, or in the folder that the
 //! environment variable MOULDGREY_LIBRARIES names. `cargo check` and `cargo doc` work without it.

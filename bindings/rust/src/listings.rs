@@ -1,4 +1,4 @@
-//! Listings as text, over outputs that are long enough, and a laboratory's answers about them.
+//! Listings as text, over outputs that are long enough, and checks of row numbers in them.
 
 use crate::{Condition, Refusal, lent};
 
@@ -28,7 +28,7 @@ pub struct Listing {
     pub rows: Vec<(u32, Vec<u32>)>,
 }
 
-/// The result of a check of the row numbers that a laboratory gives.
+/// The result of a check of row numbers from another program.
 #[derive(Clone, Copy, Debug, PartialEq, Eq, Hash)]
 pub enum Verdict {
     /// They are, rising and each once, those of the rows that meet every condition.
@@ -97,7 +97,7 @@ pub fn from_numbered(text: &[u8]) -> Result<Vec<u8>, Refusal> {
     Ok(output)
 }
 
-/// Tests the row numbers that a laboratory gives for the rows of a listing in the new form that meet every condition; no condition
+/// Checks the row numbers that another program has found for the rows of a listing in the new form that meet every condition; no condition
 /// is met by every row. Refused by 11 and 6.
 ///
 /// ```

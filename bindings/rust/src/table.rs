@@ -90,7 +90,7 @@ pub struct Queried {
 ///     println!("{}: {:?}", row.id, row.cells);
 /// }
 ///
-/// // A stamp below the largest one appended stops a merge, which is an error; the table stays as it was.
+/// // A stamp below the largest one appended stops a merge, which is an error. Earlier inserts of the batch would stay.
 /// table.stage_insert(&[8, 1, 150, 11])?;
 /// assert_eq!(table.merge().unwrap_err().to_string(), "stopped 9 at insert 0: a sort value below the largest one appended");
 ///
@@ -490,7 +490,8 @@ impl Table {
         )
     }
 
-    /// Drops what is staged. If there are rows, drops them all, and the generation rises by one. Refused by 10, if there are rows.
+    /// Drops what is staged. If there are rows, live or dead, drops them all, forgets the largest sort value, and raises the generation
+    /// by one. Without rows the generation and the largest sort value stay. Refused by 10, if there are rows.
     ///
     /// ```
     /// # use mouldgrey::{Opening, Rule, Table};
@@ -671,8 +672,8 @@ impl Table {
 
     /// The rows since a version that this table had. Refused by 18, another generation or more rows than there are. If accepted,
     /// each row below the noted row count has the cells it had or is dead, and the live rows are those noted and still live
-    /// together with the live rows of the answer. A version that another table had, or this one before it was opened anew, may be
-    /// accepted and means nothing.
+    /// together with the live rows of the answer. A version that another table had, or this one before it was opened anew or loaded
+    /// from an older image, may be accepted and means nothing.
     ///
     /// ```
     /// # use mouldgrey::{Opening, Refusal, Rule, Subset, Table};
@@ -694,7 +695,7 @@ impl Table {
         Ok(Subset::Range(start, end))
     }
 
-    /// Checks that what comes before is on file: a live row with a pair's first value in this key column needs a live row with the
+    /// Checks that each row of one kind has an earlier row of another kind: a live row with a pair's first value in this key column needs a live row with the
     /// second value there, the same other key cells and a sort cell no larger. Returns the lowest row that fails and the place of
     /// the first pair that it fails; none if every row meets its pairs. Refused by 6, a column that is no key column, and 14, a
     /// number of pairs outside 1 to 16. Only live rows count: a row that is corrected under a later stamp makes rows fail that met

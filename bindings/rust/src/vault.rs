@@ -1,4 +1,4 @@
-//! Column order for the vault, over outputs of the right length.
+//! Column order, over outputs of the right length.
 
 use crate::{Refusal, lent};
 
