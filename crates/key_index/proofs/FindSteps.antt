@@ -1,8 +1,9 @@
 -- The answers of `find` and `look_up`, one law for each return path: at a free slot, after a full round, and at a slot that leads
 -- to the row; and how `look_up` reaches a slot. Assumes nothing.
-use Rattle.key_index.proofs.Prelude.{ℕ, _+_, _/_, _%_, _^_, _≤_, _<_, _≡_, sym, ap, _∙_, List, add-zero, arith, getD, decLt, ℕ-discrete, IndexShape, None, At, LiveAt, keyAt, slots, word, home, slotFrom, ReachableAt, KeysSound, spread, home-spread, word-tagged, word-some, word-same, tagged-row, tagged-bits, Leads, FoundAt, FoundIs, Ahead}
+use Rattle.key_index.proofs.Prelude.{ℕ, _+_, _/_, _%_, _^_, _≤_, _<_, _≡_, sym, ap, _∙_, List, add-zero, arith, getD, decLt, ℕ-discrete, IndexShape, None, At, LiveAt, keyAt, slots, word, home, slotFrom, ReachableAt, KeysSound, spread, home-spread, word-tagged, word-some, word-same, tagged-row, Leads, FoundAt, FoundIs, Ahead}
 use Rattle.cells.specs.Cells.{compactHash, keyHash}
 use Rattle.key_index.proofs.ScanSteps.{ScannedSlots, begin-past}
+use Rattle.key_index.proofs.WordSteps.{leads-bits}
 
 -- a lookup passes a slot that leads to no row with the key
 pub record Past (t : IndexShape) (rows key : List ℕ) (hash w : ℕ) : Type 0 where
@@ -70,7 +71,7 @@ module _ (t : IndexShape) (rows store key : List ℕ) (hash : ℕ) (few : t .row
             other = λ i l.
                 elim (ℕ-discrete k 0) [
                   | yes q ↦ no-row i (rw (q, add-zero start) at l)
-                  | no q ↦ a .others k (omega arith) h (ap (λ (w : ℕ). w / 2 ^ 17) (l .tag) ∙ tagged-bits hash i (omega (arith, l .below)))
+                  | no q ↦ a .others k (omega arith) h (leads-bits t rows key hash _ i few l)
                 ];
           }
 

@@ -21,13 +21,13 @@ named t rows w f e =
     let i = row-inside t rows (w % 2 ^ 17 - 1) f r in
     record { some = n .0; row = r; inside = i .in-store; small = i .small }
 
+-- a word that leads to a row has the hash's bits
+pub leads-bits : (t : IndexShape) (rows key : List ℕ) (hash w i : ℕ) → t .rows ≤ 65536 → Leads t rows key hash w i → w / 2 ^ 17 ≡ hash % 2 ^ 15
+leads-bits t rows key hash w i few l = ap (λ (x : ℕ). x / 2 ^ 17) (l .tag) ∙ tagged-bits hash i (omega (arith, l .below))
+
 module _ (t : IndexShape) (rows key : List ℕ) (hash w row : ℕ) (few : t .rows ≤ 65536) where
   pub hit-bits : (w / 2 ^ 17 ≡ hash % 2 ^ 15 → ⊥) → HitIs t rows key hash w row false
-  hit-bits ne =
-      record {
-        yes = λ e. absurd (false≢true e);
-        no = λ _ i l. ne (ap (λ (x : ℕ). x / 2 ^ 17) (l .tag) ∙ tagged-bits hash i (omega (arith, l .below)));
-      }
+  hit-bits ne = record { yes = λ e. absurd (false≢true e); no = λ _ i l. ne (leads-bits t rows key hash w i few l) }
 
   -- the word determines its row
   the-row : (i : ℕ) → Leads t rows key hash w i → w % 2 ^ 17 ≡ i + 1

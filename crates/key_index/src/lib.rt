@@ -2,9 +2,9 @@
 // specs/Slots.antt defines their number and contents. The table checks header and stores before it calls. Safety does not depend on
 // the contents of a store: a row number is validated before its cells are read, and every scan ends after one round.
 ghost use mathlib.Core.Path.{_≡_};
-ghost use Prim.Native.Nat.{ℕ, _+_, _-_, _%_, _^_, _≤_, _<_};
+ghost use Prim.Native.Nat.{ℕ, _+_, _-_, _/_, _%_, _^_, _≤_, _<_};
 ghost use mathlib.Core.Bool.{true};
-ghost use lib.ListN.{length, set};
+ghost use lib.ListN.{length, getD, set};
 ghost use Rattle.cells.specs.Cells.{compactHash, keyHash};
 ghost use Rattle.key_index.specs.Slots.{keyAt, sizeClass, sizeClassFor, slots, slotFrom};
 ghost use Rattle.key_index.specs.inner.Ring.{spread, tagged, namesRow};
@@ -219,6 +219,32 @@ fn is_missing(slots: u32, store: &[u32], home: u32, hash: u32) -> bool
         return true;
     }
     store[at] == 0
+}
+
+// Whether neither the home slot nor any slot after it, up to a free one, has the hash's bits. Decided from the home and the window
+// after it. False if they do not decide it.
+fn is_absent(slots: u32, store: &[u32], home: u32, hash: u32) -> bool
+    requires { ⌜ (home < slots) × (slots ≤ length (now store)) ⌝ }
+    ensures { λ r. ⌜ (r ≡ true → (getD (now (store .entry)) home 0 / 2 ^ 17 ≡ hash % 2 ^ 15 → ⊥) × ((d : ℕ) × FreeSoon slots (now (store .entry)) home hash d)) ⌝ }
+{
+    if store[home as usize] / ROW_RANGE == hash % HASH_RANGE {
+        return false;
+    }
+    is_missing(slots, store, home, hash)
+}
+
+// Same contract as `find`, but faster for a key that has no row: a window detects most of them. Removals use it, where a row found
+// costs more than its lookup. It is short enough to be inlined beside the one call of `look_up`.
+pub fn find_windowed(t: IndexShape, rows: &[u32], store: &[u32], key: &[u32], hash: u32) -> Found
+    requires { ⌜ (Fits t (now rows) (now store)) × (length (now key) ≡ t .keys) ⌝ }
+    ensures { λ r. ⌜ FoundIs t (now (rows .entry)) (now (store .entry)) (now (key .entry)) hash r ⌝ }
+{
+    let slots = 2 * t.room;
+    let home = home_slot(slots, hash);
+    if is_absent(slots, store, home, hash) {
+        return Found::None;
+    }
+    find(t, rows, store, key, hash)
 }
 
 // The number of slots that a scan without branches tests.

@@ -49,7 +49,7 @@ fn remove_one(
     ensures { λ r. ⌜ Removal h (now (rows .entry)) (now (keys .entry)) (removalOf kind row (now (key .entry))) hash r (now (rows .exit)) (now (keys .exit)) ⌝ }
 {
     let t = index_shape(h);
-    let found = key_index::find(t, rows, keys, key, hash);
+    let found = key_index::find_windowed(t, rows, keys, key, hash);
     match found {
         Found::None => false,
         Found::At(at, slot) => {

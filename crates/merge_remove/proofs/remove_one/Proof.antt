@@ -4,28 +4,28 @@ use Rattle.merge_remove.proofs.RemovalSteps.{find-fits, kill-fits, abse
 use Rattle.merge_remove.proofs.remove_one.Statement.{statement}
 use Rattle.merge_remove.proofs.remove_one.Tie as tie
 
-find-requires : tie.Need-find-requires
-find-requires c κs = find-fits (c .before .before .before .before .before .before .args .h) (c .before .before .index-shape .ensures) (c .before .before .before .before .before .before .pre)
+find-windowed-requires : tie.Need-find-windowed-requires
+find-windowed-requires c κs = find-fits (c .before .before .before .before .before .before .args .h) (c .before .before .index-shape .ensures) (c .before .before .before .before .before .before .pre)
 
 returns : tie.Need-returns
 returns c =
     let f = c .before .before .before .before .before in
-    left-alone _ _ _ _ _ _ (f .before .before .before .index-shape .ensures) _ (f .find .ensures) _ _ (c .before .before .before .found .given .1) _ _ (sym (c .before .is-spared .ensures) ∙ c .if1 .taken)
+    left-alone _ _ _ _ _ _ (f .before .before .before .index-shape .ensures) _ (f .find-windowed .ensures) _ _ (c .before .before .before .found .given .1) _ _ (sym (c .before .is-spared .ensures) ∙ c .if1 .taken)
 
 kill-requires : tie.Need-kill-requires
 kill-requires c κs =
     let f = c .before .before .before .before .before .before .before in
-    kill-fits (f .before .before .before .before .before .before .before .args .h) _ _ (f .before .before .before .index-shape .ensures) (f .before .before .before .before .before .before .before .pre .0) (f .find .ensures) (c .before .before .before .before .before .found .given .1)
+    kill-fits (f .before .before .before .before .before .before .before .args .h) _ _ (f .before .before .before .index-shape .ensures) (f .before .before .before .before .before .before .before .pre .0) (f .find-windowed .ensures) (c .before .before .before .before .before .found .given .1)
 
 returns-2 : tie.Need-returns-2
 returns-2 c =
     let f = c .before .before in
-    absent _ _ _ _ _ _ (f .before .before .before .index-shape .ensures) _ (f .find .ensures) _ _ (c .enum-told .given .1)
+    absent _ _ _ _ _ _ (f .before .before .before .index-shape .ensures) _ (f .find-windowed .ensures) _ _ (c .enum-told .given .1)
 
 returns-3 : tie.Need-returns-3
 returns-3 c =
     let f = c .before .before .before .before .before .before .before .before .before .before .before .before in
-    dead-one _ _ _ _ _ _ (f .before .before .before .index-shape .ensures) _ (f .find .ensures) _ _ (c .before .before .before .before .before .before .before .before .before .before .found .given .1) _ _ _
+    dead-one _ _ _ _ _ _ (f .before .before .before .index-shape .ensures) _ (f .find-windowed .ensures) _ _ (c .before .before .before .before .before .before .before .before .before .before .found .given .1) _ _ _
     (omega (arith, f .before .before .before .before .before .before .before .pre .0 .long)) (c .before .before .before .before .kill .ensures)
     _ _ (sym (c .before .before .before .before .before .before .before .before .is-spared .ensures) ∙ c .before .before .before .before .before .before .before .if1 .left)
 
@@ -33,6 +33,6 @@ pub remove-one-spec : {M : Type 1} → statement M
 remove-one-spec =
     tie.close
     (tie.spec
-    (λ c κs. search needs) find-requires (λ c. search needs) (λ c. search needs) (λ c κs. search needs)
+    (λ c κs. search needs) find-windowed-requires (λ c. search needs) (λ c. search needs) (λ c κs. search needs)
     (λ c. search needs) (λ c. search needs) returns kill-requires (λ c. search needs) (λ c. search needs) returns-2
     (λ c. search needs) (λ c. search needs) returns-3)
