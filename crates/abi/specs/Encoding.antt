@@ -7,30 +7,27 @@ use mathlib.Core.Option.{Option, none, some}
 use mathlib.Core.List.{List, [], _∷_, _++_}
 use lib.ListN.{getD}
 use lib.Dec.{leb, eqb}
-use Rattle.refusals.specs.Refusals.{Reply, refused, accepted}
+use Rattle.refusals.specs.Refusals.{Reply, refused, accepted, ifAccepted}
 use Rattle.offsets.specs.Subsets.{Subset, range, list}
 use Rattle.offsets.specs.declared.SubsetHead.{SubsetHead}
 use Rattle.offsets.specs.declared.SubsetAnswer.{SubsetAnswer}
 use Rattle.offsets.specs.declared.SubsetAnswer.the-variants.{Refused as SubsetRefused, Range as SubsetRange, List as SubsetList}
 use Rattle.constraints.specs.declared.Constraint.{Constraint}
-use Rattle.plain_table.specs.Staged.{Opening}
+use Rattle.plain_table.specs.Staged.{Opening, openingIn}
 use Rattle.table.specs.declared.Largest.{Largest}
 use Rattle.table.specs.declared.Largest.the-variants.{None as NoLargest, Value}
 use Rattle.table.specs.declared.Header.{Header}
 use Rattle.table.specs.declared.Merge.{Merge}
 use Rattle.table.specs.declared.Version.{Version}
 use Rattle.table.specs.Numbers.{header}
-use Rattle.query_spec.specs.Queries.{PageReply}
+use Rattle.query_spec.specs.declared.NextPlace.{NextPlace}
+use Rattle.query_spec.specs.declared.NextPlace.the-variants.{None, At}
+use Rattle.query_spec.specs.declared.Page.{Page}
 
 -- ---- arguments
 
--- an opening is six words: columns, keys, sort column, rule, capacity, generation
-abbrev pub decodeOpening : List ℕ → Opening
-decodeOpening words =
-    record { columns = getD words 0 0; keys = getD words 1 0; sort = getD words 2 0; rule = getD words 3 0; capacity = getD words 4 0 }
-
-abbrev pub openingGeneration : List ℕ → ℕ
-openingGeneration words = getD words 5 0
+-- An opening is six words: columns, keys, sort column, rule, capacity (`openingIn`), and the generation. A condition is three words
+-- (`conditionIn`).
 
 -- The largest sort value is two words: a flag, 0 or 1, and the value, which is not read if the flag is 0.
 unfoldable pub decodeLargest : ℕ → ℕ → Largest
@@ -44,15 +41,11 @@ decodeColumns columns flag = cond (leb flag 1) columns 0
 -- the largest sort value
 unfoldable pub decodeHeader : List ℕ → Header
 decodeHeader words =
-    let o = decodeOpening words in
+    let o = openingIn words in
     header
     (record { columns = decodeColumns (o .columns) (getD words 10 0); keys = o .keys; sort = o .sort; rule = o .rule; capacity = o .capacity })
     (getD words 5 0) (getD words 6 0) (getD words 7 0) (getD words 8 0) (getD words 9 0)
     (decodeLargest (getD words 10 0) (getD words 11 0))
-
--- a condition is three words
-abbrev pub decodeCondition : List ℕ → Constraint
-decodeCondition words = record { kind = getD words 0 0; column = getD words 1 0; value = getD words 2 0 }
 
 -- A subset is three words: whether it is a range, its start and its end. The ids of a list are passed separately.
 abbrev pub decodeSubset : List ℕ → SubsetHead
@@ -93,6 +86,11 @@ unfoldable pub encodeOption : Option ℕ → List ℕ
 encodeOption none = 0 ∷ 0 ∷ []
 encodeOption (some n) = 1 ∷ n ∷ []
 
+-- the next place in the same way
+unfoldable pub encodeNext : NextPlace → List ℕ
+encodeNext None = 0 ∷ 0 ∷ []
+encodeNext (At place) = 1 ∷ place ∷ []
+
 -- 1 and a range's start and end, or all 0 if there is none. Answers with this encoding are never lists.
 unfoldable pub encodeRange : Option Subset → List ℕ
 encodeRange none = 0 ∷ 0 ∷ 0 ∷ []
@@ -113,8 +111,8 @@ unfoldable pub encodeSubset : SubsetHead → List ℕ
 encodeSubset s = bit (s .dense) ∷ s .start ∷ s .end ∷ []
 
 -- how many ids were written, how many of the visited ids have a dead row, and the next place
-unfoldable pub encodePage : PageReply → List ℕ
-encodePage p = p .written ∷ p .dead ∷ encodeOption (p .next)
+unfoldable pub encodePage : Page → List ℕ
+encodePage p = p .written ∷ p .dead ∷ encodeNext (p .next)
 
 -- ---- contracts of C functions
 
@@ -123,15 +121,10 @@ unfoldable pub returned : {A : Type 0} → Reply A → ℕ
 returned (refused n) = n
 returned (accepted a) = 0
 
--- the words that are stored: the encoding, or the previous words if refused
-unfoldable pub stored : {A : Type 0} → (A → List ℕ) → List ℕ → Reply A → List ℕ
-stored encode words (refused n) = words
-stored encode words (accepted a) = encode a
-
--- an answer's number is returned and its encoding stored
+-- an answer's number is returned and its encoding stored; if it is refused, the words stay as they were
 pub record Stored {R A : Type 0} (view : R → Reply A) (encode : A → List ℕ) (answer : R) (words : List ℕ) (r : ℕ) (words′ : List ℕ) : Type 0 where
   pub returns : r ≡ returned (view answer)
-  pub stores : words′ ≡ stored encode words (view answer)
+  pub stores : words′ ≡ ifAccepted (view answer) encode words
 
 -- The contract of a C function: some answer meets the library's contract, its number is returned and its encoding stored.
 pub record Answers {R A : Type 0} (contract : R → Type 0) (view : R → Reply A) (encode : A → List ℕ) (words : List ℕ) (r : ℕ) (words′ : List ℕ) : Type 0 where
@@ -139,15 +132,6 @@ pub record Answers {R A : Type 0} (contract : R → Type 0) (view : R → Reply 
   pub contract-met : contract answer
   pub stores : Stored view encode answer words r words′
 
--- The same for a function whose answer is its number alone.
-pub record AnswersNumber {R A : Type 0} (contract : R → Type 0) (view : R → Reply A) (r : ℕ) : Type 0 where
-  pub answer : R
-  pub contract-met : contract answer
-  pub returns : r ≡ returned (view answer)
-
 -- The same for a function that stores a header and its answer.
 pub record AnswersWithHeader {R A : Type 0} (contract : R → Type 0) (view : R → Reply A) (headerOf : A → Header) (encode : A → List ℕ) (header words : List ℕ) (r : ℕ) (header′ words′ : List ℕ) : Type 0 where
-  pub answer : R
-  pub contract-met : contract answer
-  pub header-stored : Stored view (λ a. encodeHeader (headerOf a)) answer header r header′
-  pub stores : Stored view encode answer words r words′
+  pub answers : Answers (λ a. contract a × (header′ ≡ ifAccepted (view a) (λ b. encodeHeader (headerOf b)) header)) view encode words r words′

@@ -1,9 +1,10 @@
 // Encodes headers and answers as words for C callers, and decodes their arguments. A fixed number of words is a fixed array, which
 // goes to C as a plain pointer.
 ghost use mathlib.Core.Path.{_≡_};
+ghost use Rattle.constraints.specs.Encoding.{conditionIn};
 ghost use Rattle.table.specs.Numbers.{tableView, mergeView, rowView, cellView, rangeView, versionView, soundView};
 ghost use Rattle.query_spec.specs.Queries.{matchView, pageView};
-ghost use Rattle.abi.specs.Encoding.{decodeLargest, decodeColumns, decodeHeader, decodeCondition, decodeSubset, bit, largestFlag, largestValue, encodeHeader, encodeMerge, encodeBool, encodeOption, encodeRange, encodeVersion, subsetView, encodeSubset, encodePage, Stored};
+ghost use Rattle.abi.specs.Encoding.{decodeLargest, decodeColumns, decodeHeader, decodeSubset, bit, largestFlag, largestValue, encodeHeader, encodeMerge, encodeBool, encodeOption, encodeRange, encodeVersion, subsetView, encodeSubset, encodePage, Stored};
 use constraints::Constraint;
 use offsets::SubsetAnswer;
 use offsets::SubsetHead;
@@ -62,7 +63,7 @@ pub fn decode_header(words: &[u32; 12]) -> Header
 }
 
 pub fn decode_condition(words: &[u32; 3]) -> Constraint
-    ensures { λ r. ⌜ r ≡ decodeCondition (now (words .entry)) ⌝ }
+    ensures { λ r. ⌜ r ≡ conditionIn (now (words .entry)) 0 ⌝ }
 {
     Constraint {
         kind: words[0],

@@ -5,6 +5,7 @@ use Rattle.query_borrowed.proofs.Prelude.{Fml, fsep, flft, feq, Memory, fieldOf
 use Rattle.query_borrowed.proofs.Prelude.{sub, agg, Is, Typed, uint-makes, bool-makes, u32, bool, Array, RefT, NamedLft, now, ShrRef, ptr-vals, ShrSlice, slice-vals, finally, only, owned, nothing, heard, own-shut, tripleOf, Triple, Constraint, Header}
 use Rattle.offsets.specs.declared.SubsetHead.{SubsetHead}
 use lib.ListN.{length}
+use Rattle.constraints.specs.Encoding.{conditionIn}
 use denote.Struct.Laws as LL
 use Rattle.refusals.specs.Refusals.{Reply}
 use Rattle.constraints.proofs.Constraint as CT
@@ -15,7 +16,7 @@ use Rattle.query_borrowed.proofs.SubsetRef as DT
 use Rattle.query_borrowed.proofs.Locals.{Locals, Within, held, set, operands, cell, fills}
 use Rattle.query_borrowed.proofs.Walking.{answers as calls}
 use Rattle.query_borrowed.proofs.Arrays.{tokens-out, tokens-in, owns-in}
-use Rattle.abi.specs.Encoding.{decodeHeader, decodeCondition, decodeSubset, Stored, Answers}
+use Rattle.abi.specs.Encoding.{decodeHeader, decodeSubset, Stored, Answers}
 use Rattle.abi.specs.Laws.Encoding.{answers}
 use Rattle.abi.proofs.decode_header as hdr
 use Rattle.abi.proofs.decode_condition as con
@@ -37,12 +38,12 @@ module _ {M : Type 1} {𝓤 : URA M} {H : Heap 𝓤} {A : Atoms 𝓤} {K : Type 
   -- a condition, likewise
   pub decodes-condition : Triple 𝓤 (C con.Symbol.name) (tripleOf 𝓤 H A con.signature (con.spec 𝓤 H A mem run)) → {xs : List Operand} {j : ℕ} (κ : Lft) (s : Share) (e : RefT (List ℕ))
       → operands E hs xs ≡ just (ptr-vals e) → ((v : Val) → Typed (CT.the-row .mir) (v ∷ []) → T (hasTy (spotOf 𝓤 H E j .0) v) × WT v) → Within E hs j
-      → ((v : Val) (c : Constraint) → c ≡ decodeCondition (now e) → Seq K W (Locals 𝓤 H E (set hs j v) ∷ ‵ (CT.the-row .own c (v ∷ [])) ∷ ‵ (flft κ s) ∷ Γ) (runs C Λ E rest q))
+      → ((v : Val) (c : Constraint) → c ≡ conditionIn (now e) 0 → Seq K W (Locals 𝓤 H E (set hs j v) ∷ ‵ (CT.the-row .own c (v ∷ [])) ∷ ‵ (flft κ s) ∷ Γ) (runs C Λ E rest q))
       → Seq K W (‵ (flft κ s) ∷ ‵ (ShrRef (named 0) κ (Array u32 3) .own e (ptr-vals e)) ∷ Locals 𝓤 H E hs ∷ Γ) (runs C Λ E (seq (call con.Symbol.name xs (place j [])) rest) q)
   decodes-condition known κ s e reads-them fits z k =
       move t (1 ∷ []) $ owns-in t (_ ∷ []) $ move t (1 ∷ []) $ tokens-in t 1 (κ, tt) (s, tt) $
       calls t fm con.ended (con.clauses 𝓤 H A mem run) known (((κ, tt), (s, tt), tt, (e, tt), (ptr-vals e, tt)), tt) (id⊢ 𝓤 _) reads-them (LL.lawful CT.the-type CT.Laws.the-laws 𝓤 H A W) fits z (λ v c ws is.
-      move t (4 ∷ []) $ heard t (c ≡ decodeCondition (now e)) (λ fact. move t (2 ∷ []) $ drop t $ move t (1 ∷ []) $ tokens-out t 1 (κ, tt) (s, tt) $ move t (1 ∷ 2 ∷ []) $ k v c fact))
+      move t (4 ∷ []) $ heard t (c ≡ conditionIn (now e) 0) (λ fact. move t (2 ∷ []) $ drop t $ move t (1 ∷ []) $ tokens-out t 1 (κ, tt) (s, tt) $ move t (1 ∷ 2 ∷ []) $ k v c fact))
 
   -- a subset: its machine value is known, and nothing is kept of what it owns
   pub decodes-subset : Triple 𝓤 (C head.Symbol.name) (tripleOf 𝓤 H A head.signature (head.spec 𝓤 H A mem run)) → {xs : List Operand} {j : ℕ} (κ : Lft) (s : Share) (e : RefT (List ℕ))

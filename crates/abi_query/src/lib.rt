@@ -3,8 +3,8 @@
 // of three words, so a list of them is lent without a conversion. The proof of each function is
 // manual: the function decodes, queries and stores.
 ghost use Rattle.offsets.specs.Answers.{subsetOf};
-ghost use Rattle.query_spec.specs.Queries.{matchView, pageView, RefinedOne, RefinedList, Matched, PageRead};
-ghost use Rattle.abi.specs.Encoding.{decodeHeader, decodeCondition, decodeSubset, encodeBool, subsetView, encodeSubset, encodePage, Answers};
+ghost use Rattle.query_spec.specs.Queries.{matchView, pageView, Matched, PageRead, RefinedOne, RefinedList};
+ghost use Rattle.abi.specs.Encoding.{decodeHeader, decodeSubset, encodeBool, subsetView, encodeSubset, encodePage, Answers};
 use abi::decode_condition;
 use abi::decode_header;
 use abi::decode_subset;
@@ -13,6 +13,7 @@ use abi::store_page;
 use abi::store_subset;
 use constraints::Constraint;
 use query_borrowed::SubsetRef;
+ghost use Rattle.constraints.specs.Encoding.{conditionIn};
 
 // The condition is three words: kind, column, value. The answer is a subset.
 #[no_mangle]
@@ -25,7 +26,7 @@ pub extern "C" fn mouldgrey_refine_one(
     output: &mut [u32],
     answer: &mut [u32; 3],
 ) -> u32
-    ensures { λ r. ⌜ Answers (λ a. RefinedOne (decodeHeader (now (header .entry))) (now (rows .entry)) (subsetOf (decodeSubset (now (subset .entry))) (now (ids .entry))) (decodeCondition (now (condition .entry))) (now (output .entry)) a (now (output .exit))) subsetView encodeSubset (now (answer .entry)) r (now (answer .exit)) ⌝ }
+    ensures { λ r. ⌜ Answers (λ a. RefinedOne (decodeHeader (now (header .entry))) (now (rows .entry)) (subsetOf (decodeSubset (now (subset .entry))) (now (ids .entry))) (conditionIn (now (condition .entry)) 0) (now (output .entry)) a (now (output .exit))) subsetView encodeSubset (now (answer .entry)) r (now (answer .exit)) ⌝ }
 {
     let h = decode_header(header);
     let head = decode_subset(subset);

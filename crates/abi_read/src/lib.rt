@@ -2,11 +2,12 @@
 ghost use Prim.Native.Nat.{ℕ};
 ghost use mathlib.Core.List.{List};
 ghost use lib.ListN.{length, getD};
+ghost use Rattle.constraints.specs.Encoding.{conditionIn};
 ghost use Rattle.offsets.specs.Subsets.{range};
 ghost use Rattle.offsets.specs.Answers.{subsetOf, intersectReply, Answered};
 ghost use Rattle.table.specs.Numbers.{cellView, rangeView, versionView};
 ghost use Rattle.table.specs.Contracts.{CellRead, RangeRead, RowsSince, RowsSinceVersion, VersionRead};
-ghost use Rattle.abi.specs.Encoding.{decodeHeader, decodeCondition, decodeSubset, encodeOption, encodeRange, encodeVersion, subsetView, encodeSubset, Answers};
+ghost use Rattle.abi.specs.Encoding.{decodeHeader, decodeSubset, encodeOption, encodeRange, encodeVersion, subsetView, encodeSubset, Answers};
 use abi::decode_condition;
 use abi::decode_header;
 use abi::decode_subset;
@@ -39,7 +40,7 @@ pub extern "C" fn mouldgrey_fast_subset(
     condition: &[u32; 3],
     range: &mut [u32; 3],
 ) -> u32
-    ensures { λ r. ⌜ Answers (λ answer. RangeRead (decodeHeader (now (header .entry))) (now (sorts .entry)) (decodeCondition (now (condition .entry))) answer) rangeView encodeRange (now (range .entry)) r (now (range .exit)) ⌝ }
+    ensures { λ r. ⌜ Answers (λ answer. RangeRead (decodeHeader (now (header .entry))) (now (sorts .entry)) (conditionIn (now (condition .entry)) 0) answer) rangeView encodeRange (now (range .entry)) r (now (range .exit)) ⌝ }
 {
     let h = decode_header(header);
     let answer = table_read::fast_subset(h, sorts, decode_condition(condition));

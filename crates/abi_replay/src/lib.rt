@@ -1,15 +1,18 @@
 // The two lists of the order's term 3 as C functions: an opening with a list of calls, and a list of queries.
 ghost use mathlib.Core.Path.{_≡_};
 ghost use Prim.Native.Nat.{min};
+ghost use lib.ListN.{getD};
+ghost use Rattle.replay_queries.specs.Encoding.{queryOf};
+ghost use Rattle.replay_frames.specs.Frames.{framed};
+ghost use Rattle.replay.specs.Encoding.{requestOf};
+ghost use Rattle.plain_table.specs.Staged.{openingIn};
 ghost use Rattle.refusals.specs.Refusals.{accepted};
 ghost use Rattle.offsets.specs.Answers.{subsetOf};
 ghost use Rattle.table.specs.Numbers.{tableView};
 ghost use Rattle.table.specs.Contracts.{body, compactionWords};
-ghost use Rattle.replay.specs.Encoding.{decoded};
 ghost use Rattle.replay.specs.Replays.{Replayed};
-ghost use Rattle.replay_queries.specs.Encoding.{queriesIn};
 ghost use Rattle.replay_queries.specs.RunQueries.{RunMade};
-ghost use Rattle.abi.specs.Encoding.{decodeHeader, decodeOpening, openingGeneration, decodeSubset, encodeHeader, Stored, Answers};
+ghost use Rattle.abi.specs.Encoding.{decodeHeader, decodeSubset, encodeHeader, Stored, Answers};
 ghost use Rattle.abi_replay.specs.Encoding.{encodeRun};
 use abi::decode_header;
 use abi::decode_subset;
@@ -37,7 +40,7 @@ pub extern "C" fn mouldgrey_replay(
     base: &mut [u32],
     index: &mut [u32],
 ) -> u32
-    ensures { λ r. ⌜ Answers (λ answer. Replayed (decodeOpening (now (opening .entry))) (openingGeneration (now (opening .entry))) (decoded (now (calls .entry))) (body (now (rows .entry)) (now (keys .entry)) (now (sorts .entry))) (now (pending .entry)) (compactionWords (now (live .entry)) (now (base .entry))) (now (index .entry)) answer (body (now (rows .exit)) (now (keys .exit)) (now (sorts .exit))) (now (pending .exit)) (compactionWords (now (live .exit)) (now (base .exit))) (now (index .exit))) tableView encodeHeader (now (header .entry)) r (now (header .exit)) ⌝ }
+    ensures { λ r. ⌜ Answers (λ answer. Replayed (openingIn (now (opening .entry))) (getD (now (opening .entry)) 5 0) (framed requestOf (now (calls .entry))) (body (now (rows .entry)) (now (keys .entry)) (now (sorts .entry))) (now (pending .entry)) (compactionWords (now (live .entry)) (now (base .entry))) (now (index .entry)) answer (body (now (rows .exit)) (now (keys .exit)) (now (sorts .exit))) (now (pending .exit)) (compactionWords (now (live .exit)) (now (base .exit))) (now (index .exit))) tableView encodeHeader (now (header .entry)) r (now (header .exit)) ⌝ }
 {
     let answer = replay::replay(
         opening[places::COLUMNS],
@@ -97,7 +100,7 @@ pub extern "C" fn mouldgrey_run_queries(
     second: &mut [u32],
     answer: &mut [u32; 7],
 ) -> u32
-    ensures { λ r. ⌜ Answers (λ a. RunMade (decodeHeader (now (header .entry))) (now (rows .entry)) (now (sorts .entry)) (subsetOf (decodeSubset (now (subset .entry))) (now (ids .entry))) (now (ids .entry)) (queriesIn (now (queries .entry))) (now (first .entry)) (now (second .entry)) a (now (first .exit)) (now (second .exit))) accepted encodeRun (now (answer .entry)) r (now (answer .exit)) ⌝ }
+    ensures { λ r. ⌜ Answers (λ a. RunMade (decodeHeader (now (header .entry))) (now (rows .entry)) (now (sorts .entry)) (subsetOf (decodeSubset (now (subset .entry))) (now (ids .entry))) (now (ids .entry)) (framed queryOf (now (queries .entry))) (now (first .entry)) (now (second .entry)) a (now (first .exit)) (now (second .exit))) accepted encodeRun (now (answer .entry)) r (now (answer .exit)) ⌝ }
 {
     let h = decode_header(header);
     let start = decode_subset(subset);

@@ -1,10 +1,11 @@
 // The calls that change a table, and the soundness check, as C functions. A slice is passed as a pointer and a length, a fixed
 // array as a pointer alone.
 ghost use mathlib.Core.Path.{_≡_};
-ghost use Rattle.plain_table.specs.Staged.{insert, removeKey, removeRow};
+ghost use lib.ListN.{getD};
+ghost use Rattle.plain_table.specs.Staged.{insert, removeKey, removeRow, openingIn};
 ghost use Rattle.table.specs.Numbers.{tableView, mergeView, soundView};
 ghost use Rattle.table.specs.Contracts.{stores, body, compactionWords, Opened, Staging, Merging, Compacting, Clearing, Checked};
-ghost use Rattle.abi.specs.Encoding.{decodeHeader, decodeOpening, openingGeneration, encodeHeader, encodeMerge, encodeBool, Answers, AnswersWithHeader};
+ghost use Rattle.abi.specs.Encoding.{decodeHeader, encodeHeader, encodeMerge, encodeBool, Answers, AnswersWithHeader};
 ghost use Rattle.abi_table.specs.Version.{libraryVersion};
 use abi::decode_header;
 use abi::places;
@@ -31,7 +32,7 @@ pub extern "C" fn mouldgrey_open_table(
     sorts: &[u32],
     pending: &[u32],
 ) -> u32
-    ensures { λ r. ⌜ Answers (λ answer. Opened (decodeOpening (now (opening .entry))) (openingGeneration (now (opening .entry))) (body (now (rows .entry)) (now (keys .entry)) (now (sorts .entry))) (now (pending .entry)) answer (now (keys .exit))) tableView encodeHeader (now (header .entry)) r (now (header .exit)) ⌝ }
+    ensures { λ r. ⌜ Answers (λ answer. Opened (openingIn (now (opening .entry))) (getD (now (opening .entry)) 5 0) (body (now (rows .entry)) (now (keys .entry)) (now (sorts .entry))) (now (pending .entry)) answer (now (keys .exit))) tableView encodeHeader (now (header .entry)) r (now (header .exit)) ⌝ }
 {
     let answer = table_open::open_table(
         opening[places::COLUMNS],

@@ -8,7 +8,7 @@ use mathlib.Core.Option.{some}
 use lib.ListN.{length, take}
 use lib.Dec.{ltb}
 use Rattle.lists.specs.Lists.{all, splice}
-use Rattle.refusals.specs.Refusals.{check, firstRefusal, refused, reply, outcome}
+use Rattle.refusals.specs.Refusals.{check, firstRefusal, refused, reply, outcome, Effect}
 use Rattle.crc32.specs.Crc.{bytesOf}
 use Rattle.plain_table.specs.Staged.{Opening}
 use Rattle.plain_table.specs.Plain.{Plain, opened}
@@ -45,11 +45,6 @@ resized p capacity =
 pub record ReadAfterWrite (p : Plain) (s : Stores) (capacity : ℕ) (b : Body) (pending : List ℕ) (answer : TableAnswer) (b′ : Body) (pending′ : List ℕ) : Type 0 where
   pub refusal : outcome (tableView answer) ≡ reply (firstRefusal (storesChecks (s .header) capacity b pending)) tt
   pub represents : (h : Header) → answer ≡ Table h → Represents (resized p capacity) (joined h b′ pending′)
-
--- The text after saving: refused by nothing but a short output; else the text at the start of the output.
-pub record TextAfterWrite (text output : List ℕ) (answer : LengthAnswer) (output′ : List ℕ) : Type 0 where
-  pub answers : lengthView answer ≡ reply (firstRefusal (check (ltb (length output) (length text)) 2 ∷ [])) (length text)
-  pub written : firstRefusal (check (ltb (length output) (length text)) 2 ∷ []) ≡ 0 → output′ ≡ splice output 0 text
 
 -- An accepted image is the image of the table that was loaded, with the capacity that the image has and its text. So a table in stores
 -- and a text have one image. Whoever wrote it, the table is sound (its generation is a word, so it is at most 4294967295).
@@ -97,9 +92,11 @@ pub record Archives : Type 0 where
   pub read-after-write : (p : Plain) (s : Stores) (words : List ℕ) (capacity : ℕ) (b : Body) (pending : List ℕ) (answer : TableAnswer) (b′ : Body) (pending′ : List ℕ)
       → Represents p s → Saved s words → ImageRead words capacity b pending answer b′ pending′
       → ReadAfterWrite p s capacity b pending answer b′ pending′
+  -- The text after saving: refused by nothing but a short output; else the text at the start of the output.
   pub text-after-write : (p : Plain) (s : Stores) (words : List ℕ) → Represents p s → (saved : Saved s words)
       → (output : List ℕ) (answer : LengthAnswer) (output′ : List ℕ) → TextRead words output answer output′
-      → TextAfterWrite (saved .text) output answer output′
+      → Effect (firstRefusal (check (ltb (length output) (length (saved .text))) 2 ∷ [])) (lengthView answer) (length (saved .text)) output output′
+      (splice output 0 (saved .text))
   pub one-image : (words : List ℕ) (capacity : ℕ) (b : Body) (pending : List ℕ) (h : Header) (b′ : Body) (pending′ : List ℕ)
       → ImageRead words capacity b pending (Table h) b′ pending′ → ImageOfLoaded words h b′ pending′
   pub damage-refused : (words words′ : List ℕ) (i : Image) → Reads words (some i) → Damaged (bytesOf words) (bytesOf words′) → RefusedAsImage words′

@@ -5,6 +5,7 @@
 use Prim.Native.Nat.{ℕ}
 use mathlib.Core.List.{List, [], _∷_, _++_}
 use lib.ListN.{length}
+use Rattle.refusals.specs.Refusals.{ifAccepted}
 use Rattle.plain_table.specs.Staged.{Opening, Staged}
 use Rattle.plain_table.specs.Refreshing.{Refresh}
 use Rattle.plain_table.specs.Calls.{Call, staging, merging, compacting, clearing, refreshing, feeding, LentCall}
@@ -14,46 +15,41 @@ use Rattle.table.specs.declared.MergeAnswer.{MergeAnswer}
 use Rattle.table.specs.Numbers.{tableView, mergeView}
 use Rattle.refresh_spec.specs.declared.RefreshAnswer.{RefreshAnswer}
 use Rattle.refresh_spec.specs.Index.{IndexSound}
-use Rattle.refresh_spec.specs.Refreshes.{refreshView, recordsFound, recordsStaged, headerRefreshed, Refreshing}
-use Rattle.table.specs.Contracts.{Stores, stores, Body, body, bodyOf, joined, CompactionWords, headerAfter, headerMerged, Opened, Staging, Merging, Compacting, Clearing}
+use Rattle.refresh_spec.specs.Refreshes.{refreshView, recordsFound, Refreshing}
+use Rattle.table.specs.Contracts.{Stores, stores, Body, body, bodyOf, joined, CompactionWords, Opened, Staging, Merging, Compacting, Clearing, lengthsLent}
 
--- A call that is lent these stores, and this many compaction words, `live` and `base`. If it is lent none, its checks do not read
--- these two numbers, and they may be any.
-abbrev pub lentCall : Call → Stores → ℕ → ℕ → LentCall
-lentCall c s live base =
-    record {
-      call = c;
-      lengths = record { rows = length (s .rows); keys = length (s .keys); sorts = length (s .sorts); pending = length (s .pending); liveWords = live; baseWords = base };
-    }
+-- A call that is lent these stores and compaction words. If it is lent no compaction words, its checks do not read their lengths, and
+-- they may be any.
+abbrev pub lentCall : Call → Stores → CompactionWords → LentCall
+lentCall c s w = record { call = c; lengths = lengthsLent s w }
 
 -- the stores after a refresh
 abbrev pub refreshedStores : Stores → RefreshAnswer → List ℕ → Stores
-refreshedStores s answer pending′ = joined (headerRefreshed (s .header) (refreshView answer)) (bodyOf s) pending′
+refreshedStores s answer pending′ = joined (ifAccepted (refreshView answer) (λ a. a .header) (s .header)) (bodyOf s) pending′
 
 -- One call, by the contract of its entry point: the lent stores before and after it, and their lengths. A store that it is not lent
 -- is unchanged.
 pub data Called (s : Stores) : LentCall → Stores → Type 0 where
-  stages : {live base : ℕ} (r : Staged) (answer : TableAnswer) (pending′ : List ℕ) → Staging (s .header) (s .pending) r answer pending′
-      → Called s (lentCall (staging r) s live base) (joined (headerAfter (s .header) (tableView answer)) (bodyOf s) pending′)
+  stages : (w : CompactionWords) (r : Staged) (answer : TableAnswer) (pending′ : List ℕ) → Staging (s .header) (s .pending) r answer pending′
+      → Called s (lentCall (staging r) s w) (joined (ifAccepted (tableView answer) (λ h. h) (s .header)) (bodyOf s) pending′)
   merges : (w : CompactionWords) (answer : MergeAnswer) (b′ : Body) (w′ : CompactionWords) → Merging s w answer b′ w′
-      → Called s (lentCall merging s (length (w .live)) (length (w .base))) (joined (headerMerged (s .header) (mergeView answer)) b′ (s .pending))
+      → Called s (lentCall merging s w) (joined (ifAccepted (mergeView answer) (λ m. m .header) (s .header)) b′ (s .pending))
   compacts : (w : CompactionWords) (answer : TableAnswer) (b′ : Body) (w′ : CompactionWords) → Compacting (s .header) (bodyOf s) w answer b′ w′
-      → Called s (lentCall compacting s (length (w .live)) (length (w .base))) (joined (headerAfter (s .header) (tableView answer)) b′ (s .pending))
-  clears : {live base : ℕ} (answer : TableAnswer) (keys′ : List ℕ) → Clearing (s .header) (s .keys) answer keys′
-      → Called s (lentCall clearing s live base) (joined (headerAfter (s .header) (tableView answer)) (body (s .rows) keys′ (s .sorts)) (s .pending))
+      → Called s (lentCall compacting s w) (joined (ifAccepted (tableView answer) (λ h. h) (s .header)) b′ (s .pending))
+  clears : (w : CompactionWords) (answer : TableAnswer) (keys′ : List ℕ) → Clearing (s .header) (s .keys) answer keys′
+      → Called s (lentCall clearing s w) (joined (ifAccepted (tableView answer) (λ h. h) (s .header)) (body (s .rows) keys′ (s .sorts)) (s .pending))
   -- over a sound index store "the plain table stages these records of its own rows"
-  refreshes : {live base : ℕ} (r : Refresh) (index : List ℕ) (answer : RefreshAnswer) (pending′ index′ : List ℕ) → Refreshing (s .header) (s .rows) (s .pending) index r answer pending′ index′
+  refreshes : (w : CompactionWords) (r : Refresh) (index : List ℕ) (answer : RefreshAnswer) (pending′ index′ : List ℕ) → Refreshing (s .header) (s .rows) (s .pending) index r answer pending′ index′
       → IndexSound (s .header) (s .rows) (r .columns) index
-      → Called s (lentCall (refreshing r (length index)) s live base) (refreshedStores s answer pending′)
+      → Called s (lentCall (refreshing r (length index)) s w) (refreshedStores s answer pending′)
   -- "Over such an unsound index store, and nowhere else, it is fed the records that the call staged"
-  refreshes-unsound : {live base : ℕ} (r : Refresh) (index : List ℕ) (answer : RefreshAnswer) (pending′ index′ : List ℕ) (m : Refreshing (s .header) (s .rows) (s .pending) index r answer pending′ index′)
+  refreshes-unsound : (w : CompactionWords) (r : Refresh) (index : List ℕ) (answer : RefreshAnswer) (pending′ index′ : List ℕ) (m : Refreshing (s .header) (s .rows) (s .pending) index r answer pending′ index′)
       → (IndexSound (s .header) (s .rows) (r .columns) index → ⊥)
-      → Called s (lentCall (feeding (recordsStaged (refreshView answer) (recordsFound (s .header) (s .rows) r (m .found)))) s live base) (refreshedStores s answer pending′)
+      → Called s (lentCall (feeding (ifAccepted (refreshView answer) (λ a. recordsFound (s .header) (s .rows) r (m .found)) [])) s w) (refreshedStores s answer pending′)
 
 -- stores with more cells behind each
 abbrev pub behind : Stores → Body → List ℕ → Stores
-behind s rest pending =
-    stores (s .header) (s .rows ++ rest .rows) (s .keys ++ rest .keys) (s .sorts ++ rest .sorts) (s .pending ++ pending)
+behind s rest pending = stores (s .header) (s .rows ++ rest .rows) (s .keys ++ rest .keys) (s .sorts ++ rest .sorts) (s .pending ++ pending)
 
 -- A step lends its call a first part of each store. The part may differ from call to call, so a call may be refused for a store of
 -- which the next call is lent more. The cells behind that part are unchanged.

@@ -28,8 +28,7 @@ storedRow s i = rowAt (s .header .columns) i (s .rows)
 -- the table `then`, when the copy was made, and `now`; `since` are the rows that it now answers as those since then
 pub record Guaranteed (then now : Stores) (since : Subset) : Type 0 where
   -- "each row below the noted count either has the cells it had or is dead"
-  pub kept-or-dead : (i : ℕ) → i < then .header .rows
-      → (storedRow now i ≡ storedRow then i) ⊎ (isLive (storedRow now i) ≡ false)
+  pub kept-or-dead : (i : ℕ) → i < then .header .rows → (storedRow now i ≡ storedRow then i) ⊎ (isLive (storedRow now i) ≡ false)
   -- "the copied rows still live together with the live rows of the answer", numbers and cells, in order
   pub live-rows : liveIn now
       ≡ filter (λ row. isLive (storedRow now (row .number))) (liveIn then)

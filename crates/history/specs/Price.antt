@@ -3,7 +3,7 @@
 use Prim.Native.Nat.{ℕ, _+_, _≤_}
 use mathlib.Core.Path.{_≡_}
 use mathlib.Core.List.{List}
-use Rattle.refusals.specs.Refusals.{Reply, refused, accepted}
+use Rattle.refusals.specs.Refusals.{Reply, refused, accepted, ifAccepted}
 use Rattle.plain_table.specs.Staged.{Opening}
 use Rattle.plain_table.specs.Plain.{Plain, opened, mergeKeeps, mergeDrops}
 use Rattle.plain_table.specs.Calls.{LentCall}
@@ -25,19 +25,14 @@ pub record Wear : Type 0 where
 abbrev pub wear : ℕ → ℕ → ℕ → ℕ → Wear
 wear kept dropped compacted emptied = record { kept = kept; dropped = dropped; compacted = compacted; emptied = emptied }
 
--- the counts of an answer; a refused call counts nothing
-unfoldable pub counted : {A : Type 0} → Reply A → (A → Wear) → Wear
-counted (refused n) f = wear 0 0 0 0
-counted (accepted a) f = f a
-
--- the counts of one call: the caller's compaction drops all dead rows, a clear drops all rows
+-- the counts of one call; a refused one counts nothing: the caller's compaction drops all dead rows, a clear drops all rows
 unfoldable pub wearOfCall : {s t : Stores} {c : LentCall} → Called s c t → Wear
-wearOfCall (stages r answer pending′ m) = wear 0 0 0 0
-wearOfCall (merges w answer b′ w′ m) = counted (mergeView answer) (λ a. wear (a .kept) (a .dropped) 0 0)
-wearOfCall {s} (compacts w answer b′ w′ m) = counted (tableView answer) (λ h. wear 0 0 (s .header .dead) 0)
-wearOfCall {s} (clears answer keys′ m) = counted (tableView answer) (λ h. wear 0 0 0 (s .header .rows))
-wearOfCall (refreshes r index answer pending′ index′ m sound) = wear 0 0 0 0
-wearOfCall (refreshes-unsound r index answer pending′ index′ m unsound) = wear 0 0 0 0
+wearOfCall (stages w r answer pending′ m) = wear 0 0 0 0
+wearOfCall (merges w answer b′ w′ m) = ifAccepted (mergeView answer) (λ a. wear (a .kept) (a .dropped) 0 0) (wear 0 0 0 0)
+wearOfCall {s} (compacts w answer b′ w′ m) = ifAccepted (tableView answer) (λ h. wear 0 0 (s .header .dead) 0) (wear 0 0 0 0)
+wearOfCall {s} (clears w answer keys′ m) = ifAccepted (tableView answer) (λ h. wear 0 0 0 (s .header .rows)) (wear 0 0 0 0)
+wearOfCall (refreshes w r index answer pending′ index′ m sound) = wear 0 0 0 0
+wearOfCall (refreshes-unsound w r index answer pending′ index′ m unsound) = wear 0 0 0 0
 
 -- the counts of all calls
 unfoldable pub wearOfSteps : {s t : Stores} {cs : List LentCall} → Steps s cs t → Wear

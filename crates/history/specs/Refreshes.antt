@@ -13,15 +13,11 @@ use Rattle.plain_table.specs.Plain.{Plain, liveRows, opened}
 use Rattle.plain_table.specs.Refreshing.{Refresh, mentions}
 use Rattle.plain_table.specs.Calls.{refreshing, recordsOf, refusal, LentCall, afterAll}
 use Rattle.table.specs.Stores.{recordWords}
-use Rattle.table.specs.Contracts.{Stores, Body}
+use Rattle.table.specs.Contracts.{Stores, Body, CompactionWords, compactionWords, lengthsLent}
 use Rattle.refresh_spec.specs.declared.RefreshAnswer.{RefreshAnswer}
 use Rattle.refresh_spec.specs.Index.{isNew, lookedUp, IndexSound, Current}
 use Rattle.refresh_spec.specs.Refreshes.{refreshView, answered, Refreshing}
 use Rattle.history.specs.Histories.{lentCall, refreshedStores, behind, Step, History}
-
--- a refresh on a plain table, lent these stores; it is lent no compaction words, so their numbers may be any
-abbrev pub ownRefresh : Stores → List ℕ → Refresh → ℕ → ℕ → LentCall
-ownRefresh t lent r live base = lentCall (refreshing r (length lent)) t live base
 
 -- A history, the stores after it, and an index store that was new when the table took it. Other calls leave the index store
 -- unchanged, also refreshes over other index stores. A refresh over it may be lent any first part of it, as of the row and pending
@@ -30,9 +26,9 @@ pub data OwnIndex (o : Opening) (generation : ℕ) : List LentCall → Stores �
   adopted : {calls : List LentCall} {s : Stores} (index : List ℕ) → History o generation calls s → isNew index ≡ true → OwnIndex o generation calls s index
   other-call : {calls : List LentCall} {t u : Stores} {index : List ℕ} {c : LentCall} → OwnIndex o generation calls t index → Step t c u
       → OwnIndex o generation (calls ++ (c ∷ [])) u index
-  refreshes : {calls : List LentCall} (t : Stores) (rest : Body) (pending lent more : List ℕ) (live base : ℕ) (r : Refresh) (answer : RefreshAnswer) (pending′ lent′ : List ℕ)
+  refreshes : {calls : List LentCall} (t : Stores) (rest : Body) (pending lent more : List ℕ) (w : CompactionWords) (r : Refresh) (answer : RefreshAnswer) (pending′ lent′ : List ℕ)
       → OwnIndex o generation calls (behind t rest pending) (lent ++ more) → Refreshing (t .header) (t .rows) (t .pending) lent r answer pending′ lent′
-      → OwnIndex o generation (calls ++ (ownRefresh t lent r live base ∷ [])) (behind (refreshedStores t answer pending′) rest pending) (lent′ ++ more)
+      → OwnIndex o generation (calls ++ (lentCall (refreshing r (length lent)) t w ∷ [])) (behind (refreshedStores t answer pending′) rest pending) (lent′ ++ more)
 
 -- the numbers, rising, of the live rows that hold a value in one of these columns
 abbrev pub holding : Plain → List ℕ → ℕ → List ℕ
@@ -42,7 +38,7 @@ holding p columns value = map (λ row. row .number) (filter (λ row. mentions co
 -- its own rows", or refuses with the same number.
 module _ (p : Plain) (t : Stores) (r : Refresh) (lent : List ℕ) where
   abbrev pub ownRefusal : ℕ
-  ownRefusal = refusal p (ownRefresh t lent r 0 0 .lengths) (ownRefresh t lent r 0 0 .call)
+  ownRefusal = refusal p (lengthsLent t (compactionWords [] [])) (refreshing r (length lent))
 
   pub record RefreshesOwn (answer : RefreshAnswer) (pending′ lent′ : List ℕ) : Type 0 where
     pub answers : refreshView answer ≡ reply ownRefusal (answered (t .header) (recordsOf p r))

@@ -8,7 +8,8 @@ use mathlib.Core.Logic.{_⊎_}
 use mathlib.Core.List.{List, [], _∷_, _++_}
 use mathlib.Core.Option.{some}
 use lib.ListN.{length, take}
-use Rattle.refusals.specs.Refusals.{Reply, refused, accepted}
+use Rattle.query_spec.specs.Queries.{RefinedOne, RefinedList}
+use Rattle.refusals.specs.Refusals.{Reply, accepted, ifAccepted}
 use Rattle.offsets.specs.declared.SubsetAnswer.{SubsetAnswer}
 use Rattle.offsets.specs.Subsets.{Subset, members}
 use Rattle.offsets.specs.Answers.{Answered, subsetView, intersectReply}
@@ -16,7 +17,6 @@ use Rattle.constraints.specs.declared.Constraint.{Constraint}
 use Rattle.table.specs.declared.RangeAnswer.{RangeAnswer}
 use Rattle.table.specs.Numbers.{rangeView}
 use Rattle.table.specs.Contracts.{Stores, RangeRead}
-use Rattle.query_spec.specs.Queries.{RefinedOne, RefinedList}
 
 pub data Query : Type 0 where
   refineOne : Constraint → Query
@@ -41,8 +41,7 @@ outcome ids counted = record { ids = ids; accepted = counted }
 
 -- the result of a query, by its reply: a refused one leaves the ids unchanged and counts for nothing
 unfoldable pub byReply : Subset → Query → Reply Subset → Outcome
-byReply a q (refused n) = outcome a []
-byReply a q (accepted subset) = outcome subset (q ∷ [])
+byReply a q r = ifAccepted r (λ subset. outcome subset (q ∷ [])) (outcome a [])
 
 -- `intersect` takes the two subsets in either order
 abbrev pub Intersected : Subset → Subset → List ℕ → SubsetAnswer → List ℕ → Type 0

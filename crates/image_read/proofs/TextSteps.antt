@@ -5,6 +5,7 @@ use Rattle.refusals.specs.Refusals.{firstRefusal, reply}
 use Rattle.image_spec.specs.declared.LengthAnswer.the-variants.{Refused, Length}
 use Rattle.image_spec.specs.Contracts.{lengthView, textRefusal, textOf, TextRead}
 use Rattle.image_check.specs.inner.Parsed.{imageIn, IsAt}
+use mathlib.Core.Option.{Option·elim}
 
 -- ---- `byte_at`
 
@@ -61,9 +62,9 @@ module _ (words : List ℕ) (count : ℕ) (t : TextIn words count) where
 -- ---- `read_text`
 
 pub text-none : (words output : List ℕ) → Reads words none → TextRead words output (Refused 19) output
-unfolding lengthView textRefusal textOf reply
+unfolding lengthView textRefusal textOf Option·elim reply
 text-none words output n =
-    record { image = none; reads = n; answers = refl; unchanged = λ _. refl; written = λ z. absurd (omega arith) }
+    record { image = none; reads = n; effect = record { answers = refl; unchanged = λ _. refl; written = λ z. absurd (omega arith) } }
 
 module _ (words output : List ℕ) (l : Layout) (t : IsAt words l) where
   pub text-in : TextIn words (l .text)
@@ -81,9 +82,12 @@ module _ (words output : List ℕ) (l : Layout) (t : IsAt words l) where
       record {
         image = some (imageIn words l);
         reads = t .reads;
-        answers = rw n answer-is;
-        unchanged = λ _. refl;
-        written = λ z. absurd (omega (arith, n, z));
+        effect =
+            record {
+              answers = rw n answer-is;
+              unchanged = λ _. refl;
+              written = λ z. absurd (omega (arith, n, z));
+            };
       }
     where
       refused-by : textRefusal (some (imageIn words l)) (length output) ≡ 2
@@ -98,16 +102,19 @@ module _ (words output : List ℕ) (l : Layout) (t : IsAt words l) where
       record {
         image = some (imageIn words l);
         reads = t .reads;
-        answers = rw n answer-is;
-        unchanged = λ z. absurd (omega (arith, n, z));
-        written = λ _. e ∙ text-is;
+        effect =
+            record {
+              answers = rw n answer-is;
+              unchanged = λ z. absurd (omega (arith, n, z));
+              written = λ _. e ∙ text-is;
+            };
       }
     where
       accepted-by : textRefusal (some (imageIn words l)) (length output) ≡ 0
       accepted-by = unfold textRefusal firstRefusal in rw (length-is, le-ltb _ _ k)
 
       answer-is : lengthView (Length (l .text)) ≡ reply 0 (length (textOf (some (imageIn words l))))
-      answer-is = unfold lengthView reply textOf in rw length-is
+      answer-is = unfold lengthView reply textOf Option·elim in rw length-is
 
       text-is : splice output 0 (take (l .text) (bytesOf (drop 15 words))) ≡ splice output 0 (textOf (some (imageIn words l)))
-      text-is = unfold textOf imageIn in refl
+      text-is = unfold textOf Option·elim imageIn in refl

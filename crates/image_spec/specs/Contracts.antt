@@ -2,15 +2,15 @@
 -- contract has no second name for is lent shared, so it is unchanged. New refusals: 19, words that are no image: of another length than their header and
 -- text have, with a header outside its bounds, a text that is too long or filled up with other bytes than 0, or another checksum; 20, an
 -- image of a table that is not sound; 21, a text to be written of more than 4,096 bytes. Assumes nothing.
-use Prim.Native.Nat.{ℕ, _<_}
+use Prim.Native.Nat.{ℕ, _*_, _<_}
 use mathlib.Core.Path.{_≡_}
 use mathlib.Core.Bool.{Bool, true, false, cond, not, _||_}
 use mathlib.Core.List.{List, [], _∷_}
-use mathlib.Core.Option.{Option, none, some}
+use mathlib.Core.Option.{Option, none, some, Option·elim}
 use lib.ListN.{length}
 use lib.Dec.{ltb, eqb}
 use Rattle.lists.specs.Lists.{splice}
-use Rattle.refusals.specs.Refusals.{Check, check, firstRefusal, Reply, refused, accepted, reply, outcome}
+use Rattle.refusals.specs.Refusals.{Check, check, firstRefusal, Reply, refused, accepted, reply, outcome, Effect}
 use Rattle.key_index.specs.Slots.{KeysSound}
 use Rattle.plain_table.specs.Staged.{Opening}
 use Rattle.plain_table.specs.Refusing.{storesShort}
@@ -19,7 +19,7 @@ use Rattle.table.specs.declared.TableAnswer.{TableAnswer}
 use Rattle.table.specs.Numbers.{openingOf, tableView, header}
 use Rattle.table.specs.Refusing.{outside, pendingOutside, rowsShort, pairsShort}
 use Rattle.table.specs.Sound.{indexShapeOf}
-use Rattle.table.specs.Contracts.{Body, lengths, SlotsPast}
+use Rattle.table.specs.Contracts.{Body, lengths, SamePast}
 use Rattle.image_spec.specs.declared.LengthAnswer.{LengthAnswer}
 use Rattle.image_spec.specs.declared.LengthAnswer.the-variants.{Refused as LengthRefused, Length}
 use Rattle.image_spec.specs.Image.{Image, imageWords, Reads, SoundImage, imageOf, imageLength}
@@ -49,11 +49,8 @@ writeRefusal h rows sorts pending text output =
 
 -- lent rows, sort entries, pending and a text; the image is at the start of the output, and nothing behind it changes
 pub record ImageWritten (h : Header) (rows sorts pending text output : List ℕ) (answer : LengthAnswer) (output′ : List ℕ) : Type 0 where
-  pub answers : lengthView answer
-      ≡ reply (writeRefusal h (length rows) (length sorts) (length pending) (length text) (length output)) (imageLength h (length text))
-  pub unchanged : 0 < writeRefusal h (length rows) (length sorts) (length pending) (length text) (length output) → output′ ≡ output
-  pub written : writeRefusal h (length rows) (length sorts) (length pending) (length text) (length output) ≡ 0
-      → output′ ≡ splice output 0 (imageWords (imageOf h rows sorts pending text))
+  pub effect : Effect (writeRefusal h (length rows) (length sorts) (length pending) (length text) (length output)) (lengthView answer)
+      (imageLength h (length text)) output output′ (splice output 0 (imageWords (imageOf h rows sorts pending text)))
 
 -- ---- checking and reading
 
@@ -102,7 +99,7 @@ pub record Loaded (i : Image) (capacity : ℕ) (b : Body) (pending : List ℕ) (
   pub sorts-after : b′ .sorts ≡ splice (b .sorts) 0 (i .sorts)
   pub pending-after : pending′ ≡ splice pending 0 (i .pending)
   pub keys-sound : KeysSound (indexShapeOf (withCapacity (i .header) capacity)) (b′ .rows) (b′ .keys)
-  pub past : SlotsPast (withCapacity (i .header) capacity .capacity) (b .keys) (b′ .keys)
+  pub past : SamePast (2 * withCapacity (i .header) capacity .capacity) (b .keys) (b′ .keys)
   pub slots : length (b′ .keys) ≡ length (b .keys)
 
 pub record ImageRead (words : List ℕ) (capacity : ℕ) (b : Body) (pending : List ℕ) (answer : TableAnswer) (b′ : Body) (pending′ : List ℕ) : Type 0 where
@@ -119,12 +116,9 @@ textRefusal none output = 19
 textRefusal (some i) output = firstRefusal (check (ltb output (length (i .text))) 2 ∷ [])
 
 unfoldable pub textOf : Option Image → List ℕ
-textOf none = []
-textOf (some i) = i .text
+textOf image = Option·elim image [] (λ i. i .text)
 
 pub record TextRead (words output : List ℕ) (answer : LengthAnswer) (output′ : List ℕ) : Type 0 where
   pub image : Option Image
   pub reads : Reads words image
-  pub answers : lengthView answer ≡ reply (textRefusal image (length output)) (length (textOf image))
-  pub unchanged : 0 < textRefusal image (length output) → output′ ≡ output
-  pub written : textRefusal image (length output) ≡ 0 → output′ ≡ splice output 0 (textOf image)
+  pub effect : Effect (textRefusal image (length output)) (lengthView answer) (length (textOf image)) output output′ (splice output 0 (textOf image))

@@ -63,13 +63,7 @@ SoundImage i = (staged : List Staged) × SoundContents (i .header) (i .rows) (i 
 -- The image of a table: the words of its stores that are in use, with a text.
 abbrev pub imageOf : Header → List ℕ → List ℕ → List ℕ → List ℕ → Image
 imageOf h rows sorts pending text =
-    record {
-      header = h;
-      text = text;
-      rows = take (h .rows * h .columns) rows;
-      sorts = take (2 * h .entries) sorts;
-      pending = take (h .pending) pending;
-    }
+    record { header = h; text = text; rows = take (h .rows * h .columns) rows; sorts = take (2 * h .entries) sorts; pending = take (h .pending) pending }
 
 -- How many words an image has: sixteen besides the text and the words in use.
 unfoldable pub imageLength : Header → ℕ → ℕ

@@ -17,9 +17,12 @@ module _ (h : Header) (rows sorts pending text output : List ℕ) where
   unfolding lengthView
   written-refused number e some =
       record {
-        answers = reply-refused (lengthView (Refused number)) _ number _ refl e some;
-        unchanged = λ k. refl;
-        written = λ none. absurd (some (e ∙ none));
+        effect =
+            record {
+              answers = reply-refused (lengthView (Refused number)) _ number _ refl e some;
+              unchanged = λ k. refl;
+              written = λ none. absurd (some (e ∙ none));
+            };
       }
 
   pub written-accepted : (n : ℕ) (output′ : List ℕ) → writeRefusal h (length rows) (length sorts) (length pending) (length text) (length output) ≡ 0
@@ -28,7 +31,10 @@ module _ (h : Header) (rows sorts pending text output : List ℕ) where
   unfolding lengthView
   written-accepted n output′ none e w =
       record {
-        answers = reply-accepted (lengthView (Length n)) _ _ (ap (λ (k : ℕ). lengthView (Length k)) e) none;
-        unchanged = λ some. absurd (omega arith);
-        written = λ k. w;
+        effect =
+            record {
+              answers = reply-accepted (lengthView (Length n)) _ _ (ap (λ (k : ℕ). lengthView (Length k)) e) none;
+              unchanged = λ some. absurd (omega arith);
+              written = λ k. w;
+            };
       }

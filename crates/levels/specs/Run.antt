@@ -1,7 +1,7 @@
 -- The program `levels` as it runs: a sequence of steps, each with the bytes that it passes to `write` and the bytes that it reads.
 -- The bytes read are defined by the return value of `read` and by the chunk after it; the bytes written, by the return value of the
 -- write function. Assumes nothing.
-use Prim.Native.Nat.{ℕ, suc, _+_, _≤_, _<_}
+use Prim.Native.Nat.{ℕ, suc, _+_, _<_}
 use mathlib.Core.Path.{_≡_}
 use mathlib.Core.Bool.{Bool, true, false, cond}
 use mathlib.Core.List.{List, [], _∷_, _++_}
@@ -14,7 +14,7 @@ use Rattle.table.specs.Contracts.{Stores, stores}
 use Rattle.levels_spec.specs.Response.{lineResult}
 use Rattle.levels_spec.specs.Answers.{Held}
 use Rattle.levels_spec.specs.Session.{programLengths}
-use Rattle.levels_io.specs.Input.{bytesRead, unread, InputIn, AtEnd, LineSoFar}
+use Rattle.levels_io.specs.Input.{bytesRead, unread, AtEnd, LineSoFar}
 use Rattle.levels_io.specs.declared.output.WriteResult.{WriteResult}
 use Rattle.levels.specs.declared.State.{State}
 
@@ -74,12 +74,6 @@ pub record Holds (p : Program) (m : Machine) : Type 0 where
   pub bytes-unread : p .unread ≡ unread (m .chunk) (m .state .input)
   pub bytes-buffered : p .buffered ≡ take (m .state .used) (m .text)
 
--- the lengths and offsets are within the stores
-pub record Within (m : Machine) : Type 0 where
-  pub input-in : InputIn (m .chunk) (m .state .input)
-  pub line-in : m .state .length ≤ length (m .line)
-  pub text-in : m .state .used ≤ length (m .text)
-
 -- the bytes that were passed to `write`, and those that were read, if a read was made
 abbrev pub bytesWritten : WriteResult → Machine → List ℕ
 bytesWritten handed m = take (handed .count) (m .text)
@@ -95,7 +89,6 @@ pub record StepMade (p : Program) (m : Machine) (handed : WriteResult) (m′ : M
   pub holds : Holds after m′
 
 pub record Stepped (m : Machine) (handed : WriteResult) (m′ : Machine) (over : Bool) : Type 0 where
-  pub within : Within m′
   pub reads-left : length (newBytes m m′) + m′ .state .input .reads ≡ m .state .input .reads
   -- no read is made after the end of the input
   pub none-past-end : AtEnd (m .state .input) → m′ .state .input .reads ≡ m .state .input .reads

@@ -2,8 +2,9 @@
 // Answers are buffered, and written before each read. The program owns the stores and lends them to the library.
 ghost use Prim.Native.Nat.{_≤_, _<_};
 ghost use lib.ListN.{length as len};
-ghost use Rattle.levels_io.specs.Input.{InputIn};
-ghost use Rattle.levels.specs.Run.{Within, machine, Stepped, Ran};
+ghost use Rattle.levels_io.specs.inner.Scanning.{InputIn};
+ghost use Rattle.levels.specs.Run.{machine, Ran};
+ghost use Rattle.levels.specs.inner.Turns.{Within, Turned};
 ghost use Rattle.levels.specs.inner.Advancing.{ReadOn, Ready, Advanced};
 ghost use Rattle.levels.specs.inner.Stepping.{Shorter};
 ghost use Rattle.levels.specs.inner.Running.{Finished};
@@ -167,7 +168,7 @@ fn step(
     text: &mut [u8; BUFFER],
 ) -> StepDone
     requires { ⌜ Within (machine state (now line) (now chunk) (now rows) (now keys) (now sorts) (now pending) (now text)) ⌝ }
-    ensures { λ r. ⌜ Stepped (machine state (now (line .entry)) (now (chunk .entry)) (now (rows .entry)) (now (keys .entry)) (now (sorts .entry)) (now (pending .entry)) (now (text .entry))) (r .handed) (machine (r .state) (now (line .exit)) (now (chunk .exit)) (now (rows .exit)) (now (keys .exit)) (now (sorts .exit)) (now (pending .exit)) (now (text .exit))) (r .«is_over») ⌝ }
+    ensures { λ r. ⌜ Turned (machine state (now (line .entry)) (now (chunk .entry)) (now (rows .entry)) (now (keys .entry)) (now (sorts .entry)) (now (pending .entry)) (now (text .entry))) (r .handed) (machine (r .state) (now (line .exit)) (now (chunk .exit)) (now (rows .exit)) (now (keys .exit)) (now (sorts .exit)) (now (pending .exit)) (now (text .exit))) (r .«is_over») ⌝ }
     ensures { λ r. ⌜ Shorter (state .input) (r .state .input) (r .«is_over») ⌝ }
 {
     let header = state.header;

@@ -4,8 +4,9 @@ ghost use mathlib.Core.Path.{_≡_};
 ghost use mathlib.Core.Logic.{_⊎_};
 ghost use Prim.Native.Nat.{_≤_};
 ghost use lib.ListN.{length};
+ghost use Rattle.refusals.specs.Refusals.{ifAccepted};
 ghost use Rattle.table.specs.Numbers.{tableView, mergeView};
-ghost use Rattle.table.specs.Contracts.{headerAfter, headerMerged, stores};
+ghost use Rattle.table.specs.Contracts.{stores};
 ghost use Rattle.levels_spec.specs.inner.Responses.{responseOf, nothingResponse, mergeResponse, ServedWith, Serving};
 ghost use Rattle.levels_answer.specs.inner.Calling.{OnPending, OnKeys, OnBody, OnAll};
 use abi::encode_bool;
@@ -25,7 +26,7 @@ const WORDS: usize = 16;
 
 // The header and the response after an opening, a staging, a compaction or a clear.
 fn taken(h: Header, answer: TableAnswer) -> Served
-    ensures { λ r. ⌜ ServedWith (headerAfter h (tableView answer)) (responseOf nothingResponse (tableView answer)) r ⌝ }
+    ensures { λ r. ⌜ ServedWith (ifAccepted (tableView answer) (λ h. h) h) (responseOf nothingResponse (tableView answer)) r ⌝ }
 {
     match answer {
         TableAnswer::Refused(number) => Served {
@@ -119,7 +120,7 @@ pub fn compact(h: Header, rows: &mut [u32], keys: &mut [u32], sorts: &mut [u32])
 
 // The header and the response after a merge.
 fn respond_merge(h: Header, answer: MergeAnswer) -> Served
-    ensures { λ r. ⌜ ServedWith (headerMerged h (mergeView answer)) (responseOf mergeResponse (mergeView answer)) r ⌝ }
+    ensures { λ r. ⌜ ServedWith (ifAccepted (mergeView answer) (λ m. m .header) h) (responseOf mergeResponse (mergeView answer)) r ⌝ }
 {
     match answer {
         MergeAnswer::Refused(number) => Served {

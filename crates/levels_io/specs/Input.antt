@@ -1,7 +1,7 @@
 -- Standard input as the program sees it: what a read returned, the unread bytes of the chunk, and the line so far. The contract of
 -- `read` does not state that it stores the next bytes of the input, as many as it returns, at the start of the chunk.
 -- Assumes nothing.
-use Prim.Native.Nat.{ℕ, _-_, _≤_, min}
+use Prim.Native.Nat.{ℕ, _-_, min}
 use mathlib.Core.Path.{_≡_}
 use mathlib.Core.Logic.{_⊎_}
 use mathlib.Core.Bool.{false}
@@ -19,12 +19,6 @@ bytesRead (negsuc error) = 0
 -- the bytes of the chunk that are not taken yet
 abbrev pub unread : List ℕ → Input → List ℕ
 unread chunk input = take (input .end - input .next) (drop (input .next) chunk)
-
--- the unread bytes are within the bytes of the last read, and these are within the chunk
-pub record InputIn (chunk : List ℕ) (input : Input) : Type 0 where
-  pub ordered : input .next ≤ input .end
-  pub counted : input .end ≡ bytesRead (input .got)
-  pub inside : input .end ≤ length chunk
 
 -- the input is over: the last read returned no byte, or all of 2^64 − 1 reads are made
 abbrev pub AtEnd : Input → Type 0

@@ -3,8 +3,8 @@ ghost use Prim.Native.Nat.{_-_, _≤_, _<_};
 ghost use mathlib.Core.Path.{_≡_};
 ghost use mathlib.Core.List.{[], _∷_};
 ghost use lib.ListN.{length as len, take, drop};
-ghost use Rattle.levels_io.specs.Input.{bytesRead, unread, InputIn};
-ghost use Rattle.levels_io.specs.inner.Scanning.{Pushed, Scanned};
+ghost use Rattle.levels_io.specs.Input.{bytesRead, unread};
+ghost use Rattle.levels_io.specs.inner.Scanning.{Pushed, Scanned, InputIn};
 ghost use Rattle.levels_io.specs.inner.Taking.{Refilled, EndTested, LineTaken};
 use libc::STDIN_FILENO;
 

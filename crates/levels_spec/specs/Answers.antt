@@ -10,7 +10,7 @@ use Rattle.plain_table.specs.Plain.{Plain}
 use Rattle.plain_table.specs.Refusing.{Lengths}
 use Rattle.table.specs.Refusing.{outside}
 use Rattle.table.specs.Contracts.{Stores, compactionWords, lengthsLent, Represents}
-use Rattle.levels_spec.specs.Response.{LineResult, lineResult}
+use Rattle.levels_spec.specs.Response.{lineResult}
 
 -- The table that a header and stores hold. Before the first accepted O there is none, and check 1 refuses the header.
 pub data Held : Option Plain → Stores → Type 0 where
@@ -21,12 +21,9 @@ pub data Held : Option Plain → Stores → Type 0 where
 abbrev pub lent : Stores → Lengths
 lent s = lengthsLent s (compactionWords (replicate 16 0) (replicate 16 0))
 
--- the result of a line: its text is the first `used` bytes of the text, and the stores hold its table
-pub record ResultStored (result : LineResult) (s : Stores) (text : List ℕ) (used : ℕ) : Type 0 where
-  pub text-is : take used text ≡ result .text
-  pub held : Held (result .table) s
-
--- A line is answered: for every table that the stores hold before, the text and the table after are those that `lineResult` defines.
+-- A line is answered: for every table that the stores hold before, the first `used` bytes of the text and the table that the stores hold
+-- afterwards are those that `lineResult` defines.
 pub record Answering (line : List ℕ) (s s′ : Stores) (text : List ℕ) (used : ℕ) : Type 0 where
   pub inside : used ≤ length text
-  pub answers : (t : Option Plain) → Held t s → ResultStored (lineResult (lent s) t line) s′ text used
+  pub answers : (t : Option Plain) → Held t s
+      → (take used text ≡ lineResult (lent s) t line .text) × Held (lineResult (lent s) t line .table) s′

@@ -1,16 +1,16 @@
 -- What `levels` prints (document 01, "The program `levels`"): the text that a line prints and the table after it, as a function of
 -- the line and the table before it. Defined over the plain table; bytes are numbers, in ASCII. Assumes nothing.
 use Prim.Native.Nat.{ℕ}
-use mathlib.Core.Bool.{true, false, cond}
+use mathlib.Core.Bool.{Bool, true, false, cond}
 use mathlib.Core.List.{List, [], _∷_}
-use mathlib.Core.Option.{Option, none, some}
+use mathlib.Core.Option.{Option, none, some, Option·elim}
 use lib.ListN.{length, drop, getD}
 use lib.Dec.{ltb, eqb}
 use Rattle.offsets.specs.Subsets.{Subset, range, list}
 use Rattle.constraints.specs.declared.Constraint.{Constraint}
 use Rattle.constraints.specs.Constraints.{known}
 use Rattle.constraints.specs.Encoding.{conditionIn}
-use Rattle.plain_table.specs.Staged.{Opening, insert, removeKey, removeRow}
+use Rattle.plain_table.specs.Staged.{Opening, insert, removeKey, removeRow, openingIn}
 use Rattle.plain_table.specs.Refusing.{Lengths, openRefusal}
 use Rattle.plain_table.specs.Plain.{Plain, opened, added, merged}
 use Rattle.plain_table.specs.Calls.{Call, staging, merging, compacting, clearing, refusal, after}
@@ -39,8 +39,7 @@ openNumber l o = cond (ltb 1024 (o .capacity)) 11 (openRefusal o l)
 
 -- O: an accepted opening prints nothing; a refused one leaves the old table
 unfoldable pub opens : Lengths → Option Plain → Opening → ℕ → LineResult
-opens l t o generation =
-    printing (replied (openNumber l o) []) (cond (eqb (openNumber l o) 0) (some (opened o generation)) t)
+opens l t o generation = printing (replied (openNumber l o) []) (cond (eqb (openNumber l o) 0) (some (opened o generation)) t)
 
 -- I, R, K, M, C and G: a call, and the text that it prints unless it is refused
 unfoldable pub calls : Lengths → Plain → Call → List ℕ → LineResult
@@ -68,19 +67,10 @@ rangeText (some (list ids)) = []
 unfoldable pub versionText : Plain → List ℕ
 versionText p = textLine 86 (p .generation ∷ length (p .rows) ∷ [])
 
--- "T,4,2,3,1,0 (columns, keys, sort, rule, generation)", then "D,7,1,163,12 (each live row, rising)": the table's listing in the old
--- form
-unfoldable pub listText : Plain → List ℕ
-listText p = listingText false (tableListing false (p .opening) (p .generation) (p .rows))
-
--- "the new form, which `levels` prints for a line U" (document 02, change 11)
-unfoldable pub numberedText : Plain → List ℕ
-numberedText p = listingText true (tableListing true (p .opening) (p .generation) (p .rows))
-
--- "O,columns,keys,sort,rule,capacity,generation"
-abbrev pub openingIn : List ℕ → Opening
-openingIn ns =
-    record { columns = getD ns 0 0; keys = getD ns 1 0; sort = getD ns 2 0; rule = getD ns 3 0; capacity = getD ns 4 0 }
+-- the table's listing: in the old form "T,4,2,3,1,0 (columns, keys, sort, rule, generation)", then "D,7,1,163,12 (each live row,
+-- rising)"; or "the new form, which `levels` prints for a line U" (document 02, change 11)
+unfoldable pub listText : Bool → Plain → List ℕ
+listText numbered p = listingText numbered (tableListing numbered (p .opening) (p .generation) (p .rows))
 
 -- A line on a table, by its letter: "I,cells" (73), "R,key cells" (82), "K,row,key cells" (75), M (77), "C clear" (67), "G compact"
 -- (71), "F,kind,a,b" (70), which is refused with 6 if its kind or column is not known, V (86), U (85), else L.
@@ -94,17 +84,15 @@ served l p letter ns =
     (cond (eqb letter 71) (calls l p compacting [])
     (cond (eqb letter 70) (queries p (cond (known (p .opening .columns) (conditionIn ns 0)) 0 6) (rangeText (fastSubsetOf p (conditionIn ns 0))))
     (cond (eqb letter 86) (queries p 0 (versionText p))
-    (cond (eqb letter 85) (queries p 0 (numberedText p)) (queries p 0 (listText p))))))))))
+    (cond (eqb letter 85) (queries p 0 (listText true p)) (queries p 0 (listText false p))))))))))
 
 -- "before O every table line prints X,1"
 unfoldable pub onTable : Option Plain → (Plain → LineResult) → LineResult
-onTable none line = printing (replied 1 []) none
-onTable (some p) line = line p
+onTable t line = Option·elim t (printing (replied 1 []) none) line
 
--- a line of a valid form, by its letter and numbers; O is 79
+-- a line of a valid form, by its letter and numbers; "O,columns,keys,sort,rule,capacity,generation" is 79
 unfoldable pub result : Lengths → Option Plain → ℕ → List ℕ → LineResult
-result l t letter ns =
-    cond (eqb letter 79) (opens l t (openingIn ns) (getD ns 5 0)) (onTable t (λ p. served l p letter ns))
+result l t letter ns = cond (eqb letter 79) (opens l t (openingIn ns) (getD ns 5 0)) (onTable t (λ p. served l p letter ns))
 
 -- any line, given as bytes: "11 is a line not of these forms"
 unfoldable pub lineResult : Lengths → Option Plain → List ℕ → LineResult

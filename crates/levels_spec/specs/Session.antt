@@ -5,6 +5,7 @@ use mathlib.Core.Bool.{cond}
 use mathlib.Core.List.{List, [], _∷_, _++_}
 use mathlib.Core.Option.{Option, none}
 use lib.Dec.{eqb}
+use Rattle.levels_text.specs.Lines.{prependToFirst}
 use Rattle.plain_table.specs.Refusing.{Lengths}
 use Rattle.plain_table.specs.Plain.{Plain}
 use Rattle.levels_spec.specs.Response.{lineResult}
@@ -12,11 +13,6 @@ use Rattle.levels_spec.specs.Response.{lineResult}
 -- "Its capacity is at most 1,024, over a row store of 8,192 cells and 2,048 pending words": the other stores fit as many rows
 abbrev pub programLengths : Lengths
 programLengths = record { rows = 8192; keys = 2048; sorts = 2048; pending = 2048; liveWords = 16; baseWords = 16 }
-
--- prepends a byte to the first of these lines
-unfoldable pub prependToFirst : ℕ → List (List ℕ) → List (List ℕ)
-prependToFirst byte [] = (byte ∷ []) ∷ []
-prependToFirst byte (line ∷ lines) = (byte ∷ line) ∷ lines
 
 -- the lines of an input: the bytes before each newline (10), and the bytes after the last newline, if there are any
 unfoldable pub linesIn : List ℕ → List (List ℕ)
@@ -26,13 +22,7 @@ linesIn (byte ∷ bytes) = cond (eqb byte 10) ([] ∷ linesIn bytes) (prependToF
 -- the text that lines print, in order, from a given table on
 unfoldable pub session : Option Plain → List (List ℕ) → List ℕ
 session t [] = []
-session t (line ∷ lines) =
-    lineResult programLengths t line .text ++ session (lineResult programLengths t line .table) lines
-
--- the table after lines
-unfoldable pub tableAfter : Option Plain → List (List ℕ) → Option Plain
-tableAfter t [] = t
-tableAfter t (line ∷ lines) = tableAfter (lineResult programLengths t line .table) lines
+session t (line ∷ lines) = lineResult programLengths t line .text ++ session (lineResult programLengths t line .table) lines
 
 -- the text that an input prints
 unfoldable pub printed : List ℕ → List ℕ

@@ -7,14 +7,15 @@ use lib.ListN.{length, getD, drop}
 use lib.Dec.{leb, ltb, eqb}
 use Rattle.lists.specs.Lists.{all}
 
+-- adds a byte at the front of the first of these texts
+unfoldable pub prependToFirst : ℕ → List (List ℕ) → List (List ℕ)
+prependToFirst byte [] = (byte ∷ []) ∷ []
+prependToFirst byte (text ∷ texts) = (byte ∷ text) ∷ texts
+
 -- "comma-parted fields": the bytes before, between and after the commas
 unfoldable pub fields : List ℕ → List (List ℕ)
 fields [] = [] ∷ []
-fields (byte ∷ bytes) = cond (eqb byte 44) ([] ∷ fields bytes) (longer byte (fields bytes))
-  where
-    longer : ℕ → List (List ℕ) → List (List ℕ)
-    longer byte [] = []
-    longer byte (field ∷ rest) = (byte ∷ field) ∷ rest
+fields (byte ∷ bytes) = cond (eqb byte 44) ([] ∷ fields bytes) (prependToFirst byte (fields bytes))
 
 -- the value of digits, given the value of the digits before them
 unfoldable pub valueFrom : ℕ → List ℕ → ℕ
@@ -31,8 +32,7 @@ isDecimal field =
 
 -- a letter and decimals, "at most 120 characters"
 unfoldable pub isLine : List ℕ → Bool
-isLine bytes =
-    leb (length bytes) 120 && eqb (length (getD (fields bytes) 0 [])) 1 && all isDecimal (drop 1 (fields bytes))
+isLine bytes = leb (length bytes) 120 && eqb (length (getD (fields bytes) 0 [])) 1 && all isDecimal (drop 1 (fields bytes))
 
 -- the letter and the numbers of a line
 unfoldable pub letter : List ℕ → ℕ

@@ -1,13 +1,13 @@
 -- The transitions of the scan: its start, one row processed, and its final state. Assumes nothing.
 use Rattle.listing_check.proofs.Prelude.{ℕ, suc, _+_, _-_, _≤_, _<_, _≡_, refl, sym, ap, _∙_, Bool, true, false, cond, not, Bool·beq, false≢true, List, [], _∷_, decLt, ℕ-discrete, arith, lt-ltb, le-ltb, eq-eqb, ne-eqb, eqb-true, length, take, drop, getD, drop-of-length-le, List·getD-eq-default, drop-cons, Option, none, some, add-one, eqb, above-head, above-cons, above-weaker, Constraint, textGood, listingIn, text-shown, text-wrong, shown-listing, Survey, Right, Misplaced, Wrong, CheckAnswer, Refused, Checked, CheckScan, misplaced-none, above-kept, right-rising}
 use Rattle.lists.specs.Lists.{filter, all, above}
-use Rattle.refusals.specs.Refusals.{firstRefusal, accepted, reply}
+use Rattle.refusals.specs.Refusals.{check, firstRefusal, accepted, reply}
 use Rattle.constraints.specs.Constraints.{known, met, meets}
 use Rattle.listing_spec.specs.Listings.{rowNumbers}
 use Rattle.listing_parse.specs.inner.Surveys.{headOf, Listed}
 use Rattle.listing_parse.specs.Laws.Steps.{rowsFrom, none-from}
 use Rattle.listing_check.specs.declared.Row.{Row}
-use Rattle.listing_check.specs.Answers.{rightNumbers, misplaced, wrongNumbers, lowest, findingOf, verdictOn, verdictOf, verdictView, checkRefusal, checkView, AnswersChecked}
+use Rattle.listing_check.specs.Answers.{rightNumbers, misplaced, wrongNumbers, lowest, verdictFor, verdictOn, checkView, checkReply, AnswersChecked}
 use Rattle.listing_check.specs.inner.Scanning.{firstApart, rightAmong, unlessWrong, RowRead, rowsLeft, Underway, finishedAs, Stepped, closed}
 use Rattle.listing_check.proofs.Apart.{apart-same, apart-left, apart-right, lowest-first}
 
@@ -19,8 +19,8 @@ settle {given = given} p = record { whole = λ l. absurd (omega arith); due = λ
 
 -- ---- the beginning
 
-view-right : (o : Option ℕ) → checkView (unlessWrong (Checked Right) o) ≡ accepted (findingOf none o)
-unfolding checkView verdictView unlessWrong findingOf
+view-right : (o : Option ℕ) → checkView (unlessWrong (Checked Right) o) ≡ accepted (verdictFor none o)
+unfolding checkView unlessWrong verdictFor
 view-right none = refl
 view-right (some n) = refl
 
@@ -35,17 +35,17 @@ left-from text at e =
 
 module _ (text : List ℕ) (conditions : List Constraint) (given : List ℕ) where
   pub no-listing : textGood true text ≡ false → AnswersChecked text conditions given (Refused 11)
-  unfolding checkView checkRefusal reply
+  unfolding checkView checkReply
   no-listing e = record { listing = none; shown = text-wrong true text e; answers = refl }
 
   module _ (s : Survey) (l : Listed true text s) where
-    refusal-is : checkRefusal (some (listingIn text)) conditions ≡ cond (not (all (known (s .columns)) conditions)) 6 0
-    unfolding checkRefusal firstRefusal headOf
+    refusal-is : firstRefusal (check (not (all (known (getD (listingIn text .head) 0 0)) conditions)) 6 ∷ []) ≡ cond (not (all (known (s .columns)) conditions)) 6 0
+    unfolding firstRefusal headOf
     refusal-is = rw (l .head)
 
     answered : {answer : CheckAnswer} → checkView answer ≡ reply (cond (not (all (known (s .columns)) conditions)) 6 0) (verdictOn given (rightNumbers conditions (listingIn text)))
         → AnswersChecked text conditions given answer
-    unfolding verdictOf
+    unfolding checkReply
     answered e = record { listing = some (listingIn text); shown = text-shown true text (l .of-form); answers = rw refusal-is e }
 
     pub unknown : all (known (s .columns)) conditions ≡ false → AnswersChecked text conditions given (Refused 6)
@@ -54,14 +54,14 @@ module _ (text : List ℕ) (conditions : List Constraint) (given : List ℕ) whe
 
     module _ (knows : all (known (s .columns)) conditions ≡ true) where
       pub out-of-place : {place : ℕ} → misplaced given ≡ some place → AnswersChecked text conditions given (Checked (Misplaced place))
-      unfolding checkView verdictView reply verdictOn findingOf
+      unfolding checkView reply verdictOn verdictFor
       out-of-place e = answered (rw (knows, e))
 
       pub begin : misplaced given ≡ none → Underway (s .columns) text conditions given (record { answer = Checked Right; start = s .start; end = length text; place = 0 })
       begin e = record {
         whole = λ h. refl;
         due = λ h. record { narrow = l .narrow; before = h; valid-rows = record { count = s .count; least = 0; left = 65536; good = l .good } };
-        comes = answered (view-right (firstApart given (rightAmong conditions (rowsLeft text at))) ∙ ap (λ o. accepted (findingOf none o)) parts ∙ sym reply-is);
+        comes = answered (view-right (firstApart given (rightAmong conditions (rowsLeft text at))) ∙ ap (λ o. accepted (verdictFor none o)) parts ∙ sym reply-is);
       }
         where
           at : CheckScan
@@ -78,7 +78,7 @@ module _ (text : List ℕ) (conditions : List Constraint) (given : List ℕ) whe
               ap (λ (rows : List (List ℕ)). firstApart given (rightAmong conditions rows)) rows-are
               ∙ unfold rightAmong rightNumbers in sym (lowest-first given right (misplaced-none given e) (right-rising conditions (listingIn text) (shown-listing (text-shown true text (l .of-form)))))
 
-          reply-is : reply (cond (not (all (known (s .columns)) conditions)) 6 0) (verdictOn given right) ≡ accepted (findingOf none (lowest (wrongNumbers given right)))
+          reply-is : reply (cond (not (all (known (s .columns)) conditions)) 6 0) (verdictOn given right) ≡ accepted (verdictFor none (lowest (wrongNumbers given right)))
           reply-is = rw knows (unfold reply verdictOn in rw e)
 
 -- ---- one row processed

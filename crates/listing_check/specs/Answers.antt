@@ -39,45 +39,29 @@ unfoldable pub lowest : List ℕ → Option ℕ
 lowest [] = none
 lowest (n ∷ ns) = some (foldl min n ns)
 
--- the checker's answers: "It says yes", "the place, from 0, of the first number not above the one before", "the lowest row number
--- wrongly present or absent"
-pub data Finding : Type 0 where
-  correct : Finding
-  outOfOrder : ℕ → Finding
-  lowestWrong : ℕ → Finding
+-- "It says yes" (`Right`), "or, if the list is not strictly rising, the place" (`Misplaced`); else "the lowest row number wrongly
+-- present or absent" (`Wrong`)
+unfoldable pub verdictFor : Option ℕ → Option ℕ → Verdict
+verdictFor (some place) wrong = Misplaced place
+verdictFor none (some number) = Wrong number
+verdictFor none none = Right
 
--- the finding that each case of the enum represents
-unfoldable pub verdictView : Verdict → Finding
-verdictView Right = correct
-verdictView (Misplaced place) = outOfOrder place
-verdictView (Wrong number) = lowestWrong number
-
--- "or, if the list is not strictly rising, the place"; else "the lowest row number wrongly present or absent", and yes if there is none
-unfoldable pub findingOf : Option ℕ → Option ℕ → Finding
-findingOf (some place) wrong = outOfOrder place
-findingOf none (some number) = lowestWrong number
-findingOf none none = correct
-
-unfoldable pub verdictOn : List ℕ → List ℕ → Finding
-verdictOn given right = findingOf (misplaced given) (lowest (wrongNumbers given right))
-
--- the finding for the listing of a text, if it has one
-unfoldable pub verdictOf : Option Listing → List Constraint → List ℕ → Finding
-verdictOf none conditions given = correct
-verdictOf (some l) conditions given = verdictOn given (rightNumbers conditions l)
-
--- "After 11 comes 6, as for any condition"
-unfoldable pub checkRefusal : Option Listing → List Constraint → ℕ
-checkRefusal none conditions = 11
-checkRefusal (some l) conditions = firstRefusal (check (not (all (known (getD (l .head) 0 0)) conditions)) 6 ∷ [])
+unfoldable pub verdictOn : List ℕ → List ℕ → Verdict
+verdictOn given right = verdictFor (misplaced given) (lowest (wrongNumbers given right))
 
 -- the reply that an answer represents
-unfoldable pub checkView : CheckAnswer → Reply Finding
+unfoldable pub checkView : CheckAnswer → Reply Verdict
 checkView (Refused n) = refused n
-checkView (Checked verdict) = accepted (verdictView verdict)
+checkView (Checked verdict) = accepted verdict
+
+-- "After 11 comes 6, as for any condition"
+unfoldable pub checkReply : Option Listing → List Constraint → List ℕ → Reply Verdict
+checkReply none conditions given = refused 11
+checkReply (some l) conditions given =
+    reply (firstRefusal (check (not (all (known (getD (l .head) 0 0)) conditions)) 6 ∷ [])) (verdictOn given (rightNumbers conditions l))
 
 -- The contract of the check. It writes to no store.
 pub record AnswersChecked (text : List ℕ) (conditions : List Constraint) (given : List ℕ) (answer : CheckAnswer) : Type 0 where
   pub listing : Option Listing
   pub shown : ParsesAs true text listing
-  pub answers : checkView answer ≡ reply (checkRefusal listing conditions) (verdictOf listing conditions given)
+  pub answers : checkView answer ≡ checkReply listing conditions given

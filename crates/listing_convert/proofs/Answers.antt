@@ -71,9 +71,12 @@ unfolding textView convertRefusal reply
 converted-wrong numbered text output e = record {
   listing = none;
   shown = text-wrong numbered text e;
-  answers = refl;
-  written = λ zero. absurd (omega (arith, zero));
-  unchanged = λ more. refl;
+  effect =
+      record {
+        answers = refl;
+        unchanged = λ more. refl;
+        written = λ zero. absurd (omega (arith, zero));
+      };
 }
 
 module _ (numbered : Bool) (l : Listing) (output : ℕ) where
@@ -101,11 +104,14 @@ module _ (numbered : Bool) (text : List ℕ) (s : Survey) (l : Listed numbered t
   refused-with n some-number e = record {
     listing = some (listingIn text);
     shown = text-shown numbered text (l .of-form);
-    answers =
-        reply-refused (textView (Refused n)) (convertRefusal numbered (some (listingIn text)) (length output)) n (length (convertedText numbered (some (listingIn text)))) (view-refused n) (sym e)
-        (λ z. omega (arith, some-number, z));
-    written = λ zero. absurd (omega (arith, zero, e, some-number));
-    unchanged = λ more. refl;
+    effect =
+        record {
+          answers =
+              reply-refused (textView (Refused n)) (convertRefusal numbered (some (listingIn text)) (length output)) n (length (convertedText numbered (some (listingIn text)))) (view-refused n) (sym e)
+              (λ z. omega (arith, some-number, z));
+          unchanged = λ more. refl;
+          written = λ zero. absurd (omega (arith, zero, e, some-number));
+        };
   }
 
   module _ {missing : Bool} (tested : missing ≡ (numbered && not (eqb (s .rows) (s .count)))) where
@@ -137,9 +143,12 @@ module _ (numbered : Bool) (text : List ℕ) (s : Survey) (l : Listed numbered t
           converted-done {output′} {bytes} a = record {
             listing = some (listingIn text);
             shown = text-shown numbered text (l .of-form);
-            answers = answered;
-            written = λ zero. appended-put a;
-            unchanged = λ more. absurd (omega (arith, more, none-given));
+            effect =
+                record {
+                  answers = answered;
+                  unchanged = λ more. absurd (omega (arith, more, none-given));
+                  written = λ zero. appended-put a;
+                };
           }
             where
               none-given : convertRefusal numbered (some (listingIn text)) (length output) ≡ 0

@@ -50,9 +50,12 @@ module _ (numbered : Bool) (text : List ℕ) (s : Survey) (l : Listed numbered t
     read-short short = record {
       listing = some (listingIn text);
       shown = text-shown numbered text (l .of-form);
-      answers = rw refuses (unfold reply in refl);
-      written = λ zero. absurd (omega (arith, zero, refuses));
-      unchanged = λ more. refl;
+      effect =
+          record {
+            answers = rw refuses (unfold reply in refl);
+            unchanged = λ more. refl;
+            written = λ zero. absurd (omega (arith, zero, refuses));
+          };
     }
       where
         refuses : readRefusal (some (listingIn text)) (length output) ≡ 2
@@ -64,9 +67,12 @@ module _ (numbered : Bool) (text : List ℕ) (s : Survey) (l : Listed numbered t
     read-done room put = record {
       listing = some (listingIn text);
       shown = text-shown numbered text (l .of-form);
-      answers = rw accepts (unfold reply readWords in rw (l .head, l .counted));
-      written = λ zero. put ∙ ap (λ (rs : List (List ℕ)). splice output 0 (flatten rs)) rows-there ∙ unfold listingCells in refl;
-      unchanged = λ more. absurd (omega (arith, more, accepts));
+      effect =
+          record {
+            answers = rw accepts (unfold reply readWords in rw (l .head, l .counted));
+            unchanged = λ more. absurd (omega (arith, more, accepts));
+            written = λ zero. put ∙ ap (λ (rs : List (List ℕ)). splice output 0 (flatten rs)) rows-there ∙ unfold listingCells in refl;
+          };
     }
       where
         accepts : readRefusal (some (listingIn text)) (length output) ≡ 0
@@ -77,9 +83,12 @@ unfolding readView readRefusal reply
 read-wrong numbered text output e = record {
   listing = none;
   shown = text-wrong numbered text e;
-  answers = refl;
-  written = λ zero. absurd (omega (arith, zero));
-  unchanged = λ more. refl;
+  effect =
+      record {
+        answers = refl;
+        unchanged = λ more. refl;
+        written = λ zero. absurd (omega (arith, zero));
+      };
 }
 
 -- at most 65,536 rows of nine numbers

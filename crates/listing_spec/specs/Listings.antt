@@ -9,7 +9,7 @@
 --
 -- The text U,4,2,3,1,0,3 D,2,7,1,163,12 is of the new form too, but numbers 0 and 1 have no row: its conversion to the old form is
 -- refused with 17.
-use Prim.Native.Nat.{ℕ, suc, _+_, _≤_, _<_}
+use Prim.Native.Nat.{ℕ, suc, _+_}
 use mathlib.Core.Path.{_≡_}
 use mathlib.Core.Bool.{Bool, true, false, cond, not, _&&_}
 use mathlib.Core.List.{List, [], _∷_, _++_, map}
@@ -17,7 +17,7 @@ use mathlib.Core.Option.{Option, none, some}
 use lib.ListN.{length, take, drop, getD}
 use lib.Dec.{leb, ltb, eqb}
 use Rattle.lists.specs.Lists.{splice, all, flatten, iota, rising, elem}
-use Rattle.refusals.specs.Refusals.{check, firstRefusal, Reply, refused, accepted, reply}
+use Rattle.refusals.specs.Refusals.{check, firstRefusal, Reply, refused, accepted, Effect}
 use Rattle.levels_text.specs.Written.{textLine}
 use Rattle.listing_spec.specs.declared.ListingAnswer.{ListingAnswer}
 use Rattle.listing_spec.specs.declared.ListingAnswer.the-variants.{Refused as ReadRefused, Listing as Read}
@@ -111,22 +111,18 @@ readWords (some l) = l .head ++ (length (l .rows) ∷ [])
 -- the reply that an answer represents
 unfoldable pub listingView : ListingAnswer → Reply (List ℕ)
 listingView (ReadRefused n) = refused n
-listingView (Read h) =
-    accepted (h .columns ∷ h .keys ∷ h .sort ∷ h .rule ∷ h .generation ∷ h .listed ∷ [])
+listingView (Read h) = accepted (h .columns ∷ h .keys ∷ h .sort ∷ h .rule ∷ h .generation ∷ h .listed ∷ [])
 
 unfoldable pub numberedView : NumberedAnswer → Reply (List ℕ)
 numberedView (NumberedRefused n) = refused n
-numberedView (NumberedRead h) =
-    accepted (h .columns ∷ h .keys ∷ h .sort ∷ h .rule ∷ h .generation ∷ h .count ∷ h .listed ∷ [])
+numberedView (NumberedRead h) = accepted (h .columns ∷ h .keys ∷ h .sort ∷ h .rule ∷ h .generation ∷ h .count ∷ h .listed ∷ [])
 
 -- The contract of both readers: the cells are at the start of the output, and nothing changes past them; on refusal nothing changes
 -- at all.
 pub record ListingRead (numbered : Bool) (text output : List ℕ) (view : Reply (List ℕ)) (output′ : List ℕ) : Type 0 where
   pub listing : Option Listing
   pub shown : ParsesAs numbered text listing
-  pub answers : view ≡ reply (readRefusal listing (length output)) (readWords listing)
-  pub written : readRefusal listing (length output) ≡ 0 → output′ ≡ splice output 0 (listingCells listing)
-  pub unchanged : 0 < readRefusal listing (length output) → output′ ≡ output
+  pub effect : Effect (readRefusal listing (length output)) view (readWords listing) output output′ (splice output 0 (listingCells listing))
 
 -- ---- conversions
 
@@ -168,20 +164,14 @@ textView (MoveWritten bytes) = accepted bytes
 pub record ListingConverted (numbered : Bool) (text output : List ℕ) (answer : TextAnswer) (output′ : List ℕ) : Type 0 where
   pub listing : Option Listing
   pub shown : ParsesAs numbered text listing
-  pub answers : textView answer ≡ reply (convertRefusal numbered listing (length output)) (length (convertedText numbered listing))
-  pub written : convertRefusal numbered listing (length output) ≡ 0 → output′ ≡ splice output 0 (convertedText numbered listing)
-  pub unchanged : 0 < convertRefusal numbered listing (length output) → output′ ≡ output
-
--- The contract of a conversion back: the text is at the start of the output. It is refused only with 2, and exactly if the output
--- is shorter than the text.
-pub record Restored (text output : List ℕ) (answer : TextAnswer) (output′ : List ℕ) : Type 0 where
-  pub answers : textView answer ≡ reply (firstRefusal (check (ltb (length output) (length text)) 2 ∷ [])) (length text)
-  pub written : length text ≤ length output → output′ ≡ splice output 0 text
-  pub unchanged : length output < length text → output′ ≡ output
+  pub effect : Effect (convertRefusal numbered listing (length output)) (textView answer) (length (convertedText numbered listing)) output output′
+      (splice output 0 (convertedText numbered listing))
 
 -- "coming back restores the text exactly", if the text was in the old form; "New to old and again to new restores it too wherever
--- it is accepted". A text is converted to the other form, and the result is converted back: the result is the text again.
+-- it is accepted". A text is converted to the other form, and the result is converted back: the result is the text again. It is
+-- refused only with 2, and exactly if the output is shorter than the text.
 abbrev pub RestoresText : Bool → Type 0
 RestoresText numbered =
     (text output output′ again again′ : List ℕ) (bytes : ℕ) (answer : TextAnswer) → ListingConverted numbered text output (MoveWritten bytes) output′
-    → ListingConverted (not numbered) (take bytes output′) again answer again′ → Restored text again answer again′
+    → ListingConverted (not numbered) (take bytes output′) again answer again′
+    → Effect (firstRefusal (check (ltb (length again) (length text)) 2 ∷ [])) (textView answer) (length text) again again′ (splice again 0 text)

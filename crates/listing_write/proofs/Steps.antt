@@ -226,9 +226,12 @@ module _ (numbered : Bool) (h : Header) (rows : List ℕ) where
 module _ (numbered : Bool) (h : Header) (rows output : List ℕ) where
   refused-with : (n : ℕ) → 0 < n → writeRefusal numbered h rows (length output) ≡ n → ListingWritten numbered h rows output (Refused n) output
   refused-with n more e = record {
-    answers = reply-refused (textView (Refused n)) (writeRefusal numbered h rows (length output)) n (length (storedText numbered h rows)) (unfold textView in refl) (sym e) (λ z. omega (arith, more, z));
-    written = λ zero. absurd (omega (arith, zero, e, more));
-    unchanged = λ some. refl;
+    effect =
+        record {
+          answers = reply-refused (textView (Refused n)) (writeRefusal numbered h rows (length output)) n (length (storedText numbered h rows)) (unfold textView in refl) (sym e) (λ z. omega (arith, more, z));
+          unchanged = λ some. refl;
+          written = λ zero. absurd (omega (arith, zero, e, more));
+        };
   }
 
   pub refused-outside : outside h ≡ true → ListingWritten numbered h rows output (Refused 1) output
@@ -247,7 +250,10 @@ module _ (numbered : Bool) (h : Header) (rows output : List ℕ) where
           let none : writeRefusal numbered h rows (length output) ≡ 0 = unfold writeRefusal firstRefusal in rw (inside, long, le-ltb (length output) (length (storedText numbered h rows)) fits) in
           let n : end ≡ length (storedText numbered h rows) = omega (arith, a .counted) in
           record {
-            answers = rw (none, n) (unfold textView reply in refl);
-            written = λ zero. appended-put a;
-            unchanged = λ more. absurd (omega (arith, more, none));
+            effect =
+                record {
+                  answers = rw (none, n) (unfold textView reply in refl);
+                  unchanged = λ more. absurd (omega (arith, more, none));
+                  written = λ zero. appended-put a;
+                };
           }

@@ -1,6 +1,6 @@
 -- Steps of an append in the code's form: what an admission implies, by its answer, the key store with the row, and the combined
 -- answers of the parts. Assumes nothing.
-use Rattle.merge_insert.proofs.Prelude.{ℕ, _+_, _*_, _≤_, _<_, _≡_, refl, sym, ap, _∙_, Bool, true, false, false≢true, List, add-zero, arith, length, getD, set, splice, IndexShape, slots, tagged, Fits, PutIs, replace-tail, fits-stores, past-sizeClass, fits-fewer, Rebuilt, Header, Insertion, Admission, Stop, Entries, indexShapeOf, SlotsPast, full-shape-fits, fullIndexShapeOf, Placed, placed, grownTo, Stops, Entered, AdmissionIs, outgrown, KeysGrown, Rebuildable, RebuiltGrown, Growable, Stayed, Grew, NewIs, Replaced, ReplaceIs}
+use Rattle.merge_insert.proofs.Prelude.{ℕ, _+_, _*_, _≤_, _<_, _≡_, refl, sym, ap, _∙_, Bool, true, false, false≢true, List, add-zero, arith, length, getD, set, splice, IndexShape, slots, tagged, Fits, PutIs, replace-tail, fits-stores, past-sizeClass, fits-fewer, Rebuilt, Header, Insertion, Admission, Stop, Entries, indexShapeOf, SamePast, full-shape-fits, fullIndexShapeOf, Placed, placed, grownTo, Stops, Entered, AdmissionIs, outgrown, KeysGrown, Rebuildable, RebuiltGrown, Growable, Stayed, Grew, NewIs, Replaced, ReplaceIs}
 
 -- ---- admissions
 
@@ -56,7 +56,7 @@ module _ (h h′ : Header) (rows′ keys : List ℕ) {Entry : Type 0} (keys′ :
       record { more = λ _. r .sound; stepped = λ f. absurd (false≢true (sym f ∙ e)); past = rw c at (past-sizeClass (h′ .capacity) (h′ .rows) keys keys′ (r .rest)); same = same }
 
   -- the row steps in
-  led-stepped : outgrown h ≡ false → Entry → SlotsPast (h .capacity) keys keys′ → KeysGrown h h′ rows′ keys Entry keys′
+  led-stepped : outgrown h ≡ false → Entry → SamePast (2 * h .capacity) keys keys′ → KeysGrown h h′ rows′ keys Entry keys′
   led-stepped e entry past = record { more = λ f. absurd (false≢true (sym e ∙ f)); stepped = λ _. entry; past = past; same = same }
 
 -- ---- the answers

@@ -1,6 +1,6 @@
 -- The inserts of a merge: one record's turn, by what the insert answers, and what holds at each turn of the loop over the
 -- pending records. Assumes nothing.
-use Rattle.merge_insert.proofs.Prelude.{ℕ, _+_, _≤_, _≡_, refl, sym, ap, _∙_, List, [], _∷_, add-one, arith, length, take, drop, getD, ne-eqb, refused, accepted, insertAll-accepted, insertAll-refused, Header, MergeProgress, Insertion, Unchanged, Appended, Stopped, openingOf, Stores, stores, Represents, SlotsPast, InsertedTable, Insertions, FirstInsert, InsertNext, InsertGoes, InsertedNext, InsertAgrees, Inserting, steps-refl, steps-then, waiting-start, words-some, waiting-next, waiting-kind, waiting-hash, waiting-cells, recounted-refl, recounted-capacity, recounted-then, recounted-waiting}
+use Rattle.merge_insert.proofs.Prelude.{ℕ, _+_, _*_, _≤_, _≡_, refl, sym, ap, _∙_, List, [], _∷_, add-one, arith, length, take, drop, getD, ne-eqb, refused, accepted, insertAll-accepted, insertAll-refused, Header, MergeProgress, Insertion, Unchanged, Appended, Stopped, openingOf, Stores, stores, Represents, SamePast, InsertedTable, Insertions, FirstInsert, InsertNext, InsertGoes, InsertedNext, InsertAgrees, Inserting, steps-refl, steps-then, waiting-start, words-some, waiting-next, waiting-kind, waiting-hash, waiting-cells, recounted-refl, recounted-capacity, recounted-then, recounted-waiting}
 use Rattle.lists.specs.Lists.{filter}
 use Rattle.plain_table.specs.Staged.{Staged, insert, removeKey, removeRow, wordsOf, inserts}
 use Rattle.plain_table.specs.Plain.{Inserted, inserted, insertAll, Plain, insertion}
@@ -178,7 +178,7 @@ pub record Filling (h : Header) (rows keys sorts pending rows′ keys′ sorts�
   pub rows-same : length rows′ ≡ length rows
   pub keys-same : length keys′ ≡ length keys
   pub sorts-same : length sorts′ ≡ length sorts
-  pub past : SlotsPast (h .capacity) keys keys′
+  pub past : SamePast (2 * h .capacity) keys keys′
   pub table : (p : Plain) → Represents p (stores h rows keys sorts pending)
       → Inserts at m p (stores h rows keys sorts pending) (stores (m .header) rows′ keys′ sorts′ pending)
 
@@ -248,7 +248,7 @@ module _ {h : Header} {rows keys sorts pending : List ℕ} (a : Ready h rows key
         header-then : Recounted h (r .header)
         header-then = recounted-then (v .header) (one .header)
 
-        past-then : SlotsPast (h .capacity) keys keys″
+        past-then : SamePast (2 * h .capacity) keys keys″
         past-then = rw (recounted-capacity (v .header)) at (one .past) ∙ v .past
 
         -- the turn of a table's next record

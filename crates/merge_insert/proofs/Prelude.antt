@@ -40,7 +40,7 @@ pub use Rattle.merge_rules.specs.Laws.Rules.{survivor-length, survivor-old}
 pub use Rattle.merge_rules.specs.Rules.{changesFrom, madeFrom, survivor}
 pub use Rattle.plain_table.specs.Laws.Counts.{insertAll-accepted, insertAll-refused}
 pub use Rattle.refusals.specs.Refusals.{accepted, refused}
-pub use Rattle.table.specs.Contracts.{Represents, SlotsPast, Stores, stores}
+pub use Rattle.table.specs.Contracts.{Represents, SamePast, Stores, stores}
 pub use Rattle.table.specs.Laws.Refusals.{full-shape-fits}
 pub use Rattle.table.specs.Numbers.{openingOf}
 pub use Rattle.table.specs.Sound.{indexShapeOf}

@@ -28,7 +28,7 @@ pub use Rattle.merge_pending.specs.Laws.Steps.{steps-refl, steps-then, waiting-
 pub use Rattle.plain_table.specs.Plain.{Plain}
 pub use Rattle.plain_table.specs.Staged.{Staged, insert, removeKey, removeRow}
 pub use Rattle.row_buffer.specs.inner.Rows.{Staled}
-pub use Rattle.table.specs.Contracts.{Represents, SlotsPast, Stores, stores}
+pub use Rattle.table.specs.Contracts.{Represents, SamePast, Stores, stores}
 pub use Rattle.table.specs.Laws.Refusals.{full-shape-fits}
 pub use Rattle.table.specs.Laws.Shown.{in-live}
 pub use Rattle.table.specs.Numbers.{openingOf}

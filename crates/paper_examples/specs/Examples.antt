@@ -6,6 +6,8 @@ use mathlib.Core.Option.{Option, none, some}
 use mathlib.Core.List.{List, [], _∷_, map}
 use lib.ListN.{length}
 use lib.Dec.{leb}
+use Rattle.query_spec.specs.declared.NextPlace.the-variants.{None, At}
+use Rattle.query_spec.specs.declared.NextPlace.{NextPlace}
 use Rattle.lists.specs.Lists.{iota, elem}
 use Rattle.refusals.specs.Refusals.{accepted}
 use Rattle.cells.specs.Cells.{compactHash}
@@ -17,26 +19,21 @@ use Rattle.sort_entries.specs.Entries.{entry, fastRange}
 use Rattle.plain_table.specs.Staged.{insert}
 use Rattle.plain_table.specs.Refusing.{Lengths}
 use Rattle.plain_table.specs.Calls.{Call, staging, merging, afterAll}
-use Rattle.plain_table.specs.Plain.{Plain, opened, added, merged, compacted}
+use Rattle.plain_table.specs.Plain.{Row, Plain, with, opened, added, merged, compacted}
 use Rattle.table.specs.Stores.{headerOf}
 use Rattle.query_spec.specs.Queries.{refineOneReply, refineListReply, pageIds, pageReply}
 
 -- a table of one column whose rows have their number as cell, and which of them are live
 abbrev pub tableOf : ℕ → (ℕ → Bool) → Plain
 tableOf count live =
-    record {
-      opening = record { columns = 1; keys = 1; sort = 0; rule = 0; capacity = 100 };
-      generation = 0;
-      rows = map (λ i. record { live = live i; cells = i ∷ [] }) (iota 0 count);
-      staged = [];
-      largest = some count;
-    }
+    let rows : List Row = map (λ i. record { live = live i; cells = i ∷ [] }) (iota 0 count) in
+    with (opened (record { columns = 1; keys = 1; sort = 0; rule = 0; capacity = 100 }) 0) 0 rows [] (some count)
 
 abbrev pub isSeven : Constraint
 isSeven = record { kind = 1; column = 0; value = 7 }
 
 -- a page of ten live rows: the ids written and the next place
-abbrev pub Pages : Subset → ℕ → ℕ → List ℕ → Option ℕ → Type 0
+abbrev pub Pages : Subset → ℕ → ℕ → List ℕ → NextPlace → Type 0
 Pages subset start n ids next =
     let h = headerOf (tableOf 10 (λ i. true)) in
     (pageIds h (iota 0 100) subset start n [] ≡ ids)
@@ -79,9 +76,9 @@ pub record PaperExamples : Type 0 where
   pub e-one : refineOneReply (headerOf (tableOf 4 (λ i. true))) (5 ∷ 7 ∷ 7 ∷ 5 ∷ iota 0 100) (range 0 4) isSeven 100 ≡ accepted (range 1 3)
   pub e-list : refineListReply (headerOf (tableOf 4 (λ i. true))) (5 ∷ 7 ∷ 7 ∷ 5 ∷ iota 0 100) (range 0 4) (isSeven ∷ []) 100 ≡ accepted (list (1 ∷ 2 ∷ []))
   -- "Page over 0..10 from 4: n = 5 next 9, n = 6 none"
-  pub f : Pages (range 0 10) 4 5 (4 ∷ 5 ∷ 6 ∷ 7 ∷ 8 ∷ []) (some 9) × Pages (range 0 10) 4 6 (4 ∷ 5 ∷ 6 ∷ 7 ∷ 8 ∷ 9 ∷ []) none
+  pub f : Pages (range 0 10) 4 5 (4 ∷ 5 ∷ 6 ∷ 7 ∷ 8 ∷ []) (At 9) × Pages (range 0 10) 4 6 (4 ∷ 5 ∷ 6 ∷ 7 ∷ 8 ∷ 9 ∷ []) None
   -- "Three ids from 1, n = 0: next 1; from 3: none"
-  pub g : Pages (list (2 ∷ 4 ∷ 6 ∷ [])) 1 0 [] (some 1) × Pages (list (2 ∷ 4 ∷ 6 ∷ [])) 3 0 [] none
+  pub g : Pages (list (2 ∷ 4 ∷ 6 ∷ [])) 1 0 [] (At 1) × Pages (list (2 ∷ 4 ∷ 6 ∷ [])) 3 0 [] None
   -- "16 dead of 32 or of 16 stay; 17 of 33 or of 17 go"
   pub h : After 16 32 32 0 × After 16 16 16 0 × After 17 33 16 1 × After 17 17 0 1
   -- "Rows 0, 2, 5 live: 5 becomes 2": as the rows close up, by the live rows before it, and by its word of the bitmap of live rows

@@ -27,27 +27,21 @@ mergeOrClear (feeding rs) merge clear other = other
 unfoldable pub byCall : {A : Type 0} → Plain → LentCall → A → A → A → A
 byCall p c merge clear other = cond (eqb (refusal p (c .lengths) (c .call)) 0) (mergeOrClear (c .call) merge clear other) other
 
--- a number of a merge, computed from the plain table before it; 0 for any other call and for a refused merge
-unfoldable pub mergeCount : (Plain → ℕ) → Plain → LentCall → ℕ
-mergeCount number p c = byCall p c (number p) 0 0
-
--- (change 9) the sum of such numbers over the calls
+-- (change 9) a number of each merge, computed from the plain table before it, summed over the calls; 0 for any other call and for a
+-- refused merge
 unfoldable pub sumOverMerges : (Plain → ℕ) → Plain → List LentCall → ℕ
 sumOverMerges number p [] = 0
-sumOverMerges number p (c ∷ cs) = mergeCount number p c + sumOverMerges number (after p (c .lengths) (c .call)) cs
+sumOverMerges number p (c ∷ cs) = byCall p c (number p) 0 0 + sumOverMerges number (after p (c .lengths) (c .call)) cs
 
 -- "The rows appended are taken from the definition of each merge's steps and not from a stored count": the number of rows that the
 -- steps leave behind those that were there
 abbrev pub mergeAdds : Plain → ℕ
 mergeAdds p = length (mergeAppends p)
 
--- the sort values of rows
-abbrev pub stampsOf : Plain → List (List ℕ) → List ℕ
-stampsOf p rows = map (λ cells. getD cells (p .opening .sort) 0) rows
-
 -- the sort values appended "since opening or the last clear that emptied rows": those after a call, from those before it
 unfoldable pub stampsAfter : List ℕ → Plain → LentCall → List ℕ
-stampsAfter before p c = byCall p c (before ++ stampsOf p (mergeAppends p)) (cond (ltb 0 (length (p .rows))) [] before) before
+stampsAfter before p c =
+    byCall p c (before ++ map (λ cells. getD cells (p .opening .sort) 0) (mergeAppends p)) (cond (ltb 0 (length (p .rows))) [] before) before
 
 -- those after all calls, in order
 unfoldable pub stampsSince : List ℕ → Plain → List LentCall → List ℕ

@@ -106,10 +106,7 @@ below value (some largest) = ltb value largest
 -- "8, row count equals capacity, tested before 9", which (change 7) "is now given for a sort value below that kept value"
 unfoldable pub stop : List ℕ → Plain → ℕ
 stop cells p =
-    firstRefusal
-    (check (leb (p .opening .capacity) (length (p .rows))) 8
-    ∷ check (below (getD cells (p .opening .sort) 0) (p .largest)) 9
-    ∷ [])
+    firstRefusal (check (leb (p .opening .capacity) (length (p .rows))) 8 ∷ check (below (getD cells (p .opening .sort) 0) (p .largest)) 9 ∷ [])
 
 -- the largest value after this one is appended
 unfoldable pub raised : ℕ → Option ℕ → ℕ

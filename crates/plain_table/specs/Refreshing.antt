@@ -27,8 +27,7 @@ mentioning r p = filter (λ row. mentions (r .columns) (r .values) (row .cells))
 
 -- "is staged for removal by row and for insertion with the stamp as its sort cell"
 unfoldable pub restamping : Opening → ℕ → Numbered → List Staged
-restamping o stamp row =
-    removeRow (row .number) (take (o .keys) (row .cells)) ∷ insert (set (row .cells) (o .sort) stamp) ∷ []
+restamping o stamp row = removeRow (row .number) (take (o .keys) (row .cells)) ∷ insert (set (row .cells) (o .sort) stamp) ∷ []
 
 -- the records of these rows, row by row
 unfoldable pub refreshed : Opening → ℕ → List Numbered → List Staged

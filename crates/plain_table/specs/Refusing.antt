@@ -21,8 +21,7 @@ pub record Lengths : Type 0 where
 
 -- "rows, capacity times columns; keys, 2 times capacity; sort entries, 2 times capacity"
 unfoldable pub storesShort : Opening → Lengths → Bool
-storesShort o l =
-    ltb (l .rows) (o .capacity * o .columns) || ltb (l .keys) (2 * o .capacity) || ltb (l .sorts) (2 * o .capacity)
+storesShort o l = ltb (l .rows) (o .capacity * o .columns) || ltb (l .keys) (2 * o .capacity) || ltb (l .sorts) (2 * o .capacity)
 
 -- "compaction words, capacity over 64 rounded up of u64 and of u32"
 unfoldable pub wordsShort : Opening → Lengths → Bool
@@ -51,12 +50,7 @@ openRefusal o l = firstRefusal (check (not (openable o)) 1 ∷ check (storesShor
 -- *Stage*: 1, 3, 5, 7
 unfoldable pub stageChecks : Bool → Opening → ℕ → ℕ → ℕ → Staged → ℕ
 stageChecks outside o count used pending r =
-    firstRefusal
-    (check outside 1
-    ∷ check (wrongWidth o r) 3
-    ∷ check (noSuchRow count r) 5
-    ∷ check (overfull used pending (wordsOf o r)) 7
-    ∷ [])
+    firstRefusal (check outside 1 ∷ check (wrongWidth o r) 3 ∷ check (noSuchRow count r) 5 ∷ check (overfull used pending (wordsOf o r)) 7 ∷ [])
 
 -- *Merge*: 1, 2
 unfoldable pub mergeChecks : Bool → Opening → Lengths → ℕ

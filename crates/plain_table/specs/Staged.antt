@@ -16,17 +16,16 @@ pub record Opening : Type 0 where
   pub rule : ℕ
   pub capacity : ℕ
 
+-- the opening that five words encode
+abbrev pub openingIn : List ℕ → Opening
+openingIn words =
+    record { columns = getD words 0 0; keys = getD words 1 0; sort = getD words 2 0; rule = getD words 3 0; capacity = getD words 4 0 }
+
 -- "their bounds": 1 to 8 columns, 1 to that many keys, a sort column, rules 0 to 3, a capacity of 1 to 65,536
 unfoldable pub openable : Opening → Bool
 openable o =
-    leb 1 (o .columns)
-    && leb (o .columns) 8
-    && leb 1 (o .keys)
-    && leb (o .keys) (o .columns)
-    && ltb (o .sort) (o .columns)
-    && leb (o .rule) 3
-    && leb 1 (o .capacity)
-    && leb (o .capacity) 65536
+    leb 1 (o .columns) && leb (o .columns) 8 && leb 1 (o .keys) && leb (o .keys) (o .columns) && ltb (o .sort) (o .columns)
+    && leb (o .rule) 3 && leb 1 (o .capacity) && leb (o .capacity) 65536
 
 -- a staged record: an insert, a removal by key, a removal by row
 pub data Staged : Type 0 where

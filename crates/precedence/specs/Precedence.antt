@@ -4,7 +4,7 @@ use Prim.Native.Nat.{ℕ, suc, _+_, _/_, _%_}
 use mathlib.Core.Path.{_≡_}
 use mathlib.Core.Bool.{Bool, cond, not, _&&_, _||_}
 use mathlib.Core.List.{List, [], _∷_, _++_}
-use mathlib.Core.Option.{Option, none, some}
+use mathlib.Core.Option.{Option, none, some, Option·elim}
 use lib.ListN.{length, take, drop, getD}
 use lib.Dec.{leb, ltb, eqb}
 use Rattle.lists.specs.Lists.{any, same}
@@ -46,8 +46,7 @@ precedes o column value cells before =
 -- "each live row with a pair's first value in that column needs a live row with the second value there, .."
 unfoldable pub meetsPair : Plain → ℕ → List ℕ → Pair → Bool
 meetsPair p column cells pair =
-    not (eqb (getD cells column 0) (pair .first))
-    || any (λ row. precedes (p .opening) column (pair .second) cells (row .cells)) (liveRows p)
+    not (eqb (getD cells column 0) (pair .first)) || any (λ row. precedes (p .opening) column (pair .second) cells (row .cells)) (liveRows p)
 
 -- the place of the first element that fails a test, if there is one; the first element has place n
 unfoldable pub firstFailing : {A : Type 0} → (A → Bool) → ℕ → List A → Option ℕ
@@ -63,16 +62,11 @@ pub record Failure : Type 0 where
   pub row : ℕ
   pub place : ℕ
 
--- this row with the place of the pair that it fails, or the failure of the others if it fails none
-unfoldable pub failureOr : ℕ → Option ℕ → Option Failure → Option Failure
-failureOr row none others = others
-failureOr row (some place) others = some (record { row = row; place = place })
-
--- the first of these rows that fails
+-- the first of these rows that fails, with the place of the pair
 unfoldable pub failureAmong : Plain → ℕ → List Pair → List Numbered → Option Failure
 failureAmong p column pairs [] = none
 failureAmong p column pairs (row ∷ rows) =
-    failureOr (row .number) (failingPair p column pairs (row .cells)) (failureAmong p column pairs rows)
+    Option·elim (failingPair p column pairs (row .cells)) (failureAmong p column pairs rows) (λ place. some (record { row = row .number; place = place }))
 
 -- "The answer is the lowest row that fails with the place, from 0, of the first pair it fails, or none"
 unfoldable pub precedenceFailure : Plain → ℕ → List Pair → Option Failure

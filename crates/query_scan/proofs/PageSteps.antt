@@ -1,26 +1,27 @@
 -- A page: what its end requires, and its answer. Assumes nothing.
-use Rattle.query_scan.proofs.Prelude.{ℕ, _+_, _-_, _≤_, _<_, min, _≡_, refl, sym, ap, ap₂, _∙_, Bool, false, cond, List, decLt, ℕ-discrete, arith, ltb, length, lt-ltb, le-ltb, splice, filter, refused, accepted, reply-refused, reply-accepted, Constraint, Header, Scan, Page, matches, deadAmong, pageRefusal, visited, nextPlace, pageIds, PageReply, nextView, pageView, pageReply, PageRead, firstPlace, roomRequired, refusalOf, ScanAnswered, CanWrite, Writes, nextOf, nextAt, PageClosed, idsVisited, Option, none, some, NextPlace, None, At, PageAnswer}
+use Rattle.query_scan.proofs.Prelude.{ℕ, _+_, _-_, _≤_, _<_, min, _≡_, refl, sym, ap, ap₂, _∙_, Bool, false, cond, List, decLt, ℕ-discrete, arith, ltb, length, lt-ltb, le-ltb, splice, filter, refused, accepted, reply-refused, reply-accepted, Constraint, Header, Scan, Page, matches, deadAmong, pageRefusal, visited, nextPlace, pageIds, pageView, pageReply, PageRead, firstPlace, roomRequired, refusalOf, ScanAnswered, CanWrite, Writes, nextAt, PageClosed, idsVisited, NextPlace, None, At, PageAnswer}
 use Rattle.offsets.specs.Subsets.{Subset, size}
 use Rattle.offsets.specs.inner.RetainBuilder.{Builds}
+use Rattle.query_spec.specs.declared.Page.{Page as PageNumbers}
 use Rattle.query_spec.specs.declared.PageAnswer.the-variants.{Refused as PageIsRefused, Page as Paged}
 use Rattle.query_scan.proofs.Visits.{length-visited, visited-end, kept-few}
 
 -- ---- the end
 
 module _ (subset : Subset) (next : ℕ) where
-  pub next-some : next < size subset → At next ≡ nextOf (nextAt subset next)
-  unfolding nextAt nextOf
+  pub next-some : next < size subset → At next ≡ nextAt subset next
+  unfolding nextAt
   next-some l = rw (lt-ltb next (size subset) l)
 
-  pub next-none : size subset ≤ next → None ≡ nextOf (nextAt subset next)
-  unfolding nextAt nextOf
+  pub next-none : size subset ≤ next → None ≡ nextAt subset next
+  unfolding nextAt
   next-none l = rw (le-ltb next (size subset) l)
 
 module _ (subset : Subset) (s : Scan) (output : List ℕ) where
   pub page-refused : (s .refused ≡ 0 → ⊥) → PageClosed subset s output (PageIsRefused (s .refused)) output
   page-refused m = record { refuses = λ _. (refl, refl); pages = λ z. absurd (m z) }
 
-  pub page-written : (next : NextPlace) (count : ℕ) (output′ : List ℕ) → s .refused ≡ 0 → next ≡ nextOf (nextAt subset (s .next)) → Writes output (s .found) count output′
+  pub page-written : (next : NextPlace) (count : ℕ) (output′ : List ℕ) → s .refused ≡ 0 → next ≡ nextAt subset (s .next) → Writes output (s .found) count output′
       → PageClosed subset s output (Paged (record { written = count; dead = s .dead; next = next })) output′
   page-written next count output′ z e w =
       record {
@@ -31,16 +32,11 @@ module _ (subset : Subset) (s : Scan) (output : List ℕ) where
 
 -- ---- the answer
 
-next-back : (m : Option ℕ) → nextView (nextOf m) ≡ m
-unfolding nextView nextOf
-next-back none = refl
-next-back (some place) = refl
-
 next-is : (subset : Subset) (start n next : ℕ) → start ≤ size subset → next ≡ start + min n (size subset - start) → nextAt subset next ≡ nextPlace subset start n
 unfolding nextAt nextPlace
 next-is subset start n next l e =
     elim (decLt (start + n) (size subset)) [
-      | yes q ↦ let m : next ≡ start + n = omega arith in ap (λ (i : ℕ). cond (ltb i (size subset)) (some i) none) m
+      | yes q ↦ let m : next ≡ start + n = omega arith in ap (λ (i : ℕ). cond (ltb i (size subset)) (At i) None) m
       | no q ↦
           let a : ltb next (size subset) ≡ false = le-ltb next (size subset) (omega arith) in
           let b : ltb (start + n) (size subset) ≡ false = le-ltb (start + n) (size subset) (omega arith) in
@@ -77,24 +73,24 @@ module _ (h : Header) (rows : List ℕ) (subset : Subset) (start n : ℕ) (condi
       ids : List ℕ
       ids = filter keeps (visited subset start n)
 
-      read : PageReply
+      read : PageNumbers
       read = record { written = length ids; dead = deadAmong h rows (visited subset start n); next = nextPlace subset start n }
 
       dead-is : s .refused ≡ 0 → s .dead ≡ read .dead
       dead-is z = unfold idsVisited in a .counted z .dead
 
-      goes-on : s .refused ≡ 0 → nextView (nextOf (nextAt subset (s .next))) ≡ nextPlace subset start n
+      goes-on : s .refused ≡ 0 → nextAt subset (s .next) ≡ nextPlace subset start n
       goes-on z = unfold idsVisited firstPlace in
           let l : start ≤ size subset = a .within z in
           let k : length (visited subset start n) ≡ min n (size subset - start) = rw (← visited-end subset start n) (length-visited subset start (min n (size subset - start)) (omega arith)) in
-          next-back _ ∙ next-is subset start n (s .next) l (a .counted z .next ∙ ap (λ (i : ℕ). start + i) k)
+          next-is subset start n (s .next) l (a .counted z .next ∙ ap (λ (i : ℕ). start + i) k)
 
-      accepts : s .refused ≡ 0 → pageRefusal h (length rows) subset start n conditions (length output) ≡ 0 → answer ≡ Paged (record { written = length ids; dead = s .dead; next = nextOf (nextAt subset (s .next)) })
+      accepts : s .refused ≡ 0 → pageRefusal h (length rows) subset start n conditions (length output) ≡ 0 → answer ≡ Paged (record { written = length ids; dead = s .dead; next = nextAt subset (s .next) })
           → output″ ≡ splice output 0 ids → PageRead h rows subset start n conditions output answer output″
       accepts y z p q = unfold pageReply pageIds pageView in
           record {
             answers =
-                ap pageView p ∙ ap₂ (λ (d : ℕ) (m : Option ℕ). accepted (record { written = length ids; dead = d; next = m })) (dead-is y) (goes-on y)
+                ap pageView p ∙ ap₂ (λ (d : ℕ) (m : NextPlace). accepted (record { written = length ids; dead = d; next = m })) (dead-is y) (goes-on y)
                 ∙ reply-accepted (accepted read) (pageRefusal h (length rows) subset start n conditions (length output)) read refl z;
             unchanged = λ m. absurd (omega (arith, z, m));
             written = λ _. q;

@@ -13,7 +13,7 @@ ghost use Rattle.offsets.specs.Subsets as subsets;
 ghost use Rattle.offsets.specs.Subsets.{members};
 ghost use Rattle.offsets.specs.inner.RetainBuilder.{CanAdd};
 ghost use Rattle.query_spec.specs.Queries.{matches, deadAmong};
-ghost use Rattle.query_scan.specs.inner.Scanning.{RowInStore, RowNeeded, starts, passes, BeginsAt, CanMove, Moves, Keeps, CanStep, ScanSteps, CanStart, Finished, ScanStarts, ScanAnswered, CanWrite, Writes, whole, CanClose, RefineClosed, nextOf, nextAt, PageClosed, MatchClosed};
+ghost use Rattle.query_scan.specs.inner.Scanning.{RowInStore, RowNeeded, starts, passes, BeginsAt, CanMove, Moves, Keeps, CanStep, ScanSteps, CanStart, Finished, ScanStarts, ScanAnswered, CanWrite, Writes, whole, CanClose, RefineClosed, nextAt, PageClosed, MatchClosed};
 use constraints::Constraint;
 use offsets::SubsetAnswer;
 use offsets::SubsetHead;
@@ -360,7 +360,7 @@ pub fn close_refine(head: SubsetHead, s: Scan, out: &mut [u32]) -> SubsetAnswer
 
 // The place to continue from.
 fn next_place(head: SubsetHead, ids: &[u32], next: u32) -> NextPlace
-    ensures { λ r. ⌜ r ≡ nextOf (nextAt (subsetOf head (now (ids .entry))) next) ⌝ }
+    ensures { λ r. ⌜ r ≡ nextAt (subsetOf head (now (ids .entry))) next ⌝ }
 {
     if (next as usize) < offsets::size(head, ids) {
         return NextPlace::At(next);

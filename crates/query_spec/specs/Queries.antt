@@ -7,6 +7,7 @@ use mathlib.Core.List.{List, [], _∷_, _++_}
 use mathlib.Core.Option.{Option, none, some}
 use lib.ListN.{length, take, drop}
 use lib.Dec.{ltb}
+use Rattle.query_spec.specs.declared.Page.{Page}
 use Rattle.lists.specs.Lists.{splice, filter, count, all, any, rowAt}
 use Rattle.refusals.specs.Refusals.{Check, check, firstRefusal, Reply, refused, accepted, reply}
 use Rattle.offsets.specs.declared.SubsetAnswer.{SubsetAnswer}
@@ -79,37 +80,23 @@ unfoldable pub pageIds : Header → List ℕ → Subset → ℕ → ℕ → List
 pageIds h rows subset start n conditions = filter (matches h rows conditions) (visited subset start n)
 
 -- "the next place or *none*. n = 0 gives the start place back unless nothing remains"
-unfoldable pub nextPlace : Subset → ℕ → ℕ → Option ℕ
-nextPlace subset start n = cond (ltb (start + n) (size subset)) (some (start + n)) none
+unfoldable pub nextPlace : Subset → ℕ → ℕ → NextPlace
+nextPlace subset start n = cond (ltb (start + n) (size subset)) (At (start + n)) None
 
 -- a page answers how many ids were written, how many of those visited have a dead row, and the next place
-pub record PageReply : Type 0 where
-  pub written : ℕ
-  pub dead : ℕ
-  pub next : Option ℕ
-
-unfoldable pub pageReply : Header → List ℕ → Subset → ℕ → ℕ → List Constraint → ℕ → Reply PageReply
+unfoldable pub pageReply : Header → List ℕ → Subset → ℕ → ℕ → List Constraint → ℕ → Reply Page
 pageReply h rows subset start n conditions output =
-    reply
-    (pageRefusal h (length rows) subset start n conditions output)
-    (record {
-      written = length (pageIds h rows subset start n conditions);
-      dead = deadAmong h rows (visited subset start n);
-      next = nextPlace subset start n;
-    })
+    reply (pageRefusal h (length rows) subset start n conditions output)
+    (record { written = length (pageIds h rows subset start n conditions); dead = deadAmong h rows (visited subset start n); next = nextPlace subset start n })
 
 -- the views of the answers
 unfoldable pub matchView : MatchAnswer → Reply Bool
 matchView (MatchRefused n) = refused n
 matchView (Match answer) = accepted answer
 
-unfoldable pub nextView : NextPlace → Option ℕ
-nextView None = none
-nextView (At place) = some place
-
-unfoldable pub pageView : PageAnswer → Reply PageReply
+unfoldable pub pageView : PageAnswer → Reply Page
 pageView (PageRefused n) = refused n
-pageView (Paged page) = accepted (record { written = page .written; dead = page .dead; next = nextView (page .next) })
+pageView (Paged page) = accepted page
 
 -- the contracts
 

@@ -83,8 +83,7 @@ pub record IndexOf (h : Header) (rows index : List ℕ) : Type 0 where
 
 -- "starts afresh if the generation or the columns differ, or if its first word is 0"
 unfoldable pub startsAfresh : Header → List ℕ → List ℕ → Bool
-startsAfresh h columns index =
-    isNew index || not (eqb (generationSeen index) (h .generation)) || not (same (namedIn index) columns)
+startsAfresh h columns index = isNew index || not (eqb (generationSeen index) (h .generation)) || not (same (namedIn index) columns)
 
 -- An index store that is sound for a refresh by these columns: if the refresh continues with it, it is an index of the version last
 -- seen. Nothing is required if the refresh starts afresh, or if a lent store is too short for it.

@@ -36,15 +36,6 @@ recordsFound h rows r found = refreshed (openingOf h) (r .stamp) (filter (λ row
 abbrev pub answered : Header → List Staged → Refreshed
 answered h records = record { header = withPending h (h .pending + wordsAll (openingOf h) records); staged = ltb 0 (length records) }
 
--- the records that were staged, and the header afterwards: if refused, no records and the old header
-unfoldable pub recordsStaged : Reply Refreshed → List Staged → List Staged
-recordsStaged (refused n) records = []
-recordsStaged (accepted a) records = records
-
-unfoldable pub headerRefreshed : Header → Reply Refreshed → Header
-headerRefreshed h (refused n) = h
-headerRefreshed h (accepted a) = a .header
-
 -- Lent are rows (shared), pending and the index store. Whatever the index store holds, the staged records are whole, are in rising
 -- row order, and belong to live rows that mention a value: to those for which `found`, the program's choice, is true. Over a sound
 -- index store `found` is true for every row, and the store is then an index of the current version. Over an unsound one the first

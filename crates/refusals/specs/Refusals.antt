@@ -1,6 +1,7 @@
 -- Refusals: "a refusal gives its number". An operation has a list of checks, in the paper's order; the first that applies gives the
 -- number. Assumes nothing.
-use Prim.Native.Nat.{ℕ, zero, suc}
+use Prim.Native.Nat.{ℕ, zero, suc, _<_}
+use mathlib.Core.Path.{_≡_}
 use mathlib.Core.Bool.{Bool, cond}
 use mathlib.Core.List.{List, [], _∷_}
 
@@ -27,3 +28,15 @@ reply (suc n) value = refused (suc n)
 unfoldable pub outcome : {A : Type 0} → Reply A → Reply (Unit {0})
 outcome (refused n) = refused n
 outcome (accepted value) = accepted tt
+
+-- a function of the value of an accepted reply; the other result if it is refused
+unfoldable pub ifAccepted : {A B : Type 0} → Reply A → (A → B) → B → B
+ifAccepted (refused n) f other = other
+ifAccepted (accepted value) f other = f value
+
+-- What a call that writes one lent store answers and leaves in it: refused, the number of the refusal and the store as it was;
+-- accepted, the value and the store `after`.
+pub record Effect {A B : Type 0} (refusal : ℕ) (answer : Reply A) (value : A) (store store′ after : B) : Type 0 where
+  pub answers : answer ≡ reply refusal value
+  pub unchanged : 0 < refusal → store′ ≡ store
+  pub written : refusal ≡ 0 → store′ ≡ after

@@ -5,11 +5,12 @@ use mathlib.Core.Path.{_≡_, refl, _∙_}
 use mathlib.Core.List.{List}
 use native.Mathlib.Omega.{arith}
 use lib.ListN.{length, take, drop, getD}
+use Rattle.replay_frames.specs.Frames.{framed}
 use Rattle.replay_frames.specs.inner.Lengths.{Cut, Whole}
 use Rattle.replay_frames.specs.Laws.Frames.{framed-end, framed-next}
 use Rattle.plain_table.specs.Refusing.{Lengths}
 use Rattle.table.specs.Contracts.{Stores, CompactionWords}
-use Rattle.replay.specs.Encoding.{requestOf, decoded}
+use Rattle.replay.specs.Encoding.{requestOf}
 use Rattle.replay.specs.inner.Making.{Made}
 use Rattle.replay.specs.Laws.Making.{none-made, made-then}
 
@@ -23,7 +24,7 @@ pub record Going (words : List ℕ) (l l′ : Lengths) (s : Stores) (w : Compact
   pub inside : at ≤ length words
   pub same : l′ ≡ l
   pub index-same : length index′ ≡ length index
-  pub rest : (t : Stores) (v : CompactionWords) (i : List ℕ) → Made (decoded (drop at words)) l s′ w′ index′ t v i → Made (decoded words) l s w index t v i
+  pub rest : (t : Stores) (v : CompactionWords) (i : List ℕ) → Made (framed requestOf (drop at words)) l s′ w′ index′ t v i → Made (framed requestOf words) l s w index t v i
 
 module _ {words : List ℕ} {l : Lengths} {s : Stores} {w : CompactionWords} {index : List ℕ} where
   pub going-begin : Going words l l s w index s w index 0
@@ -45,5 +46,5 @@ module _ {words : List ℕ} {l : Lengths} {s : Stores} {w : CompactionWords} {in
         }
 
     -- no request is left
-    pub going-end : Cut words at → Made (decoded words) l s w index s′ w′ index′
+    pub going-end : Cut words at → Made (framed requestOf words) l s w index s′ w′ index′
     going-end none = v .rest s′ w′ index′ (none-made l s′ w′ index′ (framed-end requestOf none))

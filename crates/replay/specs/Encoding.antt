@@ -5,7 +5,6 @@ use mathlib.Core.Bool.{cond}
 use mathlib.Core.List.{List, [], _∷_}
 use lib.Dec.{eqb, ltb}
 use lib.ListN.{length, take, drop, getD}
-use Rattle.replay_frames.specs.Frames.{framed}
 use Rattle.plain_table.specs.Staged.{insert, removeKey, removeRow}
 use Rattle.plain_table.specs.Calls.{staging, merging, compacting, clearing}
 use Rattle.replay.specs.Requests.{Request, make, refresh}
@@ -27,14 +26,8 @@ refreshIn (columns ∷ words) =
 -- compaction, 5 a clear (3 to 5 ignore their words), 6 a refresh; any other kind is no request
 unfoldable pub requestOf : ℕ → List ℕ → List Request
 requestOf kind words =
-    cond (eqb kind 0)
-    (make (staging (insert words)) ∷ [])
-    (cond (eqb kind 1)
-    (make (staging (removeKey words)) ∷ [])
-    (cond (eqb kind 2)
-    (rowRemoval words)
-    (cond (eqb kind 3) (make merging ∷ []) (cond (eqb kind 4) (make compacting ∷ []) (cond (eqb kind 5) (make clearing ∷ []) (cond (eqb kind 6) (refreshIn words) []))))))
-
--- the requests of a list of words
-abbrev pub decoded : List ℕ → List Request
-decoded words = framed requestOf words
+    cond (eqb kind 0) (make (staging (insert words)) ∷ [])
+    (cond (eqb kind 1) (make (staging (removeKey words)) ∷ [])
+    (cond (eqb kind 2) (rowRemoval words)
+    (cond (eqb kind 3) (make merging ∷ []) (cond (eqb kind 4) (make compacting ∷ []) (cond (eqb kind 5) (make clearing ∷ [])
+    (cond (eqb kind 6) (refreshIn words) []))))))

@@ -1,17 +1,17 @@
 -- Requests, and the calls of a history that they correspond to. Each is lent the whole stores. Refreshes are also lent one whole
 -- index store, as the previous refresh left it. Assumes nothing.
-use Prim.Native.Nat.{ℕ, _+_, _*_}
-use mathlib.Core.Path.{_≡_}
+use Prim.Native.Nat.{ℕ}
 use mathlib.Core.Bool.{Bool, true, false}
-use mathlib.Core.List.{List, [], _∷_, map}
-use lib.ListN.{length, drop}
+use mathlib.Core.List.{List, [], _∷_}
+use lib.ListN.{length}
+use Rattle.refusals.specs.Refusals.{ifAccepted}
 use Rattle.plain_table.specs.Refusing.{Lengths}
 use Rattle.plain_table.specs.Refreshing.{Refresh}
 use Rattle.plain_table.specs.Calls.{Call, refreshing, feeding, LentCall}
 use Rattle.table.specs.Contracts.{Stores}
 use Rattle.refresh_spec.specs.declared.RefreshAnswer.{RefreshAnswer}
 use Rattle.refresh_spec.specs.Index.{IndexSound}
-use Rattle.refresh_spec.specs.Refreshes.{refreshView, recordsFound, recordsStaged, Refreshing}
+use Rattle.refresh_spec.specs.Refreshes.{refreshView, recordsFound, Refreshing}
 use Rattle.history.specs.Histories.{refreshedStores, Called}
 
 -- A refresh is a request of its own: which call of the plain table it corresponds to depends on the index store.
@@ -23,21 +23,9 @@ unfoldable pub isRefresh : Request → Bool
 isRefresh (make c) = false
 isRefresh (refresh r) = true
 
--- the call that a request corresponds to with a sound index store of this length
-unfoldable pub requested : ℕ → Request → Call
-requested index (make c) = c
-requested index (refresh r) = refreshing r index
-
--- "16 words plus 3 for each row of the capacity and named column", of at most eight columns: words past these are never written
-abbrev pub IndexPast : ℕ → List ℕ → List ℕ → Type 0
-IndexPast capacity index index′ = drop (16 + 24 * capacity) index′ ≡ drop (16 + 24 * capacity) index
-
--- each call with these lengths; only a merge and a compaction are lent compaction words
+-- a call with these lengths; only a merge and a compaction are lent compaction words
 abbrev pub lentTo : Lengths → Call → LentCall
 lentTo l c = record { call = c; lengths = l }
-
-abbrev pub lentAll : Lengths → List Call → List LentCall
-lentAll l calls = map (lentTo l) calls
 
 -- one request, its call of the history, and its result: stores of these lengths, and the index store
 pub data Served (l : Lengths) (s : Stores) (index : List ℕ) : Request → Call → Stores → List ℕ → Type 0 where
@@ -50,8 +38,8 @@ pub data Served (l : Lengths) (s : Stores) (index : List ℕ) : Request → Call
   -- "Over such an unsound index store, and nowhere else, it is fed the records that the call staged"
   refreshed-unsound : (r : Refresh) (answer : RefreshAnswer) (pending′ index′ : List ℕ) (m : Refreshing (s .header) (s .rows) (s .pending) index r answer pending′ index′)
       → (IndexSound (s .header) (s .rows) (r .columns) index → ⊥)
-      → Called s (lentTo l (feeding (recordsStaged (refreshView answer) (recordsFound (s .header) (s .rows) r (m .found))))) (refreshedStores s answer pending′)
-      → Served l s index (refresh r) (feeding (recordsStaged (refreshView answer) (recordsFound (s .header) (s .rows) r (m .found)))) (refreshedStores s answer pending′) index′
+      → Called s (lentTo l (feeding (ifAccepted (refreshView answer) (λ a. recordsFound (s .header) (s .rows) r (m .found)) []))) (refreshedStores s answer pending′)
+      → Served l s index (refresh r) (feeding (ifAccepted (refreshView answer) (λ a. recordsFound (s .header) (s .rows) r (m .found)) [])) (refreshedStores s answer pending′) index′
 
 -- the requests one after another, in order
 pub data ServedAll (l : Lengths) : Stores → List ℕ → List Request → List Call → Stores → List ℕ → Type 0 where

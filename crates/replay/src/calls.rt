@@ -1,9 +1,10 @@
 // Executes one request, encoded in words, by its entry point on lent stores.
 ghost use mathlib.Core.Path.{_≡_};
 ghost use Prim.Native.Nat.{_≤_};
+ghost use Rattle.refusals.specs.Refusals.{ifAccepted};
 ghost use Rattle.table.specs.Numbers.{tableView, mergeView};
-ghost use Rattle.table.specs.Contracts.{headerAfter, headerMerged, stores, compactionWords, lengths};
-ghost use Rattle.refresh_spec.specs.Refreshes.{refreshView, headerRefreshed};
+ghost use Rattle.table.specs.Contracts.{stores, compactionWords, lengths};
+ghost use Rattle.refresh_spec.specs.Refreshes.{refreshView};
 ghost use Rattle.replay.specs.Encoding.{refreshIn, requestOf};
 ghost use Rattle.replay.specs.inner.Making.{Made, MadeOnPending, MadeOnIndex};
 use merge::merge;
@@ -35,7 +36,7 @@ const REFRESH: u32 = 6;
 
 // The header after a call. A refused call leaves it unchanged.
 fn header_after(h: Header, answer: TableAnswer) -> Header
-    ensures { λ r. ⌜ r ≡ headerAfter h (tableView answer) ⌝ }
+    ensures { λ r. ⌜ r ≡ ifAccepted (tableView answer) (λ h. h) h ⌝ }
 {
     match answer {
         TableAnswer::Refused(_) => h,
@@ -44,7 +45,7 @@ fn header_after(h: Header, answer: TableAnswer) -> Header
 }
 
 fn header_merged(h: Header, answer: MergeAnswer) -> Header
-    ensures { λ r. ⌜ r ≡ headerMerged h (mergeView answer) ⌝ }
+    ensures { λ r. ⌜ r ≡ ifAccepted (mergeView answer) (λ m. m .header) h ⌝ }
 {
     match answer {
         MergeAnswer::Refused(_) => h,
@@ -53,7 +54,7 @@ fn header_merged(h: Header, answer: MergeAnswer) -> Header
 }
 
 fn header_refreshed(h: Header, answer: RefreshAnswer) -> Header
-    ensures { λ r. ⌜ r ≡ headerRefreshed h (refreshView answer) ⌝ }
+    ensures { λ r. ⌜ r ≡ ifAccepted (refreshView answer) (λ a. a .header) h ⌝ }
 {
     match answer {
         RefreshAnswer::Refused(_) => h,

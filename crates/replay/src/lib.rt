@@ -1,7 +1,6 @@
 // Lists of requests, decoded from words and executed one after another on lent stores, starting with the opening: the claim about
 // histories holds for running code.
 ghost use Rattle.table.specs.Contracts.{stores, body, compactionWords, lengths};
-ghost use Rattle.replay.specs.Encoding.{decoded};
 ghost use Rattle.replay.specs.inner.Making.{Made};
 ghost use Rattle.replay.specs.Replays.{Replayed};
 use calls::make_call;
@@ -10,6 +9,8 @@ use replay_frames::frame_at;
 use table::Header;
 use table::TableAnswer;
 use table_open::open_table;
+ghost use Rattle.replay.specs.Encoding.{requestOf};
+ghost use Rattle.replay_frames.specs.Frames.{framed};
 
 mod calls; // calls.rt: one request decoded and executed
 
@@ -25,7 +26,7 @@ fn make_calls(
     base: &mut [u32],
     index: &mut [u32],
 ) -> Header
-    ensures { λ r. ⌜ Made (decoded (now (calls .entry))) (lengths (now (rows .entry)) (now (keys .entry)) (now (sorts .entry)) (now (pending .entry)) (now (live .entry)) (now (base .entry))) (stores h (now (rows .entry)) (now (keys .entry)) (now (sorts .entry)) (now (pending .entry))) (compactionWords (now (live .entry)) (now (base .entry))) (now (index .entry)) (stores r (now (rows .exit)) (now (keys .exit)) (now (sorts .exit)) (now (pending .exit))) (compactionWords (now (live .exit)) (now (base .exit))) (now (index .exit)) ⌝ }
+    ensures { λ r. ⌜ Made (framed requestOf (now (calls .entry))) (lengths (now (rows .entry)) (now (keys .entry)) (now (sorts .entry)) (now (pending .entry)) (now (live .entry)) (now (base .entry))) (stores h (now (rows .entry)) (now (keys .entry)) (now (sorts .entry)) (now (pending .entry))) (compactionWords (now (live .entry)) (now (base .entry))) (now (index .entry)) (stores r (now (rows .exit)) (now (keys .exit)) (now (sorts .exit)) (now (pending .exit))) (compactionWords (now (live .exit)) (now (base .exit))) (now (index .exit)) ⌝ }
 {
     let mut n = h;
     let mut at: usize = 0;
@@ -67,7 +68,7 @@ pub fn replay(
     base: &mut [u32],
     index: &mut [u32],
 ) -> TableAnswer
-    ensures { λ r. ⌜ Replayed (record { columns = columns; keys = «key_columns»; sort = sort; rule = rule; capacity = capacity }) generation (decoded (now (calls .entry))) (body (now (rows .entry)) (now (keys .entry)) (now (sorts .entry))) (now (pending .entry)) (compactionWords (now (live .entry)) (now (base .entry))) (now (index .entry)) r (body (now (rows .exit)) (now (keys .exit)) (now (sorts .exit))) (now (pending .exit)) (compactionWords (now (live .exit)) (now (base .exit))) (now (index .exit)) ⌝ }
+    ensures { λ r. ⌜ Replayed (record { columns = columns; keys = «key_columns»; sort = sort; rule = rule; capacity = capacity }) generation (framed requestOf (now (calls .entry))) (body (now (rows .entry)) (now (keys .entry)) (now (sorts .entry))) (now (pending .entry)) (compactionWords (now (live .entry)) (now (base .entry))) (now (index .entry)) r (body (now (rows .exit)) (now (keys .exit)) (now (sorts .exit))) (now (pending .exit)) (compactionWords (now (live .exit)) (now (base .exit))) (now (index .exit)) ⌝ }
 {
     let opened = open_table(
         columns,

@@ -13,8 +13,7 @@ module _ {A : Type 0} (of : ℕ → List ℕ → List A) where
   framedAfter n [] = []
   framedAfter (suc n) (word ∷ words) = framedAfter n words
   framedAfter zero (kind ∷ []) = []
-  framedAfter zero (kind ∷ count ∷ words) =
-      cond (leb count (length words)) (of kind (take count words) ++ framedAfter count words) []
+  framedAfter zero (kind ∷ count ∷ words) = cond (leb count (length words)) (of kind (take count words) ++ framedAfter count words) []
 
   abbrev pub framed : List ℕ → List A
   framed words = framedAfter 0 words

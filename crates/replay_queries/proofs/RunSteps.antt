@@ -1,9 +1,11 @@
 -- A run, query by query. Assumes nothing.
-use Rattle.replay_queries.proofs.Prelude.{ℕ, zero, suc, _+_, _-_, _≤_, min, _≡_, refl, sym, ap, _∙_, Bool, false, _||_, List, [], _∷_, _++_, append-assoc, append-nil, arith, length, take, drop, getD, length-take, length-append, Cut, Whole, framed-end, framed-next, Header, Query, refines, Outcome, outcome, or-assoc, or-false, any-both, RunAnswer, queryOf, queriesIn, shorter, RunMade, QueriesExecuted, QueryExecuted, queried-then}
+use Rattle.replay_queries.proofs.Prelude.{ℕ, zero, suc, _+_, _-_, _≤_, min, _≡_, refl, sym, ap, _∙_, Bool, false, _||_, List, [], _∷_, _++_, append-assoc, append-nil, arith, length, take, drop, getD, length-take, length-append, Cut, Whole, framed-end, framed-next, Header, Query, refines, Outcome, outcome, or-assoc, or-false, any-both, RunAnswer, queryOf, shorter, RunMade, QueriesExecuted, QueryExecuted, queried-then}
 use Rattle.lists.specs.Lists.{any}
 use Rattle.offsets.specs.declared.SubsetHead.{SubsetHead}
 use Rattle.offsets.specs.Answers.{subsetOf}
-use Rattle.replay_queries.specs.Outcomes.{idsAt, subsetLeft, behind, QueriedAll, end}
+use Rattle.replay_queries.specs.Outcomes.{idsAt, subsetLeft, QueriedAll, end}
+use Rattle.replay_queries.specs.Laws.Executing.{behind}
+use Rattle.replay_frames.specs.Frames.{framed}
 
 -- the first ids of a list, as they are lent
 pub lent-count : (n : ℕ) (l : List ℕ) → n ≤ length l → n ≡ length (take n l)
@@ -31,9 +33,9 @@ module _ (h : Header) (rows sorts ids words first₀ second₀ : List ℕ) (l₀
     pub early : l .taken ≤ at
     pub accepted : List Query
     pub refined-is : l .refined ≡ (l₀ .refined || any refines accepted)
-    pub taken : l .taken + length (queriesIn (drop at words)) ≡ l₀ .taken + length (queriesIn words)
-    pub rest : (o : Outcome) → QueriedAll h rows sorts (length first₀) (subsetLeft l ids first second) (queriesIn (drop at words)) o
-        → QueriedAll h rows sorts (length first₀) (subsetLeft l₀ ids first₀ second₀) (queriesIn words) (behind accepted o)
+    pub taken : l .taken + length (framed queryOf (drop at words)) ≡ l₀ .taken + length (framed queryOf words)
+    pub rest : (o : Outcome) → QueriedAll h rows sorts (length first₀) (subsetLeft l ids first second) (framed queryOf (drop at words)) o
+        → QueriedAll h rows sorts (length first₀) (subsetLeft l₀ ids first₀ second₀) (framed queryOf words) (behind accepted o)
 
 module _ {h : Header} {rows sorts ids words first₀ second₀ : List ℕ} {l₀ : RunAnswer} where
   pub going-begin : l₀ .count ≡ 0 → l₀ .taken ≡ 0 → length second₀ ≡ length first₀
@@ -61,10 +63,10 @@ module _ {h : Header} {rows sorts ids words first₀ second₀ : List ℕ} {l₀
     going-again {first′} {second′} {l′} {count} here p a b =
         let cells : at + count - (at + 2) ≡ count - 2 = omega arith in
         let q : List Query = queryOf (getD words at 0) (take (count - 2) (drop (at + 2) words)) in
-        let qs : List Query = queriesIn (drop (at + count) words) in
+        let qs : List Query = framed queryOf (drop (at + count) words) in
         let t : QueryExecuted h rows sorts ids q l first second l′ first′ second′ = rw cells at p in
         let queried : List Query = t .execute .accepted in
-        let frame : queriesIn (drop at words) ≡ q ++ qs = framed-next queryOf here in
+        let frame : framed queryOf (drop at words) ≡ q ++ qs = framed-next queryOf here in
         record {
           inside = here .inside;
           first-long = a ∙ v .first-long;
@@ -76,7 +78,7 @@ module _ {h : Header} {rows sorts ids words first₀ second₀ : List ℕ} {l₀
           refined-is = t .execute .refined-is ∙ ap (λ (r : Bool). r || any refines queried) (v .refined-is) ∙ or-assoc (l₀ .refined) (any refines (v .accepted)) (any refines queried)
               ∙ ap (λ (r : Bool). l₀ .refined || r) (sym (any-both refines (v .accepted) queried));
           taken =
-              let sum : length (queriesIn (drop at words)) ≡ length q + length qs = ap length frame ∙ length-append q qs in
+              let sum : length (framed queryOf (drop at words)) ≡ length q + length qs = ap length frame ∙ length-append q qs in
               let both = t .execute .taken in
               omega (arith, sum, both, v .taken);
           rest = λ o more.
@@ -85,14 +87,14 @@ module _ {h : Header} {rows sorts ids words first₀ second₀ : List ℕ} {l₀
         }
 
     -- no query is left
-    pub going-end : Cut words at → QueriesExecuted h rows sorts ids (queriesIn words) l₀ first₀ second₀ l first second
+    pub going-end : Cut words at → QueriesExecuted h rows sorts ids (framed queryOf words) l₀ first₀ second₀ l first second
     going-end none =
-        let frame : queriesIn (drop at words) ≡ [] = framed-end queryOf none in
+        let frame : framed queryOf (drop at words) ≡ [] = framed-end queryOf none in
         record {
           accepted = v .accepted;
           queried = rw (append-nil (v .accepted)) at (v .rest (outcome (subsetLeft l ids first second) []) (rw frame (end (subsetLeft l ids first second))));
           refined-is = v .refined-is;
-          taken = let empty : length (queriesIn (drop at words)) ≡ 0 = ap length frame in omega (arith, empty, v .taken);
+          taken = let empty : length (framed queryOf (drop at words)) ≡ 0 = ap length frame in omega (arith, empty, v .taken);
           fits = v .fits;
         }
 

@@ -28,10 +28,6 @@ unfoldable pub subsetLeft : RunAnswer → List ℕ → List ℕ → List ℕ →
 subsetLeft l ids first second =
     subsetOf (record { dense = l .dense; start = l .start; end = l .end }) (idsAt (l .place) (l .count) ids first second)
 
--- the result of queries after others that were accepted
-abbrev pub behind : List Query → Outcome → Outcome
-behind before o = outcome (o .ids) (before ++ o .accepted)
-
 -- a range step, by the fast range: without one, it has no effect
 unfoldable pub rangeStep : Subset → Constraint → ℕ → Reply (Option Subset) → Outcome
 rangeStep a c output (refused n) = outcome a []
@@ -52,4 +48,4 @@ pub data QueriedAll (h : Header) (rows sorts : List ℕ) (output : ℕ) : Subset
   next : {a : Subset} {q : Query} {qs : List Query} {rest : Outcome} (range : RangeAnswer)
       → ((c : Constraint) → q ≡ intersectRange c → RangeRead h sorts c range)
       → QueriedAll h rows sorts output (queried h rows output a q (rangeView range) .ids) qs rest
-      → QueriedAll h rows sorts output a (q ∷ qs) (behind (queried h rows output a q (rangeView range) .accepted) rest)
+      → QueriedAll h rows sorts output a (q ∷ qs) (outcome (rest .ids) (queried h rows output a q (rangeView range) .accepted ++ rest .accepted))

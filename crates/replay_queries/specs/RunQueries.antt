@@ -3,7 +3,8 @@
 use Prim.Native.Nat.{ℕ, _≤_, min}
 use mathlib.Core.Path.{_≡_}
 use mathlib.Core.List.{List}
-use lib.ListN.{length, drop}
+use lib.ListN.{length}
+use Rattle.table.specs.Contracts.{SamePast}
 use Rattle.lists.specs.Lists.{any}
 use Rattle.offsets.specs.Subsets.{Subset}
 use Rattle.table.specs.declared.Header.{Header}
@@ -28,5 +29,4 @@ module _ (h : Header) (rows sorts : List ℕ) (start : Subset) (ids : List ℕ) 
     -- these and the ids left are the result of the queries, whatever the stores contain
     pub queried : QueriedAll h rows sorts (shorter first second) start queries (outcome (subsetLeft answer ids first′ second′) accepted)
     -- past that length nothing is written; which list has the ids left, and what else is in both, is the program's choice
-    pub past : (drop (shorter first second) first′ ≡ drop (shorter first second) first)
-        × (drop (shorter first second) second′ ≡ drop (shorter first second) second)
+    pub past : SamePast (shorter first second) first first′ × SamePast (shorter first second) second second′

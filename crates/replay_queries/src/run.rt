@@ -2,8 +2,9 @@
 ghost use mathlib.Core.Path.{_≡_};
 ghost use Prim.Native.Nat.{_≤_, _<_};
 ghost use lib.ListN.{length};
+ghost use Rattle.replay_frames.specs.Frames.{framed};
 ghost use Rattle.offsets.specs.Answers.{subsetOf};
-ghost use Rattle.replay_queries.specs.Encoding.{queryOf, queriesIn};
+ghost use Rattle.replay_queries.specs.Encoding.{queryOf};
 ghost use Rattle.replay_queries.specs.RunQueries.{RunMade};
 ghost use Rattle.replay_queries.specs.inner.Running.{QueriesExecuted, QueryExecuted};
 use super::FIRST_LIST;
@@ -81,7 +82,7 @@ fn run_queries_within(
     second: &mut [u32],
 ) -> RunAnswer
     requires { ⌜ (l .count ≡ 0) × (l .taken ≡ 0) × (length (now second) ≡ length (now first)) ⌝ }
-    ensures { λ r. ⌜ QueriesExecuted h (now (rows .entry)) (now (sorts .entry)) (now (ids .entry)) (queriesIn (now (queries .entry))) l (now (first .entry)) (now (second .entry)) r (now (first .exit)) (now (second .exit)) ⌝ }
+    ensures { λ r. ⌜ QueriesExecuted h (now (rows .entry)) (now (sorts .entry)) (now (ids .entry)) (framed queryOf (now (queries .entry))) l (now (first .entry)) (now (second .entry)) r (now (first .exit)) (now (second .exit)) ⌝ }
 {
     let mut n = l;
     let mut at: usize = 0;
@@ -116,7 +117,7 @@ pub fn run_queries(
     first: &mut [u32],
     second: &mut [u32],
 ) -> RunAnswer
-    ensures { λ r. ⌜ RunMade h (now (rows .entry)) (now (sorts .entry)) (subsetOf head (now (ids .entry))) (now (ids .entry)) (queriesIn (now (queries .entry))) (now (first .entry)) (now (second .entry)) r (now (first .exit)) (now (second .exit)) ⌝ }
+    ensures { λ r. ⌜ RunMade h (now (rows .entry)) (now (sorts .entry)) (subsetOf head (now (ids .entry))) (now (ids .entry)) (framed queryOf (now (queries .entry))) (now (first .entry)) (now (second .entry)) r (now (first .exit)) (now (second .exit)) ⌝ }
 {
     let l = RunAnswer {
         dense: head.dense,

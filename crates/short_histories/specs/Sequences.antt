@@ -1,15 +1,15 @@
 -- Every short history (document 02, change 10): the seven steps, all sequences of at most six of them in one list, and the maps
 -- between a sequence and its place in that list. Assumes nothing.
-use Prim.Native.Nat.{ℕ, zero, suc, _-_, _<_}
+use Prim.Native.Nat.{ℕ, zero, suc, _-_}
 use mathlib.Core.Path.{_≡_}
 use mathlib.Core.Bool.{Bool, not, cond, _&&_}
 use mathlib.Core.List.{List, [], _∷_, map}
-use mathlib.Core.Option.{Option, none, some, Option·map}
+use mathlib.Core.Option.{Option, none, some, Option·map, Option·getD}
 use lib.ListN.{length, getD}
 use lib.Dec.{leb, ltb}
 use Rattle.lists.specs.Lists.{splice, all, flatten, iota, same}
-use Rattle.refusals.specs.Refusals.{check, firstRefusal, Reply, refused, accepted, reply}
-use Rattle.plain_table.specs.Staged.{Opening, insert, removeKey}
+use Rattle.refusals.specs.Refusals.{check, firstRefusal, Reply, refused, accepted, reply, Effect}
+use Rattle.plain_table.specs.Staged.{insert, removeKey}
 use Rattle.plain_table.specs.Calls.{Call, staging, merging}
 use Rattle.short_histories.specs.declared.StepAnswer.{StepAnswer}
 use Rattle.short_histories.specs.declared.StepAnswer.the-variants.{Refused as StepRefused, Insert, Remove, Merge}
@@ -18,12 +18,7 @@ use Rattle.short_histories.specs.declared.PositionAnswer.the-variants.{R
 use Rattle.short_histories.specs.declared.SequenceAnswer.{SequenceAnswer}
 use Rattle.short_histories.specs.declared.SequenceAnswer.the-variants.{Refused as SequenceRefused, None as NoSequence, Written}
 
--- ---- the table and its steps
-
--- "three columns, one key, sort column 1, capacity 6"; "all four rules": the tables that the steps are for. The comparison opens
--- them in this way; no contract mentions a table
-unfoldable pub shortOpening : ℕ → Opening
-shortOpening rule = record { columns = 3; keys = 1; sort = 1; rule = rule; capacity = 6 }
+-- ---- the steps
 
 -- "the third cell being the stamp for key 0 and 1 minus the stamp for key 1"
 unfoldable pub thirdCell : ℕ → ℕ → ℕ
@@ -39,10 +34,6 @@ removing key = staging (removeKey (key ∷ []))
 -- "seven steps, numbered from 0 in this order: four inserts (key, then stamp rising), two removals by key (key rising), merge"
 unfoldable pub steps : List Call
 steps = inserting 0 0 ∷ inserting 0 1 ∷ inserting 1 0 ∷ inserting 1 1 ∷ removing 0 ∷ removing 1 ∷ merging ∷ []
-
--- a step by its number, one of the seven
-unfoldable pub stepCall : ℕ → Call
-stepCall step = getD steps step merging
 
 -- ---- the sequences
 
@@ -91,14 +82,9 @@ unfoldable pub sequenceRefusal : ℕ → ℕ → ℕ
 sequenceRefusal position output =
     firstRefusal (check (leb (length shortHistories) position) 16 ∷ check (ltb output (length (sequenceAt position))) 2 ∷ [])
 
--- the steps of the sequence found, none if there is no sequence
-unfoldable pub stepsOf : Option (List ℕ) → List ℕ
-stepsOf none = []
-stepsOf (some sequence) = sequence
-
 unfoldable pub nextRefusal : List ℕ → ℕ → ℕ
 nextRefusal sequence output =
-    firstRefusal (check (not (known sequence)) 15 ∷ check (ltb output (length (stepsOf (nextAfter sequence)))) 2 ∷ [])
+    firstRefusal (check (not (known sequence)) 15 ∷ check (ltb output (length (Option·getD (nextAfter sequence) []))) 2 ∷ [])
 
 -- ---- answers
 
@@ -121,16 +107,14 @@ sequenceView (Written n) = accepted (some n)
 -- ---- contracts
 
 abbrev pub StepAnswered : ℕ → StepAnswer → Type 0
-StepAnswered step answer = stepView answer ≡ reply (stepRefusal step) (stepCall step)
+StepAnswered step answer = stepView answer ≡ reply (stepRefusal step) (getD steps step merging)
 
 abbrev pub PositionAnswered : List ℕ → PositionAnswer → Type 0
 PositionAnswered sequence answer = positionView answer ≡ reply (positionRefusal sequence) (positionOf sequence)
 
 -- The sequence found is at the start of the output, and nothing is changed past it; on refusal nothing is changed at all.
 pub record SequenceAnswered (refusal : ℕ) (found : Option (List ℕ)) (output : List ℕ) (answer : SequenceAnswer) (output′ : List ℕ) : Type 0 where
-  pub answers : sequenceView answer ≡ reply refusal (Option·map length found)
-  pub written : refusal ≡ 0 → output′ ≡ splice output 0 (stepsOf found)
-  pub unchanged : 0 < refusal → output′ ≡ output
+  pub effect : Effect refusal (sequenceView answer) (Option·map length found) output output′ (splice output 0 (Option·getD found []))
 
 abbrev pub SequenceFound : ℕ → List ℕ → SequenceAnswer → List ℕ → Type 0
 SequenceFound position output = SequenceAnswered (sequenceRefusal position (length output)) (some (sequenceAt position)) output

@@ -84,25 +84,12 @@ pub record Represents (p : Plain) (s : Stores) : Type 0 where
   pub shown : Shows p (s .header) (s .rows) (s .sorts) (s .pending)
   pub keys-sound : KeysSound (indexShapeOf (s .header)) (s .rows) (s .keys)
 
--- the header after a call: that of the answer, or the old one if the call was refused
-unfoldable pub headerAfter : Header → Reply Header → Header
-headerAfter h (refused n) = h
-headerAfter h (accepted h′) = h′
-
-unfoldable pub headerMerged : Header → Reply Merge → Header
-headerMerged h (refused n) = h
-headerMerged h (accepted m) = m .header
-
--- slots past the key store's 2 × capacity are never written
-abbrev pub SlotsPast : ℕ → List ℕ → List ℕ → Type 0
-SlotsPast capacity keys keys′ = drop (2 * capacity) keys′ ≡ drop (2 * capacity) keys
-
--- compaction words past those needed are never written
-abbrev pub PastNeeded : ℕ → List ℕ → List ℕ → Type 0
-PastNeeded capacity words words′ = drop ((capacity + 63) / 64) words′ ≡ drop ((capacity + 63) / 64) words
+-- Cells past the first n are unchanged. Key slots past 2 × capacity and compaction words past those needed are never written.
+abbrev pub SamePast : ℕ → List ℕ → List ℕ → Type 0
+SamePast n cells cells′ = drop n cells′ ≡ drop n cells
 
 abbrev pub WordsPast : ℕ → CompactionWords → CompactionWords → Type 0
-WordsPast capacity w w′ = PastNeeded capacity (w .live) (w′ .live) × PastNeeded capacity (w .base) (w′ .base)
+WordsPast capacity w w′ = SamePast ((capacity + 63) / 64) (w .live) (w′ .live) × SamePast ((capacity + 63) / 64) (w .base) (w′ .base)
 
 -- Choices of the program: the contracts require only that the key store is sound and that no slot past it is written. They require
 -- nothing of the compaction words needed after a compaction.
@@ -111,7 +98,7 @@ WordsPast capacity w w′ = PastNeeded capacity (w .live) (w′ .live) × PastNe
 pub record Opened (o : Opening) (generation : ℕ) (b : Body) (pending : List ℕ) (answer : TableAnswer) (keys′ : List ℕ) : Type 0 where
   pub answers : tableView answer ≡ reply (openRefusal o (lengths (b .rows) (b .keys) (b .sorts) pending [] [])) (headerOf (opened o generation))
   pub unchanged : 0 < openRefusal o (lengths (b .rows) (b .keys) (b .sorts) pending [] []) → keys′ ≡ b .keys
-  pub past : SlotsPast (o .capacity) (b .keys) keys′
+  pub past : SamePast (2 * o .capacity) (b .keys) keys′
   pub represents : openRefusal o (lengths (b .rows) (b .keys) (b .sorts) pending [] []) ≡ 0
       → Represents (opened o generation) (stores (headerOf (opened o generation)) (b .rows) keys′ (b .sorts) pending)
 
@@ -129,14 +116,8 @@ pub record Staging (h : Header) (pending : List ℕ) (r : Staged) (answer : Tabl
 -- rows, and nothing in the contract depends on those cells.
 abbrev pub mergeOf : Plain → Merge
 mergeOf p =
-    record {
-      header = headerOf (merged p .table);
-      status = merged p .status;
-      place = merged p .place;
-      added = added p;
-      kept = mergeKeeps p;
-      dropped = mergeDrops p;
-    }
+    let m = merged p in
+    record { header = headerOf (m .table); status = m .status; place = m .place; added = added p; kept = mergeKeeps p; dropped = mergeDrops p }
 
 -- a store after a merge, given its contents after the removals and inserts; a compaction, if there is one, writes over those. After a
 -- compaction every row is live, so that no cells of dead rows are kept (`[]` below)
@@ -156,7 +137,7 @@ module _ (s : Stores) (w : CompactionWords) (answer : MergeAnswer) (b′ : Body)
   pub record Merging : Type 0 where
     pub refusal : outcome (mergeView answer) ≡ reply (mergeRefusal (s .header) (lengthsLent s w)) tt
     pub unchanged : 0 < mergeRefusal (s .header) (lengthsLent s w) → (b′ ≡ bodyOf s) × (w′ ≡ w)
-    pub past : SlotsPast (s .header .capacity) (s .keys) (b′ .keys)
+    pub past : SamePast (2 * s .header .capacity) (s .keys) (b′ .keys)
     pub words-past : WordsPast (s .header .capacity) w w′
     pub table : mergeRefusal (s .header) (lengthsLent s w) ≡ 0 → (p : Plain) → Represents p s → MergedTable p
 
@@ -171,7 +152,7 @@ module _ (h : Header) (b : Body) (w : CompactionWords) (answer : TableAnswer) (b
   pub record Compacting : Type 0 where
     pub refusal : outcome (tableView answer) ≡ reply (compactRefusal h (lengthsLent (joined h b []) w)) tt
     pub unchanged : 0 < compactRefusal h (lengthsLent (joined h b []) w) → (b′ ≡ b) × (w′ ≡ w)
-    pub past : SlotsPast (h .capacity) (b .keys) (b′ .keys)
+    pub past : SamePast (2 * h .capacity) (b .keys) (b′ .keys)
     pub words-past : WordsPast (h .capacity) w w′
     pub table : compactRefusal h (lengthsLent (joined h b []) w) ≡ 0
         → (pending : List ℕ) (p : Plain) → Represents p (joined h b pending) → CompactedTable pending p
@@ -185,7 +166,7 @@ module _ (h : Header) (keys : List ℕ) (answer : TableAnswer) (keys′ : List �
   pub record Clearing : Type 0 where
     pub refusal : outcome (tableView answer) ≡ reply (clearRefusal h (length keys)) tt
     pub unchanged : 0 < clearRefusal h (length keys) → keys′ ≡ keys
-    pub past : SlotsPast (h .capacity) keys keys′
+    pub past : SamePast (2 * h .capacity) keys keys′
     pub table : clearRefusal h (length keys) ≡ 0
         → (rows sorts pending : List ℕ) (p : Plain) → Represents p (stores h rows keys sorts pending) → ClearedTable rows sorts pending p
 

@@ -27,8 +27,7 @@ use Rattle.table.specs.declared.SoundAnswer.the-variants.{Refused as Sou
 
 -- the opening's numbers in a header
 abbrev pub openingOf : Header → Opening
-openingOf h =
-    record { columns = h .columns; keys = h .keys; sort = h .sort; rule = h .rule; capacity = h .capacity }
+openingOf h = record { columns = h .columns; keys = h .keys; sort = h .sort; rule = h .rule; capacity = h .capacity }
 
 -- the largest sort value appended, "and whether there is one": read from a header, and as a header has it
 unfoldable pub largestView : Largest → Option ℕ

@@ -15,9 +15,7 @@ use Rattle.table.specs.Numbers.{openingOf}
 -- test 1: "header numbers outside their bounds (dead rows or sort entries above the row count, row count above capacity,
 -- keys 0 or above columns, sort column not a column, rule above 3, ..)"
 unfoldable pub outside : Header → Bool
-outside h =
-    not
-    (openable (openingOf h) && leb (h .rows) (h .capacity) && leb (h .dead) (h .rows) && leb (h .entries) (h .rows))
+outside h = not (openable (openingOf h) && leb (h .rows) (h .capacity) && leb (h .dead) (h .rows) && leb (h .entries) (h .rows))
 
 -- ".. pending words used above the pending store", if that store is lent
 unfoldable pub pendingOutside : Header → ℕ → Bool

@@ -1,5 +1,5 @@
 -- The steps of a compaction: a row kept, the turns of the loops over the rows, and what the entry point answers. Assumes nothing.
-use Rattle.table_compact.proofs.Prelude.{ℕ, _+_, _-_, _*_, _/_, _%_, _≤_, _<_, min, _≡_, refl, sym, ap, ap₂, _∙_, Bool, true, false, List, [], _∷_, _++_, add-zero, add-mul, mul-le-mul-right, arith, bitAnd, trailingZeros, length, take, drop, getD, set, length-take, length-drop, length-set, length-append, drop-set-lt, mapFront, splice-nil, getD-splice-in, length-filter, row-in, isLive, live-first, Append, push, push-few, bitmapWord-same, onward, onward-all, Next, next-bit, no-more, IndexShape, slots, Fits, rows-in, Inside, row-inside, fits-stores, sizeClass-most, fits-fewer, Rebuilt, renumbered, Ranked, below-number, live-among, outcome-refused, outcome-accepted, Header, KeptCounts, Lengths, compactRefusal, indexShapeOf, fullIndexShapeOf, body, compactionWords, PastNeeded, lengths, Compacting, inside-full-shape, full-shape-fits, compact-accepted, Lendable, KeysUpdated, nextGeneration, Compaction, length-live, live-one, live-skip, later-row, close-one, entries-one, rebuild-one, Words, words-begin, words-next, words-number, compaction, none-compaction}
+use Rattle.table_compact.proofs.Prelude.{ℕ, _+_, _-_, _*_, _/_, _%_, _≤_, _<_, min, _≡_, refl, sym, ap, ap₂, _∙_, Bool, true, false, List, [], _∷_, _++_, add-zero, add-mul, mul-le-mul-right, arith, bitAnd, trailingZeros, length, take, drop, getD, set, length-take, length-drop, length-set, length-append, drop-set-lt, mapFront, splice-nil, getD-splice-in, length-filter, row-in, isLive, live-first, Append, push, push-few, bitmapWord-same, onward, onward-all, Next, next-bit, no-more, IndexShape, slots, Fits, rows-in, Inside, row-inside, fits-stores, sizeClass-most, fits-fewer, Rebuilt, renumbered, Ranked, below-number, live-among, outcome-refused, outcome-accepted, Header, KeptCounts, Lengths, compactRefusal, indexShapeOf, fullIndexShapeOf, body, compactionWords, SamePast, lengths, Compacting, inside-full-shape, full-shape-fits, compact-accepted, Lendable, KeysUpdated, nextGeneration, Compaction, length-live, live-one, live-skip, later-row, close-one, entries-one, rebuild-one, Words, words-begin, words-next, words-number, compaction, none-compaction}
 use Rattle.lists.specs.Lists.{splice, filter, rowAt, rowsOf, flatten}
 use Rattle.cells.specs.Cells.{isDead}
 use Rattle.sort_entries.specs.Entries.{Entry, entryWords, rebuiltFrom, rebuilt}
@@ -220,7 +220,7 @@ module _ (h : Header) (rows₀ sorts₀ live₀ base₀ : List ℕ) where
     pub live-same : length live ≡ length live₀
     pub base-same : length base ≡ length base₀
     pub numbered : Words (rowsOf (h .columns) (h .rows) rows₀) (h .rows) next live base
-    pub words-past : PastNeeded (h .capacity) live₀ live × PastNeeded (h .capacity) base₀ base
+    pub words-past : SamePast ((h .capacity + 63) / 64) live₀ live × SamePast ((h .capacity + 63) / 64) base₀ base
 
   pub iteration-begin : Iteration rows₀ sorts₀ live₀ base₀ (record { rows = 0; entries = 0 }) 0
   iteration-begin =

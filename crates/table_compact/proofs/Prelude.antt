@@ -30,7 +30,7 @@ pub use Rattle.plain_table.specs.Refusing.{Lengths}
 pub use Rattle.refusals.specs.Laws.Replies.{outcome-accepted, outcome-refused}
 pub use Rattle.sort_entries.specs.Laws.Push.{push, push-few}
 pub use Rattle.sort_entries.specs.inner.Append.{Append}
-pub use Rattle.table.specs.Contracts.{Compacting, PastNeeded, body, compactionWords, lengths}
+pub use Rattle.table.specs.Contracts.{Compacting, SamePast, body, compactionWords, lengths}
 pub use Rattle.table.specs.Laws.Refusals.{compact-accepted, full-shape-fits, inside-full-shape}
 pub use Rattle.table.specs.Refusing.{compactRefusal}
 pub use Rattle.table.specs.Sound.{indexShapeOf}

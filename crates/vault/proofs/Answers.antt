@@ -14,22 +14,14 @@ module _ (order : ℕ → List ℕ → List ℕ) (width : ℕ) (cells output : L
       → Rearranged order width cells output (Refused number) output
   unfolding columnsView
   rearranged-refused number e some =
-      record {
-        answers = reply-refused (columnsView (Refused number)) _ number tt refl e some;
-        written = λ none. absurd (some (e ∙ none));
-        unchanged = λ h. refl;
-      }
+      record { effect = record { answers = reply-refused (columnsView (Refused number)) _ number tt refl e some; unchanged = λ h. refl; written = λ none. absurd (some (e ∙ none)) } }
 
   -- accepted, and all places written
   rearranged-written : (output′ : List ℕ) → columnsRefusal width (length cells) (length output) ≡ 0 → output′ ≡ splice output 0 (order width cells)
       → Rearranged order width cells output Written output′
   unfolding columnsView
   rearranged-written output′ none e =
-      record {
-        answers = reply-accepted (columnsView Written) _ tt refl none;
-        written = λ h. e;
-        unchanged = λ h. absurd (omega arith);
-      }
+      record { effect = record { answers = reply-accepted (columnsView Written) _ tt refl none; unchanged = λ h. absurd (omega arith); written = λ h. e } }
 
 module _ (width : ℕ) (cells output : List ℕ) (none : columnsRefusal width (length cells) (length output) ≡ 0) where
   a : Accepted width (length cells) (length output)

@@ -1,13 +1,13 @@
 -- Column order for the vault (document 02, change 5): a list of rows, column after column, each cell but a column's first replaced
 -- by its difference from the cell above; and the inverse. Over lists of cells, for every width at once. Assumes nothing.
-use Prim.Native.Nat.{ℕ, _+_, _-_, _/_, _%_, _^_, _≤_, _<_}
+use Prim.Native.Nat.{ℕ, _+_, _-_, _/_, _%_, _^_, _<_}
 use mathlib.Core.Path.{_≡_}
 use mathlib.Core.Bool.{not, _||_}
 use mathlib.Core.List.{List, [], _∷_, _++_, map, zipWith}
 use lib.ListN.{length, take, drop, getD}
 use lib.Dec.{ltb, eqb}
 use Rattle.lists.specs.Lists.{splice, rowsOf, flatten, iota}
-use Rattle.refusals.specs.Refusals.{check, firstRefusal, Reply, refused, accepted, reply}
+use Rattle.refusals.specs.Refusals.{check, firstRefusal, Reply, refused, accepted, Effect}
 use Rattle.vault.specs.declared.ColumnsAnswer.{ColumnsAnswer}
 use Rattle.vault.specs.declared.ColumnsAnswer.the-variants.{Refused, Written}
 
@@ -61,19 +61,10 @@ columnsView Written = accepted tt
 -- Contract of either direction: the cells in the other order at the start of the output, and nothing changed past them; on refusal
 -- nothing changed at all.
 pub record Rearranged (order : ℕ → List ℕ → List ℕ) (width : ℕ) (cells output : List ℕ) (answer : ColumnsAnswer) (output′ : List ℕ) : Type 0 where
-  pub answers : columnsView answer ≡ reply (columnsRefusal width (length cells) (length output)) tt
-  pub written : columnsRefusal width (length cells) (length output) ≡ 0 → output′ ≡ splice output 0 (order width cells)
-  pub unchanged : 0 < columnsRefusal width (length cells) (length output) → output′ ≡ output
+  pub effect : Effect (columnsRefusal width (length cells) (length output)) (columnsView answer) tt output output′ (splice output 0 (order width cells))
 
 -- "Applying either after the other restores the cells for every list and every width from 1 to 8": for every width but 0 that
 -- divides the list's length, its cells being u32
 abbrev pub Restores : Type 0
 Restores = (width : ℕ) (cells : List ℕ) → 0 < width → length cells % width ≡ 0 → ((i : ℕ) → getD cells i 0 < 2 ^ 32)
     → (fromColumns width (toColumns width cells) ≡ cells) × (toColumns width (fromColumns width cells) ≡ cells)
-
--- The same for two calls: the result of the second call, on the cells that the first wrote. It is refused with no number but 2, and
--- with 2 exactly if its output is shorter than the cells
-pub record Restored (cells output : List ℕ) (answer : ColumnsAnswer) (output′ : List ℕ) : Type 0 where
-  pub answers : columnsView answer ≡ reply (firstRefusal (check (ltb (length output) (length cells)) 2 ∷ [])) tt
-  pub written : length cells ≤ length output → output′ ≡ splice output 0 cells
-  pub unchanged : length output < length cells → output′ ≡ output

@@ -1,12 +1,13 @@
 -- `abi::store_cell` meets its contract. Assumes nothing.
 use Rattle.abi.proofs.Prelude.{refl, stored-as, needs}
 use Rattle.table.specs.Numbers.{cellView}
-use Rattle.abi.specs.Encoding.{encodeOption, returned, stored}
+use Rattle.abi.specs.Encoding.{encodeOption, returned}
 use Rattle.abi.proofs.store_cell.Statement.{statement}
 use Rattle.abi.proofs.store_cell.Tie as tie
+use Rattle.refusals.specs.Refusals.{ifAccepted}
 
 pub store-cell-spec : {M : Type 1} → statement M
-unfolding cellView encodeOption returned stored
+unfolding cellView encodeOption returned ifAccepted
 store-cell-spec =
     tie.close
     (tie.spec

@@ -1,12 +1,13 @@
 -- `abi::store_row` meets its contract. Assumes nothing.
 use Rattle.abi.proofs.Prelude.{refl, stored-as, needs}
 use Rattle.table.specs.Numbers.{rowView}
-use Rattle.abi.specs.Encoding.{encodeOption, returned, stored}
+use Rattle.abi.specs.Encoding.{encodeOption, returned}
 use Rattle.abi.proofs.store_row.Statement.{statement}
 use Rattle.abi.proofs.store_row.Tie as tie
+use Rattle.refusals.specs.Refusals.{ifAccepted}
 
 pub store-row-spec : {M : Type 1} → statement M
-unfolding rowView encodeOption returned stored
+unfolding rowView encodeOption returned ifAccepted
 store-row-spec =
     tie.close
     (tie.spec

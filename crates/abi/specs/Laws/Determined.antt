@@ -4,9 +4,9 @@
 use Prim.Native.Nat.{ℕ}
 use mathlib.Core.Path.{_≡_, sym, ap, _∙_}
 use mathlib.Core.List.{List}
-use Rattle.refusals.specs.Refusals.{Reply, refused, accepted, outcome}
+use Rattle.refusals.specs.Refusals.{Reply, refused, accepted, outcome, ifAccepted}
 use Rattle.table.specs.declared.Header.{Header}
-use Rattle.abi.specs.Encoding.{encodeHeader, returned, stored, Answers, AnswersNumber, AnswersWithHeader}
+use Rattle.abi.specs.Encoding.{encodeHeader, returned, Answers, AnswersWithHeader}
 
 outcome-returned : {A : Type 0} (a b : Reply A) → outcome a ≡ outcome b → returned a ≡ returned b
 unfolding outcome returned
@@ -38,13 +38,14 @@ pub record SameWithHeader {R A : Type 0} (view : R → Reply A) (Same : R → R 
   pub stores : first ≡ second → words₁ ≡ words₂
 
 module _ {R A : Type 0} {view : R → Reply A} {Same : R → R → Type 0} {promise₁ promise₂ : R → Type 0} (law : (a b : R) → promise₁ a → promise₂ b → Same a b) {r₁ r₂ : ℕ} where
-  pub number-determined : AnswersNumber promise₁ view r₁ → AnswersNumber promise₂ view r₂ → SameNumber view Same r₁ r₂
+  -- of a function whose answer is its number alone
+  pub number-determined : ((a : R) × promise₁ a × (r₁ ≡ returned (view a))) → ((b : R) × promise₂ b × (r₂ ≡ returned (view b))) → SameNumber view Same r₁ r₂
   number-determined x y =
       record {
-        first = x .answer;
-        second = y .answer;
-        same = law (x .answer) (y .answer) (x .contract-met) (y .contract-met);
-        returns = λ e. x .returns ∙ outcome-returned _ _ e ∙ sym (y .returns);
+        first = x .0;
+        second = y .0;
+        same = law (x .0) (y .0) (x .1) (y .1);
+        returns = λ e. x .2 ∙ outcome-returned _ _ e ∙ sym (y .2);
       }
 
   pub answers-determined : {encode : A → List ℕ} {words words₁ words₂ : List ℕ} → Answers promise₁ view encode words r₁ words₁ → Answers promise₂ view encode words r₂ words₂
@@ -55,7 +56,7 @@ module _ {R A : Type 0} {view : R → Reply A} {Same : R → R → Type 0} {prom
         second = y .answer;
         same = law (x .answer) (y .answer) (x .contract-met) (y .contract-met);
         returns = λ e. x .stores .returns ∙ outcome-returned _ _ e ∙ sym (y .stores .returns);
-        stores = λ e. x .stores .stores ∙ ap (λ (a : R). stored encode words (view a)) e ∙ sym (y .stores .stores);
+        stores = λ e. x .stores .stores ∙ ap (λ (a : R). ifAccepted (view a) encode words) e ∙ sym (y .stores .stores);
       }
 
   pub answers-with-header-determined : {headerOf : A → Header} {encode : A → List ℕ} {header words header₁ header₂ words₁ words₂ : List ℕ}
@@ -63,10 +64,10 @@ module _ {R A : Type 0} {view : R → Reply A} {Same : R → R → Type 0} {prom
       → SameWithHeader view Same r₁ r₂ header₁ header₂ words₁ words₂
   answers-with-header-determined {headerOf} {encode} {header} {words} x y =
       record {
-        first = x .answer;
-        second = y .answer;
-        same = law (x .answer) (y .answer) (x .contract-met) (y .contract-met);
-        returns = λ e. x .stores .returns ∙ outcome-returned _ _ e ∙ sym (y .stores .returns);
-        stores-header = λ e. x .header-stored .stores ∙ ap (λ (a : R). stored (λ b. encodeHeader (headerOf b)) header (view a)) e ∙ sym (y .header-stored .stores);
-        stores = λ e. x .stores .stores ∙ ap (λ (a : R). stored encode words (view a)) e ∙ sym (y .stores .stores);
+        first = x .answers .answer;
+        second = y .answers .answer;
+        same = law (x .answers .answer) (y .answers .answer) (x .answers .contract-met .0) (y .answers .contract-met .0);
+        returns = λ e. x .answers .stores .returns ∙ outcome-returned _ _ e ∙ sym (y .answers .stores .returns);
+        stores-header = λ e. x .answers .contract-met .1 ∙ ap (λ (a : R). ifAccepted (view a) (λ b. encodeHeader (headerOf b)) header) e ∙ sym (y .answers .contract-met .1);
+        stores = λ e. x .answers .stores .stores ∙ ap (λ (a : R). ifAccepted (view a) encode words) e ∙ sym (y .answers .stores .stores);
       }

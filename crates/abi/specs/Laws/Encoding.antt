@@ -6,14 +6,14 @@ use mathlib.Core.Bool.{Bool, true, false}
 use mathlib.Core.List.{List}
 use lib.ListN.{getD}
 use borrow.Author.Tests.{lt-leb}
-use Rattle.refusals.specs.Refusals.{Reply}
+use Rattle.refusals.specs.Refusals.{Reply, ifAccepted}
 use Rattle.offsets.specs.declared.SubsetHead.{SubsetHead}
 use Rattle.plain_table.specs.Staged.{openable}
 use Rattle.table.specs.declared.Largest.{Largest}
 use Rattle.table.specs.declared.Largest.the-variants.{None as NoLargest, Value}
 use Rattle.table.specs.declared.Header.{Header}
 use Rattle.table.specs.Refusing.{outside}
-use Rattle.abi.specs.Encoding.{decodeLargest, decodeColumns, decodeHeader, decodeSubset, largestFlag, largestValue, encodeHeader, encodeSubset, returned, stored, Stored, Answers}
+use Rattle.abi.specs.Encoding.{decodeLargest, decodeColumns, decodeHeader, decodeSubset, largestFlag, largestValue, encodeHeader, encodeSubset, returned, Stored, Answers}
 
 largest-decoded : (l : Largest) → decodeLargest (largestFlag l) (largestValue l) ≡ l
 unfolding decodeLargest
@@ -61,7 +61,7 @@ subset-decoded s = dense-decoded (s .dense) (s .start) (s .end)
 
 -- what is stored for an answer, by cases of the answer
 pub stored-as : {R A : Type 0} {view : R → Reply A} {encode : A → List ℕ} {answer a : R} {words : List ℕ} {r : ℕ} {words′ : List ℕ}
-    → answer ≡ a → r ≡ returned (view a) → words′ ≡ stored encode words (view a) → Stored view encode answer words r words′
+    → answer ≡ a → r ≡ returned (view a) → words′ ≡ ifAccepted (view a) encode words → Stored view encode answer words r words′
 stored-as e p q = rw e record { returns = p; stores = q }
 
 -- the contract of a C function, for this answer

@@ -1,14 +1,15 @@
 -- `abi_image::store_length` meets its contract. Assumes nothing.
 use mathlib.Core.Path.{refl}
+use Rattle.refusals.specs.Refusals.{ifAccepted}
 use Rattle.image_spec.specs.Contracts.{lengthView}
-use Rattle.abi.specs.Encoding.{encodeNumber, returned, stored}
+use Rattle.abi.specs.Encoding.{encodeNumber, returned}
 use Rattle.abi.specs.Laws.Encoding.{stored-as}
 use borrow.Author.Needs.{needs}
 use Rattle.abi_image.proofs.store_length.Statement.{statement}
 use Rattle.abi_image.proofs.store_length.Tie as tie
 
 pub store-length-spec : {M : Type 1} → statement M
-unfolding lengthView encodeNumber returned stored
+unfolding lengthView encodeNumber returned ifAccepted
 store-length-spec =
     tie.close
     (tie.spec

@@ -1,7 +1,8 @@
 -- `abi_precedence::store_failure` meets its contract. Assumes nothing.
 use mathlib.Core.Path.{refl}
+use Rattle.refusals.specs.Refusals.{ifAccepted}
 use Rattle.precedence.specs.Precedence.{precedenceView}
-use Rattle.abi.specs.Encoding.{returned, stored}
+use Rattle.abi.specs.Encoding.{returned}
 use Rattle.abi.specs.Laws.Encoding.{stored-as}
 use Rattle.abi_precedence.specs.Encoding.{encodeFailure}
 use borrow.Author.Needs.{needs}
@@ -9,7 +10,7 @@ use Rattle.abi_precedence.proofs.store_failure.Statement.{statement}
 use Rattle.abi_precedence.proofs.store_failure.Tie as tie
 
 pub store-failure-spec : {M : Type 1} → statement M
-unfolding precedenceView encodeFailure returned stored
+unfolding precedenceView encodeFailure returned ifAccepted
 store-failure-spec =
     tie.close
     (tie.spec

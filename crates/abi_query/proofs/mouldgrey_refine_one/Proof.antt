@@ -1,6 +1,6 @@
 -- `abi_query::mouldgrey_refine_one` meets its contract: a manual proof over its MIR. Ownership of the output passes to the query,
 -- that of the answer to the call that stores it. Assumes nothing.
-use Rattle.query_borrowed.proofs.Prelude.{refl, subst, List, [], _∷_, ℕ, erased, named, w32, emp, ftrue, fsep, Shares, factI, keep, fjoin, uint-lawful, NamedLft, now, ptr-vals, slice-vals, heard, Constraint, Header, RefinedOne}
+use Rattle.query_borrowed.proofs.Prelude.{refl, subst, List, [], _∷_, ℕ, erased, named, w32, emp, ftrue, fsep, Shares, factI, keep, fjoin, uint-lawful, NamedLft, now, ptr-vals, slice-vals, heard, Constraint, Header}
 use Rattle.offsets.specs.declared.SubsetHead.{SubsetHead}
 use Rattle.offsets.specs.Answers.{subsetOf}
 use Rattle.offsets.specs.declared.SubsetAnswer.{SubsetAnswer}
@@ -9,7 +9,7 @@ use Rattle.query_borrowed.proofs.SubsetRef.Laws as DT′
 use Rattle.query_borrowed.proofs.Locals.{enters, cell, copies, lends, leaves}
 use Rattle.query_borrowed.proofs.Walking.{URA, SProp, id⊢, Memory, Routine, Heap, Calls, Loops, WpFn, Atoms, Lfts, Fun, FmC, givenOf, Given, _$_, !, move, fsplit, u32, typesAt, enum-lawful, Meets, tripleOf, Triple, cited, Knowns, reads, writes, machine, met, ends-ensuring, answers, skips, pads, proved}
 use Rattle.query_borrowed.proofs.Arrays.{shared-array, lent-array, FinalArray, lends-array, tokens-out, tokens-in, owns-out, owns-in}
-use Rattle.abi.specs.Encoding.{decodeCondition, subsetView, encodeSubset, Stored}
+use Rattle.abi.specs.Encoding.{subsetView, encodeSubset, Stored}
 use Rattle.abi.proofs.decode_header as hdr
 use Rattle.abi.proofs.decode_subset as sub
 use Rattle.abi.proofs.decode_condition as con
@@ -17,6 +17,8 @@ use Rattle.query_borrowed.proofs.refine_one as ask
 use Rattle.abi.proofs.store_subset as sto
 use Rattle.abi_query.proofs.QuerySteps.{decodes-header, decodes-subset, decodes-condition, lent, lent-typed, holds, makes-of-fields, Final, decoded}
 use Rattle.abi_query.proofs.mouldgrey_refine_one as f
+use Rattle.constraints.specs.Encoding.{conditionIn}
+use Rattle.query_spec.specs.Queries.{RefinedOne}
 
 abbrev params : (κs : Lfts 7) → Knowns (typesAt (f.signature .params) κs)
 params κs = (shared-array (named 0) (κs .0) u32 12, (reads (named 1) (κs .1 .0) u32, (shared-array (named 2) (κs .1 .1 .0) u32 3, (reads (named 3) (κs .1 .1 .1 .0) u32, (shared-array (named 4) (κs .1 .1 .1 .1 .0) u32 3, (writes (named 5) (κs .1 .1 .1 .1 .1 .0) u32, (lent-array (named 6) (κs .1 .1 .1 .1 .1 .1 .0) u32 3, tt)))))))
@@ -52,7 +54,7 @@ module _ {M : Type 1} (𝓤 : URA M) (H : Heap 𝓤) (A : Atoms 𝓤) (W : Given
       tokens-out ! 1 (κs .1 .1 .1 .1 .1 .1 .0, tt) (qs .1 .1 .1 .1 .1 .1 .0, tt) $ move ! (3 ∷ []) $ tokens-out ! 3 κs′ qs′ $ move ! (3 ∷ 0 ∷ 7 ∷ 1 ∷ 8 ∷ 2 ∷ 9 ∷ []) $ tokens-in ! 7 κs qs $
       move ! (3 ∷ []) $ skips ! 4 (fsep (Final o (os .1 .1 .1 .1 .0)) ftrue) $ fsplit ! $ move ! (3 ∷ []) $ skips ! 1 (fsep (FinalArray u32 3 z (zs .1 .0)) ftrue) $ move ! (1 ∷ 0 ∷ []) $ fjoin ! $ pads ! 5 $ keep ! (2 ∷ 0 ∷ 3 ∷ []) $
       ends-ensuring 𝓤 H A W f.ended (f.clauses 𝓤 H A mem run) ((κs, qs, bounds, a, vals), g) tv t (tt, (tt, (tt, (tt, (tt, (os .1 .1 .1 .1 .0, (zs .1 .0, tt)))))))
-      (factI 𝓤 _ (emp 𝓤) (decoded (λ h d r. Asks h d (decodeCondition (now b)) r (os .1 .1 .1 .1 .0)) header subset (subst (λ (u : Constraint). Asks h d u r (os .1 .1 .1 .1 .0)) condition asked) stored)))))))))))
+      (factI 𝓤 _ (emp 𝓤) (decoded (λ h d r. Asks h d (conditionIn (now b) 0) r (os .1 .1 .1 .1 .0)) header subset (subst (λ (u : Constraint). Asks h d u r (os .1 .1 .1 .1 .0)) condition asked) stored)))))))))))
 
 pub mouldgrey-refine-one-spec : {M : Type 1} → f.Statement.statement M
 unfolding f.Code.routine

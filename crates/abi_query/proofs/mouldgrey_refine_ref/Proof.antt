@@ -1,6 +1,6 @@
 -- `abi_query::mouldgrey_refine_ref` meets its contract: a manual proof over its MIR. Ownership of the output passes to the query,
 -- that of the answer to the call that stores it. Assumes nothing.
-use Rattle.query_borrowed.proofs.Prelude.{refl, List, [], _∷_, ℕ, erased, named, w32, emp, ftrue, fsep, Shares, factI, keep, fjoin, uint-lawful, NamedLft, now, ptr-vals, slice-vals, heard, Header, RefinedList}
+use Rattle.query_borrowed.proofs.Prelude.{refl, List, [], _∷_, ℕ, erased, named, w32, emp, ftrue, fsep, Shares, factI, keep, fjoin, uint-lawful, NamedLft, now, ptr-vals, slice-vals, heard, Header}
 use Rattle.offsets.specs.declared.SubsetHead.{SubsetHead}
 use Rattle.offsets.specs.Answers.{subsetOf}
 use Rattle.offsets.specs.declared.SubsetAnswer.{SubsetAnswer}
@@ -17,6 +17,7 @@ use Rattle.query_borrowed.proofs.refine_ref as ask
 use Rattle.abi.proofs.store_subset as sto
 use Rattle.abi_query.proofs.QuerySteps.{decodes-header, decodes-subset, lent, lent-typed, holds, makes-of-fields, Final, decoded}
 use Rattle.abi_query.proofs.mouldgrey_refine_ref as f
+use Rattle.query_spec.specs.Queries.{RefinedList}
 
 abbrev params : (κs : Lfts 7) → Knowns (typesAt (f.signature .params) κs)
 params κs = (shared-array (named 0) (κs .0) u32 12, (reads (named 1) (κs .1 .0) u32, (shared-array (named 2) (κs .1 .1 .0) u32 3, (reads (named 3) (κs .1 .1 .1 .0) u32, (reads (named 4) (κs .1 .1 .1 .1 .0) CT.the-row, (writes (named 5) (κs .1 .1 .1 .1 .1 .0) u32, (lent-array (named 6) (κs .1 .1 .1 .1 .1 .1 .0) u32 3, tt)))))))

@@ -5,6 +5,7 @@ use mathlib.Core.Path.{_≡_}
 use mathlib.Core.Bool.{true}
 use mathlib.Core.List.{List}
 use lib.ListN.{length, getD}
+use Rattle.constraints.specs.Encoding.{conditionIn}
 use Rattle.refusals.specs.Laws.Determined.{Same, SameAnswer}
 use Rattle.offsets.specs.Subsets.{Subset}
 use Rattle.offsets.specs.Answers.{Answered, intersectReply}
@@ -16,7 +17,7 @@ use Rattle.table.specs.Refusing.{cellRefusal, fastRefusal}
 use Rattle.table.specs.Contracts.{CellRead, RangeRead, RowsSince, RowsSinceVersion, VersionRead}
 use Rattle.table.specs.Laws.Determined as library
 use Rattle.table.specs.Laws.Determined.{KnownKeys, cell-read-determined, range-read-determined, version-read-determined, rows-since-determined}
-use Rattle.abi.specs.Encoding.{decodeCondition, encodeOption, encodeRange, encodeVersion, subsetView, encodeSubset, Answers}
+use Rattle.abi.specs.Encoding.{encodeOption, encodeRange, encodeVersion, subsetView, encodeSubset, Answers}
 use Rattle.abi.specs.Laws.Determined.{SameOutcome, answers-determined}
 
 module _ {words words₁ words₂ : List ℕ} {r₁ r₂ : ℕ} where
@@ -26,8 +27,8 @@ module _ {words words₁ words₂ : List ℕ} {r₁ r₂ : ℕ} where
   get-row-column-determined h rows keys key column = answers-determined (λ x y. cell-read-determined)
 
   pub fast-subset-determined : (h : Header) (sorts condition : List ℕ)
-      → Answers (λ a. RangeRead h sorts (decodeCondition condition) a) rangeView encodeRange words r₁ words₁ → Answers (λ a. RangeRead h sorts (decodeCondition condition) a) rangeView encodeRange words r₂ words₂
-      → SameOutcome rangeView (SameAnswer rangeView (fastRefusal h (length sorts) (decodeCondition condition)) (entriesSound (entriesOf (h .entries) sorts) (h .rows) ≡ true)) r₁ r₂ words₁ words₂
+      → Answers (λ a. RangeRead h sorts (conditionIn condition 0) a) rangeView encodeRange words r₁ words₁ → Answers (λ a. RangeRead h sorts (conditionIn condition 0) a) rangeView encodeRange words r₂ words₂
+      → SameOutcome rangeView (SameAnswer rangeView (fastRefusal h (length sorts) (conditionIn condition 0)) (entriesSound (entriesOf (h .entries) sorts) (h .rows) ≡ true)) r₁ r₂ words₁ words₂
   fast-subset-determined h sorts condition = answers-determined (λ x y. range-read-determined)
 
   pub updates-since-determined : (h : Header) (row : ℕ)

@@ -9,4 +9,4 @@ mouldgrey-refresh-rows-for-values-spec =
     tie.close
     (tie.spec
     (λ c κs. search needs) (λ c κs. search needs) (λ c κs. search needs) (λ c. search needs) (λ c. search needs)
-    (λ c. rw (sym (c .before .before .before .before .before .before .before .before .before .before .decode-header .ensures)) record { answer = c .before .before .before .before .before .before .before .refresh-rows-for-values .result; contract-met = c .before .before .before .before .before .before .before .refresh-rows-for-values .ensures; header-stored = c .store-refresh .ensures .0; stores = c .store-refresh .ensures .1 }))
+    (λ c. rw (sym (c .before .before .before .before .before .before .before .before .before .before .decode-header .ensures)) record { answers = record { answer = c .before .before .before .before .before .before .before .refresh-rows-for-values .result; contract-met = (c .before .before .before .before .before .before .before .refresh-rows-for-values .ensures, c .store-refresh .ensures .0 .stores); stores = c .store-refresh .ensures .1 } }))

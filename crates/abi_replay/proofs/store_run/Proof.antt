@@ -1,13 +1,14 @@
 -- `abi_replay::store_run` meets its contract. Assumes nothing.
 use mathlib.Core.Path.{refl}
-use Rattle.abi.specs.Encoding.{returned, stored}
+use Rattle.refusals.specs.Refusals.{ifAccepted}
+use Rattle.abi.specs.Encoding.{returned}
 use Rattle.abi_replay.specs.Encoding.{encodeRun}
 use borrow.Author.Needs.{needs}
 use Rattle.abi_replay.proofs.store_run.Statement.{statement}
 use Rattle.abi_replay.proofs.store_run.Tie as tie
 
 pub store-run-spec : {M : Type 1} → statement M
-unfolding encodeRun returned stored
+unfolding encodeRun returned ifAccepted
 store-run-spec =
     tie.close
     (tie.spec

@@ -5,6 +5,8 @@ use mathlib.Core.Path.{_≡_}
 use mathlib.Core.Bool.{true, false}
 use mathlib.Core.Logic.{_⊎_}
 use mathlib.Core.List.{List}
+use lib.ListN.{getD}
+use Rattle.plain_table.specs.Staged.{openingIn}
 use Rattle.lists.specs.Lists.{any}
 use Rattle.refusals.specs.Refusals.{accepted}
 use Rattle.offsets.specs.Subsets.{Subset}
@@ -20,7 +22,7 @@ use Rattle.replay.specs.Replays.{Replayed}
 use Rattle.replay.specs.Laws.Determined.{ReplayLeft, SameReplay, replayed-determined}
 use Rattle.replay_queries.specs.RunQueries.{RunMade}
 use Rattle.replay_queries.specs.Laws.Determined.{RunLeft, SameRun, run-made-determined}
-use Rattle.abi.specs.Encoding.{decodeOpening, openingGeneration, encodeHeader, Answers}
+use Rattle.abi.specs.Encoding.{encodeHeader, Answers}
 use Rattle.abi.specs.Laws.Determined.{SameOutcome, answers-determined}
 use Rattle.abi_replay.specs.Encoding.{encodeRun}
 
@@ -33,14 +35,14 @@ runLeft answer first second = record { answer = answer; first = first; second = 
 module _ (opening : List ℕ) (requests : List Request) (b : Body) (pending : List ℕ) (w : CompactionWords) (index : List ℕ) where
   abbrev Replays : List ℕ → ℕ → List ℕ → Body → List ℕ → CompactionWords → List ℕ → Type 0
   Replays header r header′ b′ pending′ w′ index′ =
-      Answers (λ a. Replayed (decodeOpening opening) (openingGeneration opening) requests b pending w index a b′ pending′ w′ index′) tableView encodeHeader header r header′
+      Answers (λ a. Replayed (openingIn opening) (getD opening 5 0) requests b pending w index a b′ pending′ w′ index′) tableView encodeHeader header r header′
 
   -- over a new index store, or without refreshes
   pub replay-determined : (isNew index ≡ true) ⊎ (any isRefresh requests ≡ false) → {header header₁ header₂ : List ℕ} {r₁ r₂ : ℕ} (b₁ b₂ : Body) (pending₁ pending₂ : List ℕ) (w₁ w₂ : CompactionWords) (index₁ index₂ : List ℕ)
       → Replays header r₁ header₁ b₁ pending₁ w₁ index₁ → Replays header r₂ header₂ b₂ pending₂ w₂ index₂
-      → SameOutcome tableView (λ x y. SameReplay (decodeOpening opening) (openingGeneration opening) requests b pending w index (replayLeft x b₁ pending₁ w₁ index₁) (replayLeft y b₂ pending₂ w₂ index₂)) r₁ r₂ header₁ header₂
+      → SameOutcome tableView (λ x y. SameReplay (openingIn opening) (getD opening 5 0) requests b pending w index (replayLeft x b₁ pending₁ w₁ index₁) (replayLeft y b₂ pending₂ w₂ index₂)) r₁ r₂ header₁ header₂
   replay-determined sound b₁ b₂ pending₁ pending₂ w₁ w₂ index₁ index₂ =
-      answers-determined (λ x y u v. replayed-determined (decodeOpening opening) (openingGeneration opening) requests b pending w index sound (replayLeft x b₁ pending₁ w₁ index₁) (replayLeft y b₂ pending₂ w₂ index₂) u v)
+      answers-determined (λ x y u v. replayed-determined (openingIn opening) (getD opening 5 0) requests b pending w index sound (replayLeft x b₁ pending₁ w₁ index₁) (replayLeft y b₂ pending₂ w₂ index₂) u v)
 
 module _ (h : Header) (rows sorts : List ℕ) (start : Subset) (ids : List ℕ) (queries : List Query) (first second : List ℕ) where
   abbrev Runs : List ℕ → ℕ → List ℕ → List ℕ → List ℕ → Type 0

@@ -1,14 +1,15 @@
 -- `abi_short_histories::store_sequence` meets its contract. Assumes nothing.
 use mathlib.Core.Path.{refl}
+use Rattle.refusals.specs.Refusals.{ifAccepted}
 use Rattle.short_histories.specs.Sequences.{sequenceView}
-use Rattle.abi.specs.Encoding.{encodeOption, returned, stored}
+use Rattle.abi.specs.Encoding.{encodeOption, returned}
 use Rattle.abi.specs.Laws.Encoding.{stored-as}
 use borrow.Author.Needs.{needs}
 use Rattle.abi_short_histories.proofs.store_sequence.Statement.{statement}
 use Rattle.abi_short_histories.proofs.store_sequence.Tie as tie
 
 pub store-sequence-spec : {M : Type 1} → statement M
-unfolding sequenceView encodeOption returned stored
+unfolding sequenceView encodeOption returned ifAccepted
 store-sequence-spec =
     tie.close
     (tie.spec

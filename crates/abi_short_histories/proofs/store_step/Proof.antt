@@ -1,7 +1,8 @@
 -- `abi_short_histories::store_step` meets its contract. Assumes nothing.
 use mathlib.Core.Path.{refl}
+use Rattle.refusals.specs.Refusals.{ifAccepted}
 use Rattle.short_histories.specs.Sequences.{stepView}
-use Rattle.abi.specs.Encoding.{returned, stored}
+use Rattle.abi.specs.Encoding.{returned}
 use Rattle.abi.specs.Laws.Encoding.{stored-as}
 use Rattle.abi_short_histories.specs.Encoding.{encodeCall}
 use borrow.Author.Needs.{needs}
@@ -9,7 +10,7 @@ use Rattle.abi_short_histories.proofs.store_step.Statement.{statement}
 use Rattle.abi_short_histories.proofs.store_step.Tie as tie
 
 pub store-step-spec : {M : Type 1} → statement M
-unfolding stepView encodeCall returned stored
+unfolding stepView encodeCall returned ifAccepted
 store-step-spec =
     tie.close
     (tie.spec

@@ -3,14 +3,15 @@
 use Prim.Native.Nat.{ℕ}
 use mathlib.Core.Path.{_≡_}
 use mathlib.Core.List.{List}
+use lib.ListN.{getD}
 use Rattle.refusals.specs.Laws.Determined.{Same}
-use Rattle.plain_table.specs.Staged.{Staged}
+use Rattle.plain_table.specs.Staged.{Staged, openingIn}
 use Rattle.table.specs.declared.Header.{Header}
 use Rattle.table.specs.declared.TableAnswer.{TableAnswer}
 use Rattle.table.specs.Numbers.{tableView, mergeView, soundView}
 use Rattle.table.specs.Contracts.{Body, CompactionWords, Opened, Staging, Merging, Compacting, Clearing, Checked, stores}
 use Rattle.table.specs.Laws.Determined.{CallResult, SameOpening, opened-determined, staging-determined, SameMerge, merging-determined, SameCompaction, compacting-determined, SameClear, clearing-determined, checked-determined}
-use Rattle.abi.specs.Encoding.{decodeHeader, decodeOpening, openingGeneration, encodeHeader, encodeMerge, encodeBool, Answers, AnswersWithHeader}
+use Rattle.abi.specs.Encoding.{decodeHeader, encodeHeader, encodeMerge, encodeBool, Answers, AnswersWithHeader}
 use Rattle.abi.specs.Laws.Determined.{SameOutcome, SameWithHeader, answers-determined, answers-with-header-determined}
 
 -- an answer with the stores and words that were written
@@ -22,10 +23,10 @@ Stores header contract r header′ = Answers contract tableView encodeHeader hea
 
 module _ {header : List ℕ} {r₁ r₂ : ℕ} {header₁ header₂ : List ℕ} where
   pub open-determined : (opening : List ℕ) (b : Body) (pending keys₁ keys₂ : List ℕ)
-      → Stores header (λ a. Opened (decodeOpening opening) (openingGeneration opening) b pending a keys₁) r₁ header₁ → Stores header (λ a. Opened (decodeOpening opening) (openingGeneration opening) b pending a keys₂) r₂ header₂
-      → SameOutcome tableView (λ x y. SameOpening (decodeOpening opening) (openingGeneration opening) b pending x keys₁ y keys₂) r₁ r₂ header₁ header₂
+      → Stores header (λ a. Opened (openingIn opening) (getD opening 5 0) b pending a keys₁) r₁ header₁ → Stores header (λ a. Opened (openingIn opening) (getD opening 5 0) b pending a keys₂) r₂ header₂
+      → SameOutcome tableView (λ x y. SameOpening (openingIn opening) (getD opening 5 0) b pending x keys₁ y keys₂) r₁ r₂ header₁ header₂
   open-determined opening b pending keys₁ keys₂ =
-      answers-determined (λ x y. opened-determined (decodeOpening opening) (openingGeneration opening) b pending x keys₁ y keys₂)
+      answers-determined (λ x y. opened-determined (openingIn opening) (getD opening 5 0) b pending x keys₁ y keys₂)
 
   pub stage-determined : (pending : List ℕ) (staged : Staged) (pending₁ pending₂ : List ℕ)
       → Stores header (λ a. Staging (decodeHeader header) pending staged a pending₁) r₁ header₁ → Stores header (λ a. Staging (decodeHeader header) pending staged a pending₂) r₂ header₂

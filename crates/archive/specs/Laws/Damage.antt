@@ -66,7 +66,7 @@ no-image-refused words never =
       loaded = λ capacity b pending answer b′ pending′ m.
           m .refusal ∙ ap (λ (o : Option Image). reply (readRefusal o (m .decoded .sound) capacity b pending) tt) (never _ (m .decoded .reads));
       text = λ output answer output′ m.
-          m .answers ∙ ap (λ (o : Option Image). reply (textRefusal o (length output)) (length (textOf o))) (never _ (m .reads));
+          m .effect .answers ∙ ap (λ (o : Option Image). reply (textRefusal o (length output)) (length (textOf o))) (never _ (m .reads));
     }
 
 pub damage-refused : (words words′ : List ℕ) (i : Image) → Reads words (some i) → Damaged (bytesOf words) (bytesOf words′) → RefusedAsImage words′

@@ -12,7 +12,7 @@ pub use lib.ListN.{drop, getD, length, length-append, take}
 pub use lib.Seq.{length-take-le, take-all, take-at, take-take}
 pub use borrow.Author.Tests.{eq-eqb, le-leb, le-ltb, ltb-false, ne-eqb, not-false}
 pub use Rattle.abi.specs.Encoding.{encodeHeader}
-pub use Rattle.archive.specs.Archive.{Archived, Archives, Damaged, ImageOfLoaded, ReadAfterWrite, RefusedAsImage, Reloaded, Saved, TextAfterWrite, damaged, goes-on, loads, made, reloaded, resized}
+pub use Rattle.archive.specs.Archive.{Archived, Archives, Damaged, ImageOfLoaded, ReadAfterWrite, RefusedAsImage, Reloaded, Saved, damaged, goes-on, loads, made, reloaded, resized}
 pub use Rattle.constraints.specs.Constraints.{isLive}
 pub use Rattle.crc32.specs.Bytes.{Below}
 pub use Rattle.crc32.specs.Crc.{bytesOf, crc32}

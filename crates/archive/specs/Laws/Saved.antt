@@ -42,7 +42,7 @@ module _ {p : Plain} {s : Stores} (r : Represents p s) {words : List ℕ} (saved
 
   accepted-size : (refusal ≡ 0) × (saved .count ≡ imageLength (s .header) (length (saved .text)))
   unfolding refusal lengthView
-  accepted-size = accepted-number refusal _ _ (saved .written .answers)
+  accepted-size = accepted-number refusal _ _ (saved .written .effect .answers)
 
   inside : Inside (s .header)
   inside = outside-inside (s .header) (represents-inside r)
@@ -80,7 +80,7 @@ module _ {p : Plain} {s : Stores} (r : Represents p s) {words : List ℕ} (saved
   unfolding splice refusal
   saved-words =
       saved .image
-      ∙ ap (take (saved .count)) (saved .written .written (accepted-size .0))
+      ∙ ap (take (saved .count)) (saved .written .effect .written (accepted-size .0))
       ∙ take-at (imageWords savedImage) _ (saved .count) (length-image savedImage saved-parts ∙ sym (accepted-size .1))
 
   pub saved-reads : Reads words (some savedImage)

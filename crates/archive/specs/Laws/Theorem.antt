@@ -1,6 +1,6 @@
 -- What archives guarantee. Assumes nothing but the contracts that the definitions cite.
-use Rattle.archive.specs.Laws.Prelude.{ℕ, zero, suc, _*_, _≤_, _≡_, refl, sym, ap, _∙_, Bool, true, false, not, _||_, List, [], _∷_, _++_, inl, inr, Option, none, some, mul-le-mul-right, arith, length, take, append-nil, ltb, eqb, take-all, ltb-false, ne-eqb, not-false, le-ltb, splice, or-no-left, or-no-right, length-splice, Opening, storesShort, Plain, opened, LentCall, after, afterAll, firstRefusal-no, firstRefusal-rest, Header, TableAnswer, Table, Sound, Stores, stores, Body, body, bodyOf, joined, lengths, Represents, LongEnough, stores-long, Inside, outside-inside, sound-represents, live-shown, long-header, pending-part, pending-more, body-part, body-more, Length, LengthAnswer, Image, imageWords, SoundImage, imageOf, Parts, image-parts, reads-unique, behind, Step, step-represents, history-represents, narrowed-wanted, narrowed-rising, run-narrows, Saved, resized, ReadAfterWrite, TextAfterWrite, ImageOfLoaded, Reloaded, reloaded, Archived, made, loads, goes-on, Archives}
-use Rattle.refusals.specs.Refusals.{check, firstRefusal, Reply, refused, accepted, reply, outcome}
+use Rattle.archive.specs.Laws.Prelude.{ℕ, zero, suc, _*_, _≤_, _≡_, refl, sym, ap, _∙_, Bool, true, false, not, _||_, List, [], _∷_, _++_, inl, inr, Option, none, some, mul-le-mul-right, arith, length, take, append-nil, ltb, eqb, take-all, ltb-false, ne-eqb, not-false, le-ltb, splice, or-no-left, or-no-right, length-splice, Opening, storesShort, Plain, opened, LentCall, after, afterAll, firstRefusal-no, firstRefusal-rest, Header, TableAnswer, Table, Sound, Stores, stores, Body, body, bodyOf, joined, lengths, Represents, LongEnough, stores-long, Inside, outside-inside, sound-represents, live-shown, long-header, pending-part, pending-more, body-part, body-more, Length, LengthAnswer, Image, imageWords, SoundImage, imageOf, Parts, image-parts, reads-unique, behind, Step, step-represents, history-represents, narrowed-wanted, narrowed-rising, run-narrows, Saved, resized, ReadAfterWrite, ImageOfLoaded, Reloaded, reloaded, Archived, made, loads, goes-on, Archives}
+use Rattle.refusals.specs.Refusals.{check, firstRefusal, Reply, refused, accepted, reply, outcome, Effect}
 use Rattle.table.specs.Numbers.{openingOf, tableView}
 use Rattle.table.specs.Refusing.{outside, pendingOutside, rowsShort, pairsShort, soundRefusal}
 use Rattle.image_spec.specs.Contracts.{lengthView, writeRefusal, withCapacity, readRefusal, Loaded, ImageRead, textRefusal, textOf, TextRead}
@@ -10,6 +10,7 @@ use Rattle.archive.specs.Laws.Resized.{SameShape, all-words-same, all-wi
 use Rattle.archive.specs.Laws.Saved.{accepted-number, savedImage, saved-reads}
 use Rattle.archive.specs.Laws.Loaded.{front-put, accepted-none, refusal-is, loaded-represents}
 use Rattle.archive.specs.Laws.Damage.{IsImage, read-cases, damage-refused}
+use mathlib.Core.Option.{Option·elim}
 
 -- ---- loading after saving
 
@@ -21,14 +22,15 @@ read-after-write p s words capacity b pending answer b′ pending′ r saved m =
 
 pub text-after-write : (p : Plain) (s : Stores) (words : List ℕ) → Represents p s → (saved : Saved s words)
     → (output : List ℕ) (answer : LengthAnswer) (output′ : List ℕ) → TextRead words output answer output′
-    → TextAfterWrite (saved .text) output answer output′
-unfolding textRefusal textOf
+    → Effect (firstRefusal (check (ltb (length output) (length (saved .text))) 2 ∷ [])) (lengthView answer) (length (saved .text)) output output′ (splice output 0 (saved .text))
+unfolding textRefusal textOf Option·elim
 text-after-write p s words r saved output answer output′ m =
     let e : m .image ≡ some (savedImage r saved) = reads-unique words _ _ (m .reads) (saved-reads r saved) in
     record {
-      answers = m .answers ∙ ap (λ (o : Option Image). reply (textRefusal o (length output)) (length (textOf o))) e;
+      answers = m .effect .answers ∙ ap (λ (o : Option Image). reply (textRefusal o (length output)) (length (textOf o))) e;
+      unchanged = λ k. m .effect .unchanged (rw (ap (λ (o : Option Image). textRefusal o (length output)) e) k);
       written = λ z.
-          m .written (ap (λ (o : Option Image). textRefusal o (length output)) e ∙ z) ∙ ap (λ (o : Option Image). splice output 0 (textOf o)) e;
+          m .effect .written (ap (λ (o : Option Image). textRefusal o (length output)) e ∙ z) ∙ ap (λ (o : Option Image). splice output 0 (textOf o)) e;
     }
 
 -- ---- an image that was accepted
@@ -198,7 +200,7 @@ module _ (words : List ℕ) (capacity : ℕ) (b : Body) (pending : List ℕ) (h 
 module _ {p : Plain} {s : Stores} (rows sorts pending : List ℕ) (r : Represents p (behind s (body rows [] sorts) pending)) {words : List ℕ} (saved : Saved s words) where
   none-short : writeRefusal (s .header) (length (s .rows)) (length (s .sorts)) (length (s .pending)) (length (saved .text)) (length (saved .output)) ≡ 0
   unfolding lengthView
-  none-short = accepted-number _ _ _ (saved .written .answers) .0
+  none-short = accepted-number _ _ _ (saved .written .effect .answers) .0
 
   -- what `write_image` is lent represents the table as well
   lent-represents : Represents p s

@@ -1,10 +1,10 @@
 -- A batch of inserts may be cut anywhere. Assumes nothing but the contracts that batches consist of.
 use Rattle.history.specs.Laws.Prelude.{ℕ, _≡_, sym, ap, _∙_, List, map, arith, length, insert, Header, Merge, Merged, Table, stageRefusal, mergeRefusal, accepted-number, stage-accepted, merge-accepted, staging-done, merging-done, pending-part, pending-more, body-part, body-more, sound-represents, live-shown, behind}
-use Rattle.refusals.specs.Refusals.{Reply, accepted, outcome}
+use Rattle.refusals.specs.Refusals.{Reply, accepted, outcome, ifAccepted}
 use Rattle.plain_table.specs.Plain.{Plain, Numbered, merged as mergedPlain, stage as stagePlain}
 use Rattle.plain_table.specs.Laws.Batches.{batch, liveCells, cut-anywhere}
 use Rattle.table.specs.Numbers.{tableView, mergeView}
-use Rattle.table.specs.Contracts.{Stores, Body, bodyOf, joined, CompactionWords, lengthsLent, Represents, headerAfter, headerMerged, mergeOf, Staging, Merging}
+use Rattle.table.specs.Contracts.{Stores, Body, bodyOf, joined, CompactionWords, lengthsLent, Represents, mergeOf, Staging, Merging}
 use Rattle.history.specs.Claim.{liveIn}
 use Rattle.history.specs.Batches.{Batch, merge, stage, liveCellsIn, CutAnywhere}
 
@@ -14,7 +14,7 @@ module _ {p : Plain} (s : Stores) (rest : Body) (more : List ℕ) (r : Represent
   -- an accepted staging
   stage-represents : {row pending′ : List ℕ} {h : Header} → Staging (s .header) (s .pending) (insert row) (Table h) pending′
       → Represents (stagePlain p (insert row)) (behind (joined h (bodyOf s) pending′) rest more)
-  unfolding tableView headerAfter
+  unfolding tableView ifAccepted
   stage-represents {row} {h = h} m =
       let n = accepted-number (stageRefusal (s .header) (length (s .pending)) (insert row)) h _ (m .answers) in
       let k = stage-accepted (s .header) (length (s .pending)) (insert row) n .free in
@@ -23,7 +23,7 @@ module _ {p : Plain} (s : Stores) (rest : Body) (more : List ℕ) (r : Represent
   -- an accepted merge, and its status
   merge-represents : {w w′ : CompactionWords} {m : Merge} {b′ : Body} → Merging s w (Merged m) b′ w′
       → Represents (mergedPlain p .table) (behind (joined (m .header) b′ (s .pending)) rest more) × (m .status ≡ mergedPlain p .status)
-  unfolding mergeView headerMerged outcome
+  unfolding mergeView ifAccepted outcome
   merge-represents {w} {m = m} c =
       let n = accepted-number (mergeRefusal (s .header) (lengthsLent s w)) tt tt (c .refusal) in
       let k = merge-accepted (s .header) (lengthsLent s w) n in

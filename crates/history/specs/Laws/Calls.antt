@@ -1,8 +1,8 @@
 -- Every call takes stores that show a plain table to stores that show the plain table after the same call. So does a history.
 -- Assumes nothing.
-use Rattle.history.specs.Laws.Prelude.{ℕ, _*_, _≤_, _<_, _≡_, refl, sym, _∙_, inl, inr, List, [], append-nil, arith, length, some-number, Opening, Staged, Plain, opened, Refresh, refused-nothing, accepted-done, whole-right, TableAnswer, MergeAnswer, stageRefusal, mergeRefusal, compactRefusal, clearRefusal, Stores, Represents, headerAfter, headerMerged, Staging, Merging, Compacting, Clearing, Body, body, bodyOf, joined, CompactionWords, lengthsLent, stage-checks, merge-checks, compact-checks, clear-checks, stage-accepted, merge-accepted, compact-accepted, clear-accepted, opening-done, staging-done, staging-refused, merging-done, merging-refused, compacting-done, compacting-refused, clearing-done, clearing-refused, pending-part, pending-more, rows-part, rows-more, keys-part, keys-more, body-part, body-more, RefreshAnswer, IndexSound, refreshView, recordsStaged, headerRefreshed, Refreshing, refresh-checks, records-all, records-whole, number, found-records, passed, refreshing-done, refreshing-refused, fed-accepted, fed-refused, lentCall, Called, stages, merges, compacts, clears, refreshes, refreshes-unsound, behind, Step, called, Steps, end, next, History}
+use Rattle.history.specs.Laws.Prelude.{ℕ, _*_, _≤_, _<_, _≡_, refl, sym, _∙_, inl, inr, List, [], append-nil, arith, length, some-number, Opening, Staged, Plain, opened, Refresh, refused-nothing, accepted-done, whole-right, TableAnswer, MergeAnswer, stageRefusal, mergeRefusal, compactRefusal, clearRefusal, Stores, Represents, Staging, Merging, Compacting, Clearing, Body, body, bodyOf, joined, CompactionWords, lengthsLent, stage-checks, merge-checks, compact-checks, clear-checks, stage-accepted, merge-accepted, compact-accepted, clear-accepted, opening-done, staging-done, staging-refused, merging-done, merging-refused, compacting-done, compacting-refused, clearing-done, clearing-refused, pending-part, pending-more, rows-part, rows-more, keys-part, keys-more, body-part, body-more, RefreshAnswer, IndexSound, refreshView, Refreshing, refresh-checks, records-all, records-whole, number, found-records, passed, refreshing-done, refreshing-refused, fed-accepted, fed-refused, lentCall, Called, stages, merges, compacts, clears, refreshes, refreshes-unsound, behind, Step, called, Steps, end, next, History}
 use Rattle.lists.specs.Lists.{any}
-use Rattle.refusals.specs.Refusals.{firstRefusal}
+use Rattle.refusals.specs.Refusals.{firstRefusal, ifAccepted}
 use Rattle.plain_table.specs.Refusing.{Lengths, storesShort, wordsShort, compactChecks}
 use Rattle.plain_table.specs.Calls.{Call, staging, merging, compacting, clearing, refreshing, feeding, recordsOf, stageAll, refusal, done, after, LentCall, afterAll}
 use Rattle.table.specs.Numbers.{tableView, mergeView}
@@ -22,11 +22,11 @@ module _ {p : Plain} (s : Stores) (rest : Body) (more : List ℕ) (r : Represent
   stays : (l : Lengths) (c : Call) (t : Stores) → 0 < refusal p l c → t ≡ s → Represents (after p l c) (behind t rest more)
   stays l c t h e = rw (refused-nothing p l c h) (unchanged t e)
 
-  staged-represents : (live base : ℕ) (q : Staged) (answer : TableAnswer) (pending′ : List ℕ) → Staging (s .header) (s .pending) q answer pending′
-      → Represents (after p (lentCall (staging q) s live base .lengths) (staging q)) (behind (joined (headerAfter (s .header) (tableView answer)) (bodyOf s) pending′) rest more)
+  staged-represents : (w : CompactionWords) (q : Staged) (answer : TableAnswer) (pending′ : List ℕ) → Staging (s .header) (s .pending) q answer pending′
+      → Represents (after p (lentCall (staging q) s w .lengths) (staging q)) (behind (joined (ifAccepted (tableView answer) (λ h. h) (s .header)) (bodyOf s) pending′) rest more)
   unfolding done
-  staged-represents live base q answer pending′ m =
-      let l = lentCall (staging q) s live base .lengths in
+  staged-represents w q answer pending′ m =
+      let l = lentCall (staging q) s w .lengths in
       let n : ℕ = stageRefusal (s .header) (length (s .pending)) q in
       let same : n ≡ refusal p l (staging q) = stage-checks r l q in
       elim (some-number n) [
@@ -37,7 +37,7 @@ module _ {p : Plain} (s : Stores) (rest : Body) (more : List ℕ) (r : Represent
       ]
 
   merged-represents : (w : CompactionWords) (answer : MergeAnswer) (b′ : Body) (w′ : CompactionWords) → Merging s w answer b′ w′
-      → Represents (after p (lengthsLent s w) merging) (behind (joined (headerMerged (s .header) (mergeView answer)) b′ (s .pending)) rest more)
+      → Represents (after p (lengthsLent s w) merging) (behind (joined (ifAccepted (mergeView answer) (λ m. m .header) (s .header)) b′ (s .pending)) rest more)
   unfolding done
   merged-represents w answer b′ w′ m =
       let l = lengthsLent s w in
@@ -52,7 +52,7 @@ module _ {p : Plain} (s : Stores) (rest : Body) (more : List ℕ) (r : Represent
       ]
 
   compacted-represents : (w : CompactionWords) (answer : TableAnswer) (b′ : Body) (w′ : CompactionWords) → Compacting (s .header) (bodyOf s) w answer b′ w′
-      → Represents (after p (lengthsLent s w) compacting) (behind (joined (headerAfter (s .header) (tableView answer)) b′ (s .pending)) rest more)
+      → Represents (after p (lengthsLent s w) compacting) (behind (joined (ifAccepted (tableView answer) (λ h. h) (s .header)) b′ (s .pending)) rest more)
   unfolding done
   compacted-represents w answer b′ w′ m =
       let l = lengthsLent s w in
@@ -66,11 +66,11 @@ module _ {p : Plain} (s : Stores) (rest : Body) (more : List ℕ) (r : Represent
         | inr h ↦ stays l compacting _ (rw same at h) (compacting-refused m h)
       ]
 
-  cleared-represents : (live base : ℕ) (answer : TableAnswer) (keys′ : List ℕ) → Clearing (s .header) (s .keys) answer keys′
-      → Represents (after p (lentCall clearing s live base .lengths) clearing) (behind (joined (headerAfter (s .header) (tableView answer)) (body (s .rows) keys′ (s .sorts)) (s .pending)) rest more)
+  cleared-represents : (w : CompactionWords) (answer : TableAnswer) (keys′ : List ℕ) → Clearing (s .header) (s .keys) answer keys′
+      → Represents (after p (lentCall clearing s w .lengths) clearing) (behind (joined (ifAccepted (tableView answer) (λ h. h) (s .header)) (body (s .rows) keys′ (s .sorts)) (s .pending)) rest more)
   unfolding done
-  cleared-represents live base answer keys′ m =
-      let l = lentCall clearing s live base .lengths in
+  cleared-represents w answer keys′ m =
+      let l = lentCall clearing s w .lengths in
       let n : ℕ = clearRefusal (s .header) (length (s .keys)) in
       let same : n ≡ refusal p l clearing = clear-checks r l in
       elim (some-number n) [
@@ -83,7 +83,7 @@ module _ {p : Plain} (s : Stores) (rest : Body) (more : List ℕ) (r : Represent
   module _ {q : Refresh} {index pending′ index′ : List ℕ} {answer : RefreshAnswer} (m : Refreshing (s .header) (s .rows) (s .pending) index q answer pending′ index′) where
     -- the lent stores after a refresh, with the cells behind them
     abbrev refreshed-stores : Stores
-    refreshed-stores = behind (joined (headerRefreshed (s .header) (refreshView answer)) (bodyOf s) pending′) rest more
+    refreshed-stores = behind (joined (ifAccepted (refreshView answer) (λ a. a .header) (s .header)) (bodyOf s) pending′) rest more
 
     -- if accepted, it has staged the records that it found
     found-represents : number m ≡ 0 → Represents (stageAll p (found-records m)) refreshed-stores
@@ -95,22 +95,22 @@ module _ {p : Plain} (s : Stores) (rest : Body) (more : List ℕ) (r : Represent
     pub own-records : IndexSound (s .header) (s .rows) (q .columns) index → s .header .capacity * s .header .columns ≤ length (s .rows) → found-records m ≡ recordsOf p q
     own-records sound long = records-all (rows-part (rest .rows) r long) q (m .found) (m .all-found sound)
 
-    pub refresh-same : (live base : ℕ) → IndexSound (s .header) (s .rows) (q .columns) index
-        → number m ≡ refusal p (lentCall (refreshing q (length index)) s live base .lengths) (refreshing q (length index))
-    refresh-same live base sound = refresh-checks r (lentCall (refreshing q (length index)) s live base .lengths) (length index) q (found-records m) (own-records sound)
+    pub refresh-same : (w : CompactionWords) → IndexSound (s .header) (s .rows) (q .columns) index
+        → number m ≡ refusal p (lentCall (refreshing q (length index)) s w .lengths) (refreshing q (length index))
+    refresh-same w sound = refresh-checks r (lentCall (refreshing q (length index)) s w .lengths) (length index) q (found-records m) (own-records sound)
 
-    refreshed-represents : (live base : ℕ) → IndexSound (s .header) (s .rows) (q .columns) index
-        → Represents (after p (lentCall (refreshing q (length index)) s live base .lengths) (refreshing q (length index))) refreshed-stores
+    refreshed-represents : (w : CompactionWords) → IndexSound (s .header) (s .rows) (q .columns) index
+        → Represents (after p (lentCall (refreshing q (length index)) s w .lengths) (refreshing q (length index))) refreshed-stores
     unfolding done
-    refreshed-represents live base sound =
-        let l = lentCall (refreshing q (length index)) s live base .lengths in
+    refreshed-represents w sound =
+        let l = lentCall (refreshing q (length index)) s w .lengths in
         elim (some-number (number m)) [
-          | inl e ↦ goes p l (refreshing q (length index)) (sym (refresh-same live base sound) ∙ e) (rw (own-records sound (passed m e .rows-long)) at (found-represents e))
-          | inr h ↦ stays l (refreshing q (length index)) _ (rw (refresh-same live base sound) at h) (refreshing-refused m h)
+          | inl e ↦ goes p l (refreshing q (length index)) (sym (refresh-same w sound) ∙ e) (rw (own-records sound (passed m e .rows-long)) at (found-represents e))
+          | inr h ↦ stays l (refreshing q (length index)) _ (rw (refresh-same w sound) at h) (refreshing-refused m h)
         ]
 
     -- over an unsound one the plain table is fed these records; none has a wrong width
-    pub fed-right : (l : Lengths) → refusal p l (feeding (recordsStaged (refreshView answer) (found-records m))) ≡ 0
+    pub fed-right : (l : Lengths) → refusal p l (feeding (ifAccepted (refreshView answer) (λ a. found-records m) [])) ≡ 0
     unfolding refusal firstRefusal any
     fed-right l =
         elim (some-number (number m)) [
@@ -118,22 +118,22 @@ module _ {p : Plain} (s : Stores) (rest : Body) (more : List ℕ) (r : Represent
           | inr h ↦ rw (fed-refused m h)
         ]
 
-    fed-represents : (l : Lengths) → Represents (after p l (feeding (recordsStaged (refreshView answer) (found-records m)))) refreshed-stores
+    fed-represents : (l : Lengths) → Represents (after p l (feeding (ifAccepted (refreshView answer) (λ a. found-records m) []))) refreshed-stores
     unfolding done stageAll
     fed-represents l =
-        goes p l (feeding (recordsStaged (refreshView answer) (found-records m))) (fed-right l)
+        goes p l (feeding (ifAccepted (refreshView answer) (λ a. found-records m) [])) (fed-right l)
         (elim (some-number (number m)) [
           | inl e ↦ rw (fed-accepted m e) (found-represents e)
           | inr h ↦ rw (fed-refused m h, append-nil (p .staged)) (unchanged _ (refreshing-refused m h))
         ])
 
   called-represents : {c : LentCall} {t : Stores} → Called s c t → Represents (after p (c .lengths) (c .call)) (behind t rest more)
-  called-represents (stages {live} {base} q answer pending′ m) = staged-represents live base q answer pending′ m
+  called-represents (stages w q answer pending′ m) = staged-represents w q answer pending′ m
   called-represents (merges w answer b′ w′ m) = merged-represents w answer b′ w′ m
   called-represents (compacts w answer b′ w′ m) = compacted-represents w answer b′ w′ m
-  called-represents (clears {live} {base} answer keys′ m) = cleared-represents live base answer keys′ m
-  called-represents (refreshes {live} {base} q index answer pending′ index′ m sound) = refreshed-represents m live base sound
-  called-represents (refreshes-unsound q index answer pending′ index′ m unsound) = fed-represents m _
+  called-represents (clears w answer keys′ m) = cleared-represents w answer keys′ m
+  called-represents (refreshes w q index answer pending′ index′ m sound) = refreshed-represents m w sound
+  called-represents (refreshes-unsound w q index answer pending′ index′ m unsound) = fed-represents m _
 
 -- ---- histories
 

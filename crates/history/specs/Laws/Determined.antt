@@ -1,9 +1,10 @@
 -- The outcome of calls is determined by the table and the cells before them, whatever each call chose for the key store: the same
 -- calls on two tables that differ only in the key store leave two tables that differ only there. Assumes nothing.
-use Rattle.history.specs.Laws.Prelude.{ℕ, zero, suc, _<_, _≡_, refl, sym, ap, _∙_, cond, List, [], _∷_, _++_, map, arith, eqb, length, take, drop, ne-eqb, splice, rowsOf, flatten, Plain, applied, merged, compacted, Header, compactRefusal, rowStore, sortStore, recordWords, Stores, Body, bodyOf, joined, lengthsLent, Represents, mergedStore, MergedTable, CompactedTable, stage-checks, merge-checks, compact-checks, merge-accepted, compact-accepted, pending-part, body-part, refreshView, recordsStaged, found-records, passed, fed-written, lentCall, Called, stages, merges, compacts, clears, refreshes, refreshes-unsound, behind, Step, called, Steps, end, next}
+use Rattle.history.specs.Laws.Prelude.{ℕ, zero, suc, _<_, _≡_, refl, sym, ap, _∙_, cond, List, [], _∷_, _++_, map, arith, eqb, length, take, drop, ne-eqb, splice, rowsOf, flatten, Plain, applied, merged, compacted, Header, compactRefusal, rowStore, sortStore, recordWords, Stores, Body, bodyOf, joined, lengthsLent, Represents, mergedStore, MergedTable, CompactedTable, stage-checks, merge-checks, compact-checks, merge-accepted, compact-accepted, pending-part, body-part, refreshView, found-records, passed, fed-written, lentCall, Called, stages, merges, compacts, clears, refreshes, refreshes-unsound, behind, Step, called, Steps, end, next}
 use Rattle.plain_table.specs.Refusing.{storesShort, wordsShort, compactChecks}
 use Rattle.plain_table.specs.Calls.{Call, staging, merging, compacting, clearing, refreshing, feeding, recordsOf, refusal, LentCall}
 use Rattle.history.specs.Laws.Calls.{own-records, refresh-same, fed-right, step-represents}
+use Rattle.refusals.specs.Refusals.{ifAccepted}
 
 -- equal in everything but the key store
 pub record SameCells (s t : Stores) : Type 0 where
@@ -66,8 +67,8 @@ module _ (p : Plain) (c : LentCall) (s t : Stores) where
 module _ {p : Plain} (s : Stores) (rest : Body) (more : List ℕ) (r : Represents p (behind s rest more)) where
   called-leaves : {c : LentCall} {t : Stores} → Called s c t → Leaves p c (behind s rest more) (behind t rest more)
   unfolding rowsDone sortsDone pendingDone
-  called-leaves (stages {live} {base} q answer pending′ m) =
-      let l = lentCall (staging q) s live base .lengths in
+  called-leaves (stages w q answer pending′ m) =
+      let l = lentCall (staging q) s w .lengths in
       let same = stage-checks r l q in
       record {
         rows = front-changed (refusal p l (staging q)) _ (s .rows) (rest .rows) (s .rows) (λ e. refl) (λ e. refl);
@@ -96,23 +97,23 @@ module _ {p : Plain} (s : Stores) (rest : Body) (more : List ℕ) (r : Represent
         sorts = front-changed (refusal p l compacting) _ (s .sorts) (rest .sorts) (b′ .sorts) (λ e. table e .sorts-after) (λ e. ap (λ (b : Body). b .sorts) (m .unchanged (rw same e) .0));
         pending = front-changed (refusal p l compacting) _ (s .pending) more (s .pending) (λ e. refl) (λ e. refl);
       }
-  called-leaves (clears {live} {base} answer keys′ m) =
-      let n : ℕ = refusal p (lentCall clearing s live base .lengths) clearing in
+  called-leaves (clears w answer keys′ m) =
+      let n : ℕ = refusal p (lentCall clearing s w .lengths) clearing in
       record {
         rows = front-changed n _ (s .rows) (rest .rows) (s .rows) (λ e. refl) (λ e. refl);
         sorts = front-changed n _ (s .sorts) (rest .sorts) (s .sorts) (λ e. refl) (λ e. refl);
         pending = front-changed n _ (s .pending) more (s .pending) (λ e. refl) (λ e. refl);
       }
-  called-leaves (refreshes {live} {base} q index answer pending′ index′ m sound) =
-      let n : ℕ = refusal p (lentCall (refreshing q (length index)) s live base .lengths) (refreshing q (length index)) in
-      let same = refresh-same s rest more r m live base sound in
+  called-leaves (refreshes w q index answer pending′ index′ m sound) =
+      let n : ℕ = refusal p (lentCall (refreshing q (length index)) s w .lengths) (refreshing q (length index)) in
+      let same = refresh-same s rest more r m w sound in
       record {
         rows = front-changed n _ (s .rows) (rest .rows) (s .rows) (λ e. refl) (λ e. refl);
         sorts = front-changed n _ (s .sorts) (rest .sorts) (s .sorts) (λ e. refl) (λ e. refl);
         pending = front-changed n _ (s .pending) more pending′ (λ e. rw (own-records s rest more r m sound (passed m (same ∙ e) .rows-long)) at (m .staged (same ∙ e))) (λ e. m .unchanged (rw same e) .0);
       }
-  called-leaves (refreshes-unsound {live} {base} q index answer pending′ index′ m unsound) =
-      let c = lentCall (feeding (recordsStaged (refreshView answer) (found-records m))) s live base in
+  called-leaves (refreshes-unsound w q index answer pending′ index′ m unsound) =
+      let c = lentCall (feeding (ifAccepted (refreshView answer) (λ a. found-records m) [])) s w in
       let n : ℕ = refusal p (c .lengths) (c .call) in
       record {
         rows = front-changed n _ (s .rows) (rest .rows) (s .rows) (λ e. refl) (λ e. refl);

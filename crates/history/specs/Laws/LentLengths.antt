@@ -2,7 +2,7 @@
 -- 12 row cells and therefore refused, and a merge that is lent all of them is accepted. Assumes nothing.
 use Rattle.history.specs.Laws.Prelude.{ℕ, _≡_, refl, sym, ap, List, [], _∷_, Option, none, some, arith, length, merging, compacting, Header, Merge, Merged, emptyHeader, empty-represents, opened-done}
 use Rattle.lists.specs.Lists.{splice, count, rowsOf, flatten}
-use Rattle.refusals.specs.Refusals.{firstRefusal, reply, outcome}
+use Rattle.refusals.specs.Refusals.{firstRefusal, reply, outcome, ifAccepted}
 use Rattle.sort_entries.specs.Entries.{entryWords, rebuiltFrom, rebuilt}
 use Rattle.key_index.specs.Slots.{sizeClass, sizeClassFor}
 use Rattle.plain_table.specs.Staged.{Opening, openable, Staged, insert, removeKey, removeRow, wordsOf, wordsAll, inserts, compactionDue}
@@ -13,7 +13,7 @@ use Rattle.table.specs.declared.TableAnswer.the-variants.{Refused as TableRefus
 use Rattle.table.specs.Numbers.{openingOf, largestOf, tableView, mergeView}
 use Rattle.table.specs.Refusing.{outside, pendingOutside, mergeRefusal, compactRefusal}
 use Rattle.table.specs.Stores.{entries, stored, rowStore, sortStore}
-use Rattle.table.specs.Contracts.{Stores, stores, Represents, body, CompactionWords, compactionWords, headerAfter, headerMerged, mergeOf, mergedStore, Opened, Merging, MergedTable, Compacting}
+use Rattle.table.specs.Contracts.{Stores, stores, Represents, body, CompactionWords, compactionWords, mergeOf, mergedStore, Opened, Merging, MergedTable, Compacting}
 use Rattle.history.specs.Histories.{merges as merge-called, compacts as compact-called, called, end, next, History}
 
 -- ---- a table that was just opened
@@ -105,7 +105,7 @@ example-merged =
 pub lengths-differ : History example 0
     (record { call = compacting; lengths = lentRows 11 } ∷ record { call = merging; lengths = lentRows 12 } ∷ [])
     exampleStores
-unfolding headerAfter headerMerged tableView mergeView opened merged applied inserts removed insertAll unstaged compactsAfter compactionDue dead count entries rebuilt rebuiltFrom wordsAll largestOf
+unfolding ifAccepted tableView mergeView opened merged applied inserts removed insertAll unstaged compactsAfter compactionDue dead count entries rebuilt rebuiltFrom wordsAll largestOf
 lengths-differ =
     record {
       start = exampleStores;

@@ -3,7 +3,7 @@
 -- for them in every history; and an example. Assumes nothing.
 use Rattle.history.specs.Laws.Prelude.{ℕ, _-_, _*_, _<_, _≡_, refl, sym, ap, _∙_, true, List, [], _∷_, mul-le-mul-right, arith, length, take, length-take, lt-ltb, Constraint, Plain, LentCall, Stores, stores, Represents, body, emptyHeader, opened-done, outside-inside, represents-inside, wanted}
 use Rattle.lists.specs.Lists.{splice, filter, all, any, rising}
-use Rattle.refusals.specs.Refusals.{firstRefusal, Reply, refused, accepted, reply}
+use Rattle.refusals.specs.Refusals.{firstRefusal, Reply, refused, accepted, reply, ifAccepted}
 use Rattle.offsets.specs.Subsets.{Subset, range, members, retain}
 use Rattle.offsets.specs.Laws.Subsets.{members-retain}
 use Rattle.offsets.specs.Laws.Forms.{size-range, end-range, formed-range, length-range}
@@ -52,7 +52,7 @@ queried-by s lent a c output r e =
 module _ {p : Plain} {s : Stores} (r : Represents p s) (a v b w : Subset) (c : Constraint) (output : List ℕ) (one : replied s (needed s) a c (length output) ≡ accepted v) (same : members b ≡ members v)
     (three : replied s (needed s) b c (length output) ≡ accepted w) where
   pub short-between : Run s a (refineOne c ∷ refineOne c ∷ refineOne c ∷ []) w (refineOne c ∷ refineOne c ∷ [])
-  unfolding byReply
+  unfolding byReply ifAccepted
   short-between =
       next (queried-by s (needed s) a c output (accepted v) one) same
       (next (queried-by s (needed s - 1) b c output (refused 2) (refused-by-2 r b c (length output))) refl

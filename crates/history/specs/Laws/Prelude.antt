@@ -40,7 +40,7 @@ pub use Rattle.refresh_spec.specs.Laws.Decided.{index-decided}
 pub use Rattle.refresh_spec.specs.Laws.Fronts.{continues, generation-front, index-front, index-more, named-count, new-front}
 pub use Rattle.refresh_spec.specs.Laws.Keeps.{fed-accepted, fed-refused, fed-written, found-records, number, passed, records-all, records-whole, refresh-checks, refreshing-done, refreshing-refused, view-accepted, view-refused}
 pub use Rattle.refresh_spec.specs.Laws.Lookup.{lookup-holding, names-of}
-pub use Rattle.refresh_spec.specs.Refreshes.{Refreshing, headerRefreshed, recordsStaged, refreshView}
+pub use Rattle.refresh_spec.specs.Refreshes.{Refreshing, refreshView}
 pub use Rattle.refresh_spec.specs.declared.RefreshAnswer.{RefreshAnswer}
 pub use Rattle.refresh_spec.specs.declared.Refreshed.{Refreshed}
 pub use Rattle.refusals.specs.Laws.Replies.{ruled-refused, some-number}
@@ -48,7 +48,7 @@ pub use Rattle.refusals.specs.Refusals.{Reply, accepted, refused}
 pub use Rattle.sort_entries.specs.Entries.{Entry, entriesOf, fastRange}
 pub use Rattle.sort_entries.specs.Laws.Ranges.{fast-range}
 pub use Rattle.sort_entries.specs.Laws.Stores.{entriesOf-same}
-pub use Rattle.table.specs.Contracts.{Body, Clearing, CompactedTable, Compacting, CompactionWords, MergedTable, Merging, Opened, Represents, Staging, Stores, body, bodyOf, headerAfter, headerMerged, joined, lengthsLent, mergeOf, mergedStore, stores}
+pub use Rattle.table.specs.Contracts.{Body, Clearing, CompactedTable, Compacting, CompactionWords, MergedTable, Merging, Opened, Represents, Staging, Stores, body, bodyOf, compactionWords, joined, lengthsLent, mergeOf, mergedStore, stores}
 pub use Rattle.table.specs.Laws.Checks.{clear-checks, compact-checks, merge-checks, stage-checks}
 pub use Rattle.table.specs.Laws.Fronts.{body-more, body-part, keys-more, keys-part, pending-more, pending-part, rows-more, rows-part}
 pub use Rattle.table.specs.Laws.Keeps.{clearing-done, clearing-refused, compacting-done, compacting-refused, merging-done, merging-refused, opening-done, staging-done, staging-refused}

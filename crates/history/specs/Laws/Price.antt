@@ -3,29 +3,30 @@ use Rattle.history.specs.Laws.Prelude.{ℕ, _+_, _≤_, _<_, _≡_, refl
 use Rattle.plain_table.specs.Plain.{Plain, opened, stage, dead, mergeKeeps, mergeDrops}
 use Rattle.plain_table.specs.Refusing.{storesShort, wordsShort, compactChecks}
 use Rattle.plain_table.specs.Calls.{merging, compacting, clearing, stageAll, refusal, done, after, LentCall, afterAll}
-use Rattle.plain_table.specs.Appending.{mergeOrClear, byCall, mergeCount, sumOverMerges, mergeAdds}
-use Rattle.history.specs.Price.{Wear, wear, counted, wearOfCall, wearOfSteps, PriceOfCompaction}
+use Rattle.plain_table.specs.Appending.{mergeOrClear, byCall, sumOverMerges, mergeAdds}
+use Rattle.history.specs.Price.{Wear, wear, wearOfCall, wearOfSteps, PriceOfCompaction}
 use Rattle.history.specs.Laws.Calls.{step-represents, opened-represents, history-represents}
+use Rattle.refusals.specs.Refusals.{ifAccepted}
 
 -- ---- one call
 
 -- its counts are those of the definition, and each row that existed before it or was appended by it is left, dropped or emptied
 record Balanced (p : Plain) (c : LentCall) (w : Wear) : Type 0 where
-  kept : w .kept ≡ mergeCount mergeKeeps p c
-  dropped : w .dropped ≡ mergeCount mergeDrops p c
+  kept : w .kept ≡ byCall p c (mergeKeeps p) 0 0
+  dropped : w .dropped ≡ byCall p c (mergeDrops p) 0 0
   fewer : w .kept ≤ w .dropped
-  rows : length (p .rows) + mergeCount mergeAdds p c ≡ length (after p (c .lengths) (c .call) .rows) + (w .dropped + w .compacted) + w .emptied
+  rows : length (p .rows) + byCall p c (mergeAdds p) 0 0 ≡ length (after p (c .lengths) (c .call) .rows) + (w .dropped + w .compacted) + w .emptied
 
 -- a refused call counts nothing
 refused-balanced : (p : Plain) (c : LentCall) → 0 < refusal p (c .lengths) (c .call) → Balanced p c (wear 0 0 0 0)
-unfolding mergeCount byCall
+unfolding byCall
 refused-balanced p c h =
     let e = ne-eqb (refusal p (c .lengths) (c .call)) 0 (λ q. omega arith) in
     record { kept = rw e; dropped = rw e; fewer = omega arith; rows = rw (refused-nothing p (c .lengths) (c .call) h, e) (omega arith) }
 
 module _ (p : Plain) (c : LentCall) (z : refusal p (c .lengths) (c .call) ≡ 0) where
-  accepted-of : (number : Plain → ℕ) → mergeCount number p c ≡ mergeOrClear (c .call) (number p) 0 0
-  unfolding mergeCount byCall
+  accepted-of : (number : Plain → ℕ) → byCall p c (number p) 0 0 ≡ mergeOrClear (c .call) (number p) 0 0
+  unfolding byCall
   accepted-of number = rw (eq-eqb (refusal p (c .lengths) (c .call)) 0 z)
 
   done-balanced : (w : Wear) → w .kept ≡ mergeOrClear (c .call) (mergeKeeps p) 0 0 → w .dropped ≡ mergeOrClear (c .call) (mergeDrops p) 0 0 → w .kept ≤ w .dropped
@@ -47,12 +48,12 @@ staged-balanced p c none e =
       | inr h ↦ refused-balanced p c h
     ]
 
-counted-refused : {A : Type 0} (r : Reply A) (n : ℕ) (f : A → Wear) → r ≡ refused n → counted r f ≡ wear 0 0 0 0
-unfolding counted
+counted-refused : {A : Type 0} (r : Reply A) (n : ℕ) (f : A → Wear) → r ≡ refused n → ifAccepted r f (wear 0 0 0 0) ≡ wear 0 0 0 0
+unfolding ifAccepted
 counted-refused r n f e = rw e
 
-counted-accepted : {A : Type 0} (r : Reply A) (a : A) (f : A → Wear) → r ≡ accepted a → counted r f ≡ f a
-unfolding counted
+counted-accepted : {A : Type 0} (r : Reply A) (a : A) (f : A → Wear) → r ≡ accepted a → ifAccepted r f (wear 0 0 0 0) ≡ f a
+unfolding ifAccepted
 counted-accepted r a f e = rw e
 
 -- the counts of a merge, of the caller's compaction and of a clear
@@ -68,7 +69,7 @@ clearing-wears s h = wear 0 0 0 (s .header .rows)
 -- the lent part of each store, and the cells behind it
 module _ {p : Plain} (s : Stores) (rest : Body) (more : List ℕ) (r : Represents p (behind s rest more)) where
   merged-balanced : (w : CompactionWords) (answer : MergeAnswer) (b′ : Body) (w′ : CompactionWords) → Merging s w answer b′ w′
-      → Balanced p (record { call = merging; lengths = lengthsLent s w }) (counted (mergeView answer) merging-wears)
+      → Balanced p (record { call = merging; lengths = lengthsLent s w }) (ifAccepted (mergeView answer) merging-wears (wear 0 0 0 0))
   unfolding done mergeOrClear
   merged-balanced w answer b′ w′ m =
       let c : LentCall = record { call = merging; lengths = lengthsLent s w } in
@@ -84,7 +85,7 @@ module _ {p : Plain} (s : Stores) (rest : Body) (more : List ℕ) (r : Represent
       ]
 
   compacted-balanced : (w : CompactionWords) (answer : TableAnswer) (b′ : Body) (w′ : CompactionWords) → Compacting (s .header) (bodyOf s) w answer b′ w′
-      → Balanced p (record { call = compacting; lengths = lengthsLent s w }) (counted (tableView answer) (compacting-wears s))
+      → Balanced p (record { call = compacting; lengths = lengthsLent s w }) (ifAccepted (tableView answer) (compacting-wears s) (wear 0 0 0 0))
   unfolding done mergeOrClear
   compacted-balanced w answer b′ w′ m =
       let c : LentCall = record { call = compacting; lengths = lengthsLent s w } in
@@ -100,11 +101,11 @@ module _ {p : Plain} (s : Stores) (rest : Body) (more : List ℕ) (r : Represent
         | inr h ↦ rw (counted-refused (tableView answer) n (compacting-wears s) (ruled-refused (tableView answer) n (m .refusal) h)) (refused-balanced p c (rw same at h))
       ]
 
-  cleared-balanced : {live base : ℕ} (answer : TableAnswer) (keys′ : List ℕ) → Clearing (s .header) (s .keys) answer keys′
-      → Balanced p (lentCall clearing s live base) (counted (tableView answer) (clearing-wears s))
+  cleared-balanced : (w : CompactionWords) (answer : TableAnswer) (keys′ : List ℕ) → Clearing (s .header) (s .keys) answer keys′
+      → Balanced p (lentCall clearing s w) (ifAccepted (tableView answer) (clearing-wears s) (wear 0 0 0 0))
   unfolding done mergeOrClear
-  cleared-balanced {live} {base} answer keys′ m =
-      let c = lentCall clearing s live base in
+  cleared-balanced w answer keys′ m =
+      let c = lentCall clearing s w in
       let l = c .lengths in
       let n : ℕ = clearRefusal (s .header) (length (s .keys)) in
       let same : n ≡ refusal p l clearing = clear-checks r l in
@@ -119,12 +120,12 @@ module _ {p : Plain} (s : Stores) (rest : Body) (more : List ℕ) (r : Represent
 
   called-balanced : {c : LentCall} {t : Stores} (call : Called s c t) → Balanced p c (wearOfCall call)
   unfolding wearOfCall done mergeOrClear stage stageAll
-  called-balanced (stages q answer pending′ m) = staged-balanced p _ (λ number. refl) refl
+  called-balanced (stages w q answer pending′ m) = staged-balanced p _ (λ number. refl) refl
   called-balanced (merges w answer b′ w′ m) = merged-balanced w answer b′ w′ m
   called-balanced (compacts w answer b′ w′ m) = compacted-balanced w answer b′ w′ m
-  called-balanced (clears answer keys′ m) = cleared-balanced answer keys′ m
-  called-balanced (refreshes q index answer pending′ index′ m sound) = staged-balanced p _ (λ number. refl) refl
-  called-balanced (refreshes-unsound q index answer pending′ index′ m unsound) = staged-balanced p _ (λ number. refl) refl
+  called-balanced (clears w answer keys′ m) = cleared-balanced w answer keys′ m
+  called-balanced (refreshes w q index answer pending′ index′ m sound) = staged-balanced p _ (λ number. refl) refl
+  called-balanced (refreshes-unsound w q index answer pending′ index′ m unsound) = staged-balanced p _ (λ number. refl) refl
 
 -- ---- all the calls
 

@@ -12,13 +12,14 @@ use Rattle.query_spec.specs.Queries.{matches, pastRows, queryChecks, refineRefu
 use Rattle.history.specs.Runs.{Query, refines, Outcome, byReply, Intersected, Queried, one-refined, list-refined, intersected, range-intersected, range-nothing}
 use Rattle.history.specs.Claim.{satisfies}
 use Rattle.history.specs.Laws.Narrowing.{alive, alive-of, alive-below, alive-live, Narrows, narrows-not, narrows-filter}
+use Rattle.refusals.specs.Refusals.{ifAccepted}
 
 -- ---- an answer, read from its output
 
 -- a refused query leaves the ids and counts for nothing, an accepted one narrows them to its value
 replied-narrows : {s : Stores} {q : Query} (a : Subset) (r : Reply Subset) → ((v : Subset) → r ≡ accepted v → Narrows s (members a) (members v) (q ∷ []))
     → Narrows s (members a) (members (byReply a q r .ids)) (byReply a q r .accepted)
-unfolding byReply
+unfolding byReply ifAccepted
 replied-narrows {s} a (refused n) f = narrows-not s (members a)
 replied-narrows a (accepted v) f = f v refl
 

@@ -3,7 +3,7 @@
 -- Assumes nothing.
 use Rattle.history.specs.Laws.Prelude.{ℕ, refl, sym, true, false, false≢true, List, [], _∷_, arith, refreshing, feeding, Header, body, emptyHeader, Refreshed, lentCall, refreshes, refreshes-unsound, called, end, next, History}
 use Rattle.lists.specs.Lists.{splice, filter, all, flatten, same, rowsOf}
-use Rattle.refusals.specs.Refusals.{firstRefusal, reply}
+use Rattle.refusals.specs.Refusals.{firstRefusal, reply, ifAccepted}
 use Rattle.plain_table.specs.Staged.{openable, wordsAll}
 use Rattle.plain_table.specs.Plain.{liveFrom, liveRows, below}
 use Rattle.plain_table.specs.Refusing.{overfull}
@@ -13,8 +13,9 @@ use Rattle.table.specs.Refusing.{outside, pendingOutside}
 use Rattle.table.specs.Stores.{rowsIn}
 use Rattle.refresh_spec.specs.declared.RefreshAnswer.the-variants.{Refreshed as RefreshDone}
 use Rattle.refresh_spec.specs.Index.{isNew, generationSeen, rowsSeen, columnsNamed, namedIn, IndexSound, startsAfresh}
-use Rattle.refresh_spec.specs.Refreshes.{refreshView, refreshRefusal, recordsFound, recordsStaged, headerRefreshed, Refreshing}
+use Rattle.refresh_spec.specs.Refreshes.{refreshView, refreshRefusal, recordsFound, Refreshing}
 use Rattle.history.specs.Laws.LentLengths.{example, exampleStores, example-opened}
+use Rattle.table.specs.Contracts.{compactionWords}
 
 abbrev empty : Header
 empty = emptyHeader example 0
@@ -70,9 +71,9 @@ unfolding indexShort startsAfresh isNew generationSeen rowsSeen columnsNamed nam
 wrong-unsound sound = let o = sound (omega arith) refl refl in omega (arith, o .seen)
 
 pub both-kinds : History example 0
-    (lentCall (refreshing byColumn 28) exampleStores 0 0 ∷ lentCall (feeding []) exampleStores 0 0 ∷ [])
+    (lentCall (refreshing byColumn 28) exampleStores (compactionWords [] []) ∷ lentCall (feeding []) exampleStores (compactionWords [] []) ∷ [])
     exampleStores
-unfolding refreshView headerRefreshed recordsStaged recordsFound refreshed mentioning liveRows liveFrom rowsIn rowsOf filter flatten
+unfolding refreshView ifAccepted recordsFound refreshed mentioning liveRows liveFrom rowsIn rowsOf filter flatten
 both-kinds =
     record {
       start = exampleStores;
@@ -81,7 +82,7 @@ both-kinds =
       rest = body [] [] [];
       pending = [];
       steps =
-          next (called {s = exampleStores} (body [] [] []) [] (refreshes byColumn (indexStore 0 0 0 0) (RefreshDone nothing) [] (indexStore 1 0 1 2) (example-refreshed 0 0 0 0) new-sound))
-          (next (called {s = exampleStores} (body [] [] []) [] (refreshes-unsound byColumn (indexStore 1 1 1 2) (RefreshDone nothing) [] (indexStore 1 0 1 2) (example-refreshed 1 1 1 2) wrong-unsound))
+          next (called {s = exampleStores} (body [] [] []) [] (refreshes (compactionWords [] []) byColumn (indexStore 0 0 0 0) (RefreshDone nothing) [] (indexStore 1 0 1 2) (example-refreshed 0 0 0 0) new-sound))
+          (next (called {s = exampleStores} (body [] [] []) [] (refreshes-unsound (compactionWords [] []) byColumn (indexStore 1 1 1 2) (RefreshDone nothing) [] (indexStore 1 0 1 2) (example-refreshed 1 1 1 2) wrong-unsound))
           (end exampleStores));
     }

@@ -1,14 +1,17 @@
 -- Index stores remain sound along every history, and refreshes over them have the effect of the plain table's, from the contracts
 -- alone. Assumes nothing.
-use Rattle.history.specs.Laws.Prelude.{ℕ, _+_, _*_, _≤_, _<_, _≡_, refl, sym, ap, _∙_, inl, inr, true, false, false≢true, List, [], _∷_, _++_, mul-le-mul-right, arith, length, drop, length-drop, take-append-le, drop-append-le, ltb-false, row-in, some-number, isLive, Opening, Plain, openable-bounds, onward-all, follows-length, Header, Stores, Body, bodyOf, joined, Represents, reply-refused, rows-counted, rows-part, RefreshAnswer, isNew, generationSeen, lookedUp, IndexOf, IndexSound, Current, number, found-records, view-accepted, view-refused, passed, index-more, index-front, new-front, generation-front, continues, named-count, names-of, lookup-holding, refreshes, behind, Step, called, end, next, History}
+use Rattle.history.specs.Laws.Prelude.{ℕ, _+_, _*_, _≤_, _<_, _≡_, refl, sym, ap, _∙_, inl, inr, true, false, false≢true, List, [], _∷_, _++_, mul-le-mul-right, arith, length, drop, length-drop, take-append-le, drop-append-le, ltb-false, row-in, some-number, isLive, Opening, Plain, openable-bounds, onward-all, follows-length, Header, Stores, Body, bodyOf, joined, Represents, reply-refused, rows-counted, rows-part, RefreshAnswer, isNew, generationSeen, lookedUp, IndexOf, IndexSound, Current, number, found-records, view-accepted, view-refused, passed, index-more, index-front, new-front, generation-front, continues, named-count, names-of, lookup-holding, refreshes, behind, Step, called, end, next, History, refreshing}
 use Rattle.lists.specs.Lists.{rowAt}
 use Rattle.plain_table.specs.Refreshing.{Refresh, indexShort}
 use Rattle.plain_table.specs.Calls.{recordsOf, LentCall, after, afterAll}
-use Rattle.refresh_spec.specs.Refreshes.{refreshView, answered, headerRefreshed, Refreshing}
-use Rattle.history.specs.Refreshes.{ownRefresh, OwnIndex, adopted, other-call, refreshes as refreshes-kept, holding, ownRefusal, RefreshesOwn, OwnIndexesSound}
+use Rattle.refresh_spec.specs.Refreshes.{refreshView, answered, Refreshing}
+use Rattle.history.specs.Refreshes.{OwnIndex, adopted, other-call, refreshes as refreshes-kept, holding, ownRefusal, RefreshesOwn, OwnIndexesSound}
 use Rattle.history.specs.Laws.Calls.{own-records, refresh-same, step-represents, history-represents}
 use Rattle.history.specs.Laws.Further.{history-then}
 use Rattle.history.specs.Laws.Notes.{generation-shown, same-now}
+use Rattle.refusals.specs.Refusals.{ifAccepted}
+use Rattle.history.specs.Histories.{lentCall}
+use Rattle.table.specs.Contracts.{CompactionWords, compactionWords}
 
 -- ---- two tables with a row store each; the second has no fewer rows
 
@@ -94,8 +97,8 @@ module _ (t : Stores) (rest : Body) (pending lent more : List ℕ) (b : Beside (
       (index-front h lent more (rows-fit r) (rw n l) o)
 
   module _ {q : Refresh} {answer : RefreshAnswer} {pending′ lent′ : List ℕ} (m : Refreshing (t .header) (t .rows) (t .pending) lent q answer pending′ lent′) where
-    refreshed-followed : Followed (headerRefreshed (t .header) (refreshView answer)) (t .rows ++ rest .rows) (lent′ ++ more)
-    unfolding headerRefreshed
+    refreshed-followed : Followed (ifAccepted (refreshView answer) (λ a. a .header) (t .header)) (t .rows ++ rest .rows) (lent′ ++ more)
+    unfolding ifAccepted
     refreshed-followed =
         let h = t .header in
         let r = b .represents in
@@ -115,18 +118,18 @@ module _ (t : Stores) (rest : Body) (pending lent more : List ℕ) (b : Beside (
 
     -- the refresh is a step of a history
     abbrev refreshed-stores : Stores
-    refreshed-stores = behind (joined (headerRefreshed (t .header) (refreshView answer)) (bodyOf t) pending′) rest pending
+    refreshed-stores = behind (joined (ifAccepted (refreshView answer) (λ a. a .header) (t .header)) (bodyOf t) pending′) rest pending
 
-    own-step : {live base : ℕ} → Step (behind t rest pending) (ownRefresh t lent q live base) refreshed-stores
-    own-step {live} {base} = called {s = t} rest pending (refreshes {live = live} {base = base} q lent answer pending′ lent′ m (lent-sound (q .columns)))
+    own-step : (w : CompactionWords) → Step (behind t rest pending) (lentCall (refreshing q (length lent)) t w) refreshed-stores
+    own-step w = called {s = t} rest pending (refreshes w q lent answer pending′ lent′ m (lent-sound (q .columns)))
 
     refreshes-beside : Beside refreshed-stores (lent′ ++ more)
-    refreshes-beside = record { plain = _; represents = step-represents (b .represents) (own-step {live = 0} {base = 0}); followed = refreshed-followed }
+    refreshes-beside = record { plain = _; represents = step-represents (b .represents) (own-step (compactionWords [] [])); followed = refreshed-followed }
 
     -- it has the effect of the plain table's refresh
     module _ {p : Plain} (r : Represents p (behind t rest pending)) where
       refused-same : number m ≡ ownRefusal p t q lent
-      refused-same = refresh-same t rest pending r m 0 0 (lent-sound (q .columns))
+      refused-same = refresh-same t rest pending r m (compactionWords [] []) (lent-sound (q .columns))
 
       accepted-same : ownRefusal p t q lent ≡ 0 → number m ≡ 0
       accepted-same e = refused-same ∙ e
@@ -172,9 +175,9 @@ own-index-beside (adopted index history is) = (
   },
 )
 own-index-beside (other-call {u = u} kept step) = let k = own-index-beside kept in (history-then (k .0) (next step (end u)), other-call-beside (k .1) step)
-own-index-beside (refreshes-kept t rest pending lent more live base q answer pending′ lent′ kept m) =
+own-index-beside (refreshes-kept t rest pending lent more w q answer pending′ lent′ kept m) =
     let k = own-index-beside kept in
-    (history-then (k .0) (next (own-step t rest pending lent more (k .1) m {live = live} {base = base}) (end _)), refreshes-beside t rest pending lent more (k .1) m)
+    (history-then (k .0) (next (own-step t rest pending lent more (k .1) m w) (end _)), refreshes-beside t rest pending lent more (k .1) m)
 
 pub own-indexes-sound : OwnIndexesSound
 own-indexes-sound =

@@ -1,17 +1,21 @@
 -- Every outcome that meets the contract of its entry point is a call of a history. Only a refresh needs a case distinction: its
 -- index store is sound or it is not. Assumes nothing.
-use Rattle.history.specs.Laws.Prelude.{inl, inr, index-decided, stages, merges, compacts, clears, refreshes, refreshes-unsound, EveryOutcomeIsACall}
+use Rattle.history.specs.Laws.Prelude.{[], inl, inr, index-decided, CompactionWords, compactionWords, stages, merges, compacts, clears, refreshes, refreshes-unsound, EveryOutcomeIsACall}
+
+-- a call that is lent no compaction words
+abbrev none-lent : CompactionWords
+none-lent = compactionWords [] []
 
 pub every-outcome-is-a-call : EveryOutcomeIsACall
 every-outcome-is-a-call =
     record {
-      staging = λ s r answer pending′ m. (_, stages {live = 0} {base = 0} r answer pending′ m);
+      staging = λ s r answer pending′ m. (_, stages none-lent r answer pending′ m);
       merge = λ s w answer b′ w′ m. (_, merges w answer b′ w′ m);
       compact = λ s w answer b′ w′ m. (_, compacts w answer b′ w′ m);
-      clear = λ s answer keys′ m. (_, clears {live = 0} {base = 0} answer keys′ m);
+      clear = λ s answer keys′ m. (_, clears none-lent answer keys′ m);
       refresh = λ s r index answer pending′ index′ m.
           elim (index-decided (s .header) (s .rows) (r .columns) index) [
-            | inl sound ↦ (_, refreshes {live = 0} {base = 0} r index answer pending′ index′ m sound)
-            | inr unsound ↦ (_, refreshes-unsound {live = 0} {base = 0} r index answer pending′ index′ m unsound)
+            | inl sound ↦ (_, refreshes none-lent r index answer pending′ index′ m sound)
+            | inr unsound ↦ (_, refreshes-unsound none-lent r index answer pending′ index′ m unsound)
           ];
     }

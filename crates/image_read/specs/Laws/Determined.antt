@@ -15,7 +15,7 @@ use Rattle.refusals.specs.Laws.Determined.{Same, refused-same}
 use Rattle.table.specs.declared.Header.{Header}
 use Rattle.table.specs.declared.TableAnswer.{TableAnswer}
 use Rattle.table.specs.Numbers.{tableView}
-use Rattle.table.specs.Contracts.{Body, SlotsPast}
+use Rattle.table.specs.Contracts.{Body, SamePast}
 use Rattle.table.specs.Laws.Answers.{table-view-injective}
 use Rattle.image_spec.specs.declared.LengthAnswer.{LengthAnswer}
 use Rattle.image_spec.specs.declared.LengthAnswer.the-variants.{Refused, Length}
@@ -40,10 +40,10 @@ text-read-determined {words} {output} {a = a} {b = b} x y =
     let e = reads-unique words (x .image) (y .image) (x .reads) (y .reads) in
     let number = ap (λ (i : Option Image). textRefusal i (length output)) e in
     record {
-      answer = length-view-injective a b (x .answers ∙ ap (λ (i : Option Image). reply (textRefusal i (length output)) (length (textOf i))) e ∙ sym (y .answers));
+      answer = length-view-injective a b (x .effect .answers ∙ ap (λ (i : Option Image). reply (textRefusal i (length output)) (length (textOf i))) e ∙ sym (y .effect .answers));
       cells =
-          ⊎-elim (λ z. x .written z ∙ ap (λ (i : Option Image). splice output 0 (textOf i)) e ∙ sym (y .written (sym number ∙ z)))
-          (λ k. x .unchanged k ∙ sym (y .unchanged (rw number at k)))
+          ⊎-elim (λ z. x .effect .written z ∙ ap (λ (i : Option Image). splice output 0 (textOf i)) e ∙ sym (y .effect .written (sym number ∙ z)))
+          (λ k. x .effect .unchanged k ∙ sym (y .effect .unchanged (rw number at k)))
           (some-number (textRefusal (x .image) (length output)));
     }
 
@@ -71,7 +71,7 @@ module _ (words : List ℕ) (capacity : ℕ) (s : Body) (pending : List ℕ) (a 
     pub pending-words : pending₁ ≡ pending₂
     -- the key store of a refused call, and what is never written of an accepted one's
     pub keys : (n : ℕ) → tableView a ≡ refused n → s₁ .keys ≡ s₂ .keys
-    pub slots-past : (h : Header) → tableView a ≡ accepted h → SlotsPast (h .capacity) (s₁ .keys) (s₂ .keys)
+    pub slots-past : (h : Header) → tableView a ≡ accepted h → SamePast (2 * h .capacity) (s₁ .keys) (s₂ .keys)
 
   pub image-read-determined : ImageRead words capacity s pending a s₁ pending₁ → ImageRead words capacity s pending b s₂ pending₂ → SameRead
   image-read-determined x y = ⊎-elim accept refuse (some-number number)

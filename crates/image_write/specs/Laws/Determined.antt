@@ -17,8 +17,8 @@ pub written-determined : {h : Header} {rows sorts pending text output output₁ 
     → ImageWritten h rows sorts pending text output a output₁ → ImageWritten h rows sorts pending text output b output₂ → Same a b output₁ output₂
 written-determined {h} {rows} {sorts} {pending} {text} {output} {a = a} {b = b} x y =
     record {
-      answer = same-reply a b (x .answers ∙ sym (y .answers));
+      answer = same-reply a b (x .effect .answers ∙ sym (y .effect .answers));
       cells =
-          ⊎-elim (λ none. x .written none ∙ sym (y .written none)) (λ some. x .unchanged some ∙ sym (y .unchanged some))
+          ⊎-elim (λ none. x .effect .written none ∙ sym (y .effect .written none)) (λ some. x .effect .unchanged some ∙ sym (y .effect .unchanged some))
           (some-number (writeRefusal h (length rows) (length sorts) (length pending) (length text) (length output)));
     }

@@ -34,6 +34,6 @@ pub written-reads : {h : Header} {rows sorts pending text output output′ : Lis
     → ImageWritten h rows sorts pending text output (Length n) output′ → Reads (take n output′) (some (imageOf h rows sorts pending text))
 unfolding lengthView
 written-reads {h} {rows} {sorts} {pending} {text} {output} {n = n} bytes w =
-    let none = accepted-number _ _ _ (w .answers) in
+    let none = accepted-number _ _ _ (w .effect .answers) in
     reads (imageOf h rows sorts pending text) (is-image h rows sorts pending text output bytes none)
-    (ap₂ (λ (k : ℕ) (x : List ℕ). take k x) (accepted-same _ _ _ (w .answers)) (w .written none) ∙ front h rows sorts pending text output bytes none)
+    (ap₂ (λ (k : ℕ) (x : List ℕ). take k x) (accepted-same _ _ _ (w .effect .answers)) (w .effect .written none) ∙ front h rows sorts pending text output bytes none)

@@ -17,7 +17,8 @@ use Rattle.levels_io.specs.inner.Taking.{Refilled}
 use Rattle.levels_io.specs.declared.output.WriteResult.{WriteResult}
 use Rattle.levels.specs.declared.State.{State}
 use Rattle.levels.specs.declared.Ended.{Ended}
-use Rattle.levels.specs.Run.{Program, program, Step, last-step, over-step, Steps, begin, then, Machine, machine, Holds, Within, newBytes, Stepped, input-over, write-failed, Ran}
+use Rattle.levels.specs.Run.{Program, program, Step, last-step, over-step, Steps, begin, then, Machine, machine, Holds, newBytes, input-over, write-failed, Ran}
+use Rattle.levels.specs.inner.Turns.{Within, Turned}
 use Rattle.levels.specs.inner.Stepping.{begun-none}
 
 -- the buffered bytes are written, unless an earlier write failed
@@ -52,12 +53,12 @@ running-begin {input = input} {chunk = chunk} line rows keys sorts pending text 
     }
 
 module _ {m m′ : Machine} {handed : WriteResult} (v : Running m) where
-  pub running-again : {over : Bool} → Stepped m handed m′ over → over ≡ false → Running m′
+  pub running-again : {over : Bool} → Turned m handed m′ over → over ≡ false → Running m′
   running-again stepped goes-on =
-      let t : Stepped m handed m′ false = rw goes-on at stepped in
+      let t : Turned m handed m′ false = rw goes-on at stepped in
       elim (split (handed .«is_written»)) [
         | inl w ↦
-            let made = t .made w (v .here) (v .holds) in
+            let made = t .stepped .made w (v .here) (v .holds) in
             record {
               within = t .within;
               first = v .first;
@@ -66,9 +67,9 @@ module _ {m m′ : Machine} {handed : WriteResult} (v : Running m) where
               here = made .after;
               steps = then (v .steps) (made .step);
               holds = made .holds;
-              reads-made = omega (arith, v .reads-made, t .reads-left, length-append (v .reads) (newBytes m m′));
+              reads-made = omega (arith, v .reads-made, t .stepped .reads-left, length-append (v .reads) (newBytes m m′));
             }
-        | inr w ↦ absurd (false≢true (t .failed w .0))
+        | inr w ↦ absurd (false≢true (t .stepped .failed w .0))
       ]
 
 -- the last step makes no read
@@ -81,14 +82,14 @@ same-left : (m m′ : Machine) → newBytes m m′ ≡ [] → length (newBytes m
 same-left m m′ none-read left = omega (arith, rw none-read at left)
 
 pub run-ends : {state : State} {handed : WriteResult} {r : Ended} {over : Bool} (m : Machine) (line chunk rows keys sorts pending text : List ℕ) → Running m
-    → Stepped m handed (machine state line chunk rows keys sorts pending text) over → over ≡ true → Finished state handed r
+    → Turned m handed (machine state line chunk rows keys sorts pending text) over → over ≡ true → Finished state handed r
     → Ran (machine (r .state) line chunk rows keys sorts pending text) (r .handed)
 run-ends {state} {handed} {r} m line chunk rows keys sorts pending text v stepped is-over f =
-    let t : Stepped m handed (machine state line chunk rows keys sorts pending text) true = rw is-over at stepped in
+    let t : Turned m handed (machine state line chunk rows keys sorts pending text) true = rw is-over at stepped in
     elim (split (handed .«is_written»)) [
       | inl w ↦
           let after = machine state line chunk rows keys sorts pending text in
-          let made = t .made w (v .here) (v .holds) in
+          let made = t .stepped .made w (v .here) (v .holds) in
           let none-read : newBytes m after ≡ [] = no-read (made .step) in
           rw (f .same-state)
           (record {
@@ -98,11 +99,11 @@ run-ends {state} {handed} {r} m line chunk rows keys sorts pending text v steppe
             end = v .here;
             steps = v .steps;
             last = take (handed .count) (m .text) ++ take (r .handed .count) text;
-            ending = input-over (rw none-read at (made .step)) (made .holds) (t .at-end w refl) (f .all-handed w);
-            reads-made = omega (arith, v .reads-made, same-left m after none-read (t .reads-left));
+            ending = input-over (rw none-read at (made .step)) (made .holds) (t .stepped .at-end w refl) (f .all-handed w);
+            reads-made = omega (arith, v .reads-made, same-left m after none-read (t .stepped .reads-left));
           })
       | inr w ↦
-          let failed = t .failed w in
+          let failed = t .stepped .failed w in
           rw (f .same-state, f .unwritten w)
           (record {
             first = v .first;

@@ -26,7 +26,8 @@ use Rattle.levels_io.specs.declared.output.WriteResult.{WriteResult}
 use Rattle.levels_io.specs.inner.Flushing.{RoomMade}
 use Rattle.levels.specs.declared.LineProgress.{LineProgress}
 use Rattle.levels.specs.declared.State.{State}
-use Rattle.levels.specs.Run.{Program, program, answered, line-step, read-step, last-step, over-step, Machine, Holds, Within, StepMade, Stepped}
+use Rattle.levels.specs.Run.{Program, program, answered, line-step, read-step, last-step, over-step, Machine, Holds, StepMade}
+use Rattle.levels.specs.inner.Turns.{Within, Turned}
 use Rattle.levels.specs.inner.Advancing.{ReadOn, Ready, Over, Advanced, found, more, ended, nothing-left}
 
 -- Termination measure: the most bytes that may still be taken. Each step but the last decreases it.
@@ -101,15 +102,18 @@ module _ (s : Stores) (line₀ : List ℕ) (count : ℕ) (chunk : List ℕ) (inp
 
   -- ---- a write failed
   failed-stepped : (taken : TakenLine) → Within before → Taking taken → r .input ≡ taken .input → r .length ≡ taken .length → chunk′ ≡ chunk → r .handed .«is_written» ≡ false
-      → r .handed .count ≡ used → r .«is_over» ≡ true → Stepped before (r .handed) silent (r .«is_over»)
+      → r .handed .count ≡ used → r .«is_over» ≡ true → Turned before (r .handed) silent (r .«is_over»)
   failed-stepped taken within k same kept still unwritten all is-over =
       record {
         within = record { input-in = rw (still, same) (k .within); line-in = omega (arith, kept, k .inside); text-in = omega (arith, within .text-in) };
-        reads-left = rw (same-reads k same) (omega (arith, same-left k same));
-        none-past-end = λ end. same-left k same;
-        made = λ e. absurd (false≢true (sym unwritten ∙ e));
-        at-end = λ e. absurd (false≢true (sym unwritten ∙ e));
-        failed = λ e. (is-over, all, same-left k same, refl);
+        stepped =
+            record {
+              reads-left = rw (same-reads k same) (omega (arith, same-left k same));
+              none-past-end = λ end. same-left k same;
+              made = λ e. absurd (false≢true (sym unwritten ∙ e));
+              at-end = λ e. absurd (false≢true (sym unwritten ∙ e));
+              failed = λ e. (is-over, all, same-left k same, refl);
+            };
       }
 
   -- ---- a read
@@ -143,15 +147,18 @@ module _ (s : Stores) (line₀ : List ℕ) (count : ℕ) (chunk : List ℕ) (inp
             };
           }
 
-      read-stepped : (0 < bytesRead (taken .input .got)) × (0 < taken .input .reads) → Stepped before (r .handed) silent false
+      read-stepped : (0 < bytesRead (taken .input .got)) × (0 < taken .input .reads) → Turned before (r .handed) silent false
       read-stepped goes =
           record {
             within = record { input-in = y .reads written .1 .within; line-in = omega (arith, y .same-length, k .inside); text-in = omega (arith, y .all-handed) };
-            reads-left = rw fewer-reads (omega (arith, one-read));
-            none-past-end = λ end. absurd (not-at-end input (rw (← k .same-read .got, ← k .same-read .reads) goes) end);
-            made = λ e. read-made;
-            at-end = λ e f. absurd (false≢true f);
-            failed = λ e. absurd (false≢true (sym e ∙ written));
+            stepped =
+                record {
+                  reads-left = rw fewer-reads (omega (arith, one-read));
+                  none-past-end = λ end. absurd (not-at-end input (rw (← k .same-read .got, ← k .same-read .reads) goes) end);
+                  made = λ e. read-made;
+                  at-end = λ e f. absurd (false≢true f);
+                  failed = λ e. absurd (false≢true (sym e ∙ written));
+                };
           }
 
     -- ---- the input is over, with no line begun
@@ -178,19 +185,22 @@ module _ (s : Stores) (line₀ : List ℕ) (count : ℕ) (chunk : List ℕ) (inp
             };
           }
 
-      over-stepped : Within before → Stepped before (r .handed) silent true
+      over-stepped : Within before → Turned before (r .handed) silent true
       over-stepped within =
           record {
             within = record { input-in = rw (still, y .same-input) (k .within); line-in = omega (arith, y .no-length); text-in = omega (arith, within .text-in) };
-            reads-left = rw (same-reads k (y .same-input)) (omega (arith, same-left k (y .same-input)));
-            none-past-end = λ past. same-left k (y .same-input);
-            made = λ e. over-made;
-            at-end = λ e f. rw (y .same-input) end;
-            failed = λ e. absurd (false≢true (sym e ∙ y .written));
+            stepped =
+                record {
+                  reads-left = rw (same-reads k (y .same-input)) (omega (arith, same-left k (y .same-input)));
+                  none-past-end = λ past. same-left k (y .same-input);
+                  made = λ e. over-made;
+                  at-end = λ e f. rw (y .same-input) end;
+                  failed = λ e. absurd (false≢true (sym e ∙ y .written));
+                };
           }
 
   -- ---- no line is answered
-  no-line-stepped : 0 < length line′ → Within before → Advanced line₀ count chunk input text used line′ chunk′ r → r .«is_line» ≡ false → Stepped before (r .handed) silent (r .«is_over»)
+  no-line-stepped : 0 < length line′ → Within before → Advanced line₀ count chunk input text used line′ chunk′ r → r .«is_line» ≡ false → Turned before (r .handed) silent (r .«is_over»)
   no-line-stepped wide within (found taken k whole y still) e =
       elim (split (r .handed .«is_written»)) [
         | inl w ↦ absurd (false≢true (sym e ∙ y .answers w .0))
@@ -209,7 +219,7 @@ module _ (s : Stores) (line₀ : List ℕ) (count : ℕ) (chunk : List ℕ) (inp
   no-line-stepped wide within (nothing-left taken k none end empty y still) e = rw (y .is-over) (over-stepped taken k none wide end empty y still within)
 
   pub stepped-silent : {left : ℕ} → left ≡ used - r .handed .count → 0 < length line′ → Within before → Advanced line₀ count chunk input text used line′ chunk′ r → r .«is_line» ≡ false
-      → Stepped before (r .handed) (record { stores = s; state = stateOf s (r .input) (r .length) left; line = line′; chunk = chunk′; text = text }) (r .«is_over»)
+      → Turned before (r .handed) (record { stores = s; state = stateOf s (r .input) (r .length) left; line = line′; chunk = chunk′; text = text }) (r .«is_over»)
   stepped-silent left wide within a e = rw left (no-line-stepped wide within a e)
 
   -- ---- a line is answered
@@ -238,15 +248,18 @@ module _ (s : Stores) (line₀ : List ℕ) (count : ℕ) (chunk : List ℕ) (inp
       parts p h = h .bytes-buffered ∙ buffered-parts text used (r .handed .count) (room-parts (length text) 103492 (y .room))
 
       line-stepped : r .handed .«is_written» ≡ true → ((p : Program) → Holds p before → StepMade p before (r .handed) after-line over) → (over ≡ true → AtEnd (taken .input))
-          → Stepped before (r .handed) after-line over
+          → Turned before (r .handed) after-line over
       line-stepped written made end =
           record {
             within = record { input-in = rw (still, y .same-input) (k .within); line-in = omega arith; text-in = a .inside };
-            reads-left = rw (same-reads k (y .same-input)) (omega (arith, same-left k (y .same-input)));
-            none-past-end = λ past. same-left k (y .same-input);
-            made = λ e. made;
-            at-end = λ e f. rw (y .same-input) (end f);
-            failed = λ e. absurd (false≢true (sym e ∙ written));
+            stepped =
+                record {
+                  reads-left = rw (same-reads k (y .same-input)) (omega (arith, same-left k (y .same-input)));
+                  none-past-end = λ past. same-left k (y .same-input);
+                  made = λ e. made;
+                  at-end = λ e f. rw (y .same-input) (end f);
+                  failed = λ e. absurd (false≢true (sym e ∙ written));
+                };
           }
 
     line-made : (taken : TakenLine) (k : Taking taken) → taken .«is_whole» ≡ true → Ready (length text) (taken .input) (taken .length) used false r → chunk′ ≡ chunk
@@ -272,7 +285,7 @@ module _ (s : Stores) (line₀ : List ℕ) (count : ℕ) (chunk : List ℕ) (inp
           holds = answered-holds p (p .begun ++ p .unread) [] (h .table-held) (rw (all-bytes taken k none p h) (line-cut taken k y still p h)) (sym (rw (still, y .same-input) (left-none chunk (taken .input .next) (taken .input .end) (k .all-taken none))));
         }
 
-    pub stepped-line : Advanced line₀ count chunk input text used line′ chunk′ r → r .«is_line» ≡ true → Stepped before (r .handed) after-line (r .«is_over»)
+    pub stepped-line : Advanced line₀ count chunk input text used line′ chunk′ r → r .«is_line» ≡ true → Turned before (r .handed) after-line (r .«is_over»)
     stepped-line (found taken k whole y still) e =
         elim (split (r .handed .«is_written»)) [
           | inl w ↦ rw (y .answers w .1) (line-stepped taken k y still w (line-made taken k whole y still) (λ f. absurd (false≢true f)))

@@ -6,8 +6,9 @@ use mathlib.Core.Logic.{_⊎_, inl, inr}
 use mathlib.Core.Bool.{cond}
 use mathlib.Core.List.{List}
 use lib.ListN.{length, take, drop, getD}
+use Rattle.refusals.specs.Refusals.{ifAccepted}
 use Rattle.lists.specs.Laws.Parts.{part-to-end}
-use Rattle.plain_table.specs.Staged.{insert, removeKey, removeRow}
+use Rattle.plain_table.specs.Staged.{insert, removeKey, removeRow, openingIn}
 use Rattle.table.specs.declared.Header.{Header}
 use Rattle.table.specs.declared.TableAnswer.{TableAnswer}
 use Rattle.table.specs.declared.TableAnswer.the-variants.{Refused as TableRefused, Table}
@@ -15,10 +16,9 @@ use Rattle.table.specs.declared.Merge.{Merge}
 use Rattle.table.specs.declared.MergeAnswer.{MergeAnswer}
 use Rattle.table.specs.declared.MergeAnswer.the-variants.{Refused as MergeRefused, Merged as MergedTable}
 use Rattle.table.specs.Numbers.{tableView, mergeView}
-use Rattle.table.specs.Contracts.{Stores, stores, body, compactionWords, headerAfter, headerMerged, Opened, Staging, Merging, Compacting, Clearing}
+use Rattle.table.specs.Contracts.{Stores, stores, body, compactionWords, Opened, Staging, Merging, Compacting, Clearing}
 use Rattle.levels_spec.specs.declared.Response.the-variants.{Nothing, Refused, Merged}
 use Rattle.levels_spec.specs.declared.Served.{Served}
-use Rattle.levels_spec.specs.Response.{openingIn}
 use Rattle.levels_spec.specs.inner.Responses.{responseOf, nothingResponse, mergeResponse, ServedWith, Serving}
 use Rattle.levels_spec.specs.Laws.Letters.{result-open, result-insert, result-by-key, result-by-row, result-merge, result-clear, result-compact}
 use Rattle.levels_spec.specs.Laws.Results.{does-respond}
@@ -44,27 +44,27 @@ pub record OnAll (letter : ℕ) (s s′ : Stores) (r : Served) : Type 0 where
 -- ---- the response to an answer of the library
 
 module _ (h : Header) (answer : TableAnswer) where
-  pub served-refused : (n : ℕ) → answer ≡ TableRefused n → ServedWith (headerAfter h (tableView answer)) (responseOf nothingResponse (tableView answer)) (record { header = h; response = Refused n })
-  unfolding headerAfter tableView responseOf
+  pub served-refused : (n : ℕ) → answer ≡ TableRefused n → ServedWith (ifAccepted (tableView answer) (λ h. h) h) (responseOf nothingResponse (tableView answer)) (record { header = h; response = Refused n })
+  unfolding ifAccepted tableView responseOf
   served-refused n e = rw e (record { header-same = refl; response-same = refl })
 
-  pub served-table : (after : Header) → answer ≡ Table after → ServedWith (headerAfter h (tableView answer)) (responseOf nothingResponse (tableView answer)) (record { header = after; response = Nothing })
-  unfolding headerAfter tableView responseOf
+  pub served-table : (after : Header) → answer ≡ Table after → ServedWith (ifAccepted (tableView answer) (λ h. h) h) (responseOf nothingResponse (tableView answer)) (record { header = after; response = Nothing })
+  unfolding ifAccepted tableView responseOf
   served-table after e = rw e (record { header-same = refl; response-same = refl })
 
 module _ (h : Header) (answer : MergeAnswer) where
-  pub merge-refused : (n : ℕ) → answer ≡ MergeRefused n → ServedWith (headerMerged h (mergeView answer)) (responseOf mergeResponse (mergeView answer)) (record { header = h; response = Refused n })
-  unfolding headerMerged mergeView responseOf
+  pub merge-refused : (n : ℕ) → answer ≡ MergeRefused n → ServedWith (ifAccepted (mergeView answer) (λ m. m .header) h) (responseOf mergeResponse (mergeView answer)) (record { header = h; response = Refused n })
+  unfolding ifAccepted mergeView responseOf
   merge-refused n e = rw e (record { header-same = refl; response-same = refl })
 
   pub merge-table : (m : Merge) (digit : ℕ) → answer ≡ MergedTable m → digit ≡ cond (m .added) 1 0
-      → ServedWith (headerMerged h (mergeView answer)) (responseOf mergeResponse (mergeView answer)) (record { header = m .header; response = Merged (m .status) digit (m .place) })
-  unfolding headerMerged mergeView responseOf
+      → ServedWith (ifAccepted (mergeView answer) (λ m. m .header) h) (responseOf mergeResponse (mergeView answer)) (record { header = m .header; response = Merged (m .status) digit (m .place) })
+  unfolding ifAccepted mergeView responseOf
   merge-table m digit e d = rw (e, d) (record { header-same = refl; response-same = refl })
 
 -- ---- from the library's contracts to the contracts of lines
 
-module _ {h : Header} {answer : TableAnswer} {r : Served} (k : ServedWith (headerAfter h (tableView answer)) (responseOf nothingResponse (tableView answer)) r) where
+module _ {h : Header} {answer : TableAnswer} {r : Served} (k : ServedWith (ifAccepted (tableView answer) (λ h. h) h) (responseOf nothingResponse (tableView answer)) r) where
   module _ {letter : ℕ} {ns pending pending′ : List ℕ} where
     pub insert-served : letter ≡ 73 → Staging h pending (insert ns) answer pending′ → OnPending letter ns h pending r pending′
     insert-served e m = record { serving = λ rows keys sorts. record { answers = λ t held. rw (result-insert _ t ns e) (does-respond (staging-does k rows keys sorts m) t held) } }
@@ -97,7 +97,7 @@ pub large-served : (s : Stores) (ns : List ℕ) → 1024 < getD ns 4 0 → Servi
 large-served s ns large = record { answers = λ t held. rw (result-open _ t ns refl) (large-responds _ s (openingIn ns) (getD ns 5 0) large t held) }
 
 pub merge-served : {h : Header} {answer : MergeAnswer} {r : Served} {rows keys sorts pending rows′ keys′ sorts′ live base live′ base′ : List ℕ}
-    → ServedWith (headerMerged h (mergeView answer)) (responseOf mergeResponse (mergeView answer)) r → length live ≡ 16 → length base ≡ 16
+    → ServedWith (ifAccepted (mergeView answer) (λ m. m .header) h) (responseOf mergeResponse (mergeView answer)) r → length live ≡ 16 → length base ≡ 16
     → Merging (stores h rows keys sorts pending) (compactionWords live base) answer (body rows′ keys′ sorts′) (compactionWords live′ base′)
     → OnAll 77 (stores h rows keys sorts pending) (stores (r .header) rows′ keys′ sorts′ pending) r
 merge-served k a b m = record { serving = λ ns. record { answers = λ t held. rw (result-merge _ t ns refl) (does-respond (merging-does k a b m) t held) } }

@@ -90,7 +90,7 @@ encoded-answers keys room m w =
       inside = w .inside;
       answers = λ t held.
           let k = m .answers t held in
-          record { text-is = w .begins (λ numbered l. held-listable keys room (k .held) (k .listed numbered l)) ∙ k .responds; held = k .held };
+          (w .begins (λ numbered l. held-listable keys room (k .held) (k .listed numbered l)) ∙ k .responds, k .held);
     }
 
 -- The answer is written to a part of a text. The bytes before the part do not change.
@@ -104,6 +104,6 @@ answer-appended {used = used} text part after from inside m =
     ∙ ap (λ (bytes : List ℕ). take from text ++ bytes) (take-append-le used part after (m .inside)) in
     record {
       inside = omega (arith, m .inside, wide, length-append (take from text) (part ++ after), length-append part after);
-      text-is = λ t held. whole ∙ ap (λ (bytes : List ℕ). take from text ++ bytes) (m .answers t held .text-is);
-      held = λ t held. m .answers t held .held;
+      text-is = λ t held. whole ∙ ap (λ (bytes : List ℕ). take from text ++ bytes) (m .answers t held .0);
+      held = λ t held. m .answers t held .1;
     }

@@ -1,4 +1,4 @@
--- Contracts of the functions that scan a chunk for a line. Assumes nothing.
+-- When a chunk holds the unread bytes, and contracts of the functions that scan it for a line. Assumes nothing.
 use Prim.Native.Nat.{ℕ, zero, suc, _+_, _-_, _≤_, _<_, min}
 use mathlib.Core.Path.{_≡_, refl, sym, ap, _∙_}
 use mathlib.Core.Bool.{true, false, cond}
@@ -11,6 +11,14 @@ use lib.Seq.{take-all, take-suc-set, drop-cons, take-append-le}
 use borrow.Author.Tests.{eq-eqb, ne-eqb}
 use Rattle.lists.specs.Lists.{elem}
 use Rattle.levels_io.specs.declared.input.ChunkScan.{ChunkScan}
+use Rattle.levels_io.specs.declared.input.Input.{Input}
+use Rattle.levels_io.specs.Input.{bytesRead}
+
+-- the unread bytes are within the bytes of the last read, and these are within the chunk
+pub record InputIn (chunk : List ℕ) (input : Input) : Type 0 where
+  pub ordered : input .next ≤ input .end
+  pub counted : input .end ≡ bytesRead (input .got)
+  pub inside : input .end ≤ length chunk
 
 -- bytes are appended to a line, as far as its store has room
 pub record Pushed (line : List ℕ) (count : ℕ) (bytes line′ : List ℕ) (end : ℕ) : Type 0 where

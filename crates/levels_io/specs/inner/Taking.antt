@@ -20,8 +20,8 @@ use Rattle.lists.specs.Laws.Rising.{elem-append}
 use Rattle.levels_io.specs.declared.input.Input.{Input}
 use Rattle.levels_io.specs.declared.input.ChunkScan.{ChunkScan}
 use Rattle.levels_io.specs.declared.input.TakenLine.{TakenLine}
-use Rattle.levels_io.specs.Input.{bytesRead, unread, InputIn, AtEnd, LineSoFar}
-use Rattle.levels_io.specs.inner.Scanning.{before-newline, Scanned, take-in, left, left-none}
+use Rattle.levels_io.specs.Input.{bytesRead, unread, AtEnd, LineSoFar}
+use Rattle.levels_io.specs.inner.Scanning.{before-newline, Scanned, take-in, left, left-none, InputIn}
 
 -- One of the remaining reads is made. The bytes before are followed by the first bytes of the chunk after the read, as many as it
 -- returned.

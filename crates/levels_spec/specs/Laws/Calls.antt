@@ -1,6 +1,6 @@
 -- The contract of each call implies the contract of its line, for any table that the stores hold. Assumes nothing.
-use Rattle.levels_spec.specs.Laws.Prelude.{ℕ, zero, suc, _≡_, refl, _∙_, true, List, [], length, Staged, Plain, Header, TableAnswer, MergeAnswer, tableView, mergeView, stores, body, compactionWords, lengths, headerAfter, headerMerged, mergeOf, Staging, Merging, Compacting, Clearing, stage-checks, merge-checks, compact-checks, clear-checks, staging-done, staging-refused, merging-done, merging-refused, compacting-done, compacting-refused, clearing-done, clearing-refused, Served, lent}
-use Rattle.refusals.specs.Refusals.{reply, firstRefusal, outcome}
+use Rattle.levels_spec.specs.Laws.Prelude.{ℕ, zero, suc, _≡_, refl, _∙_, true, List, [], length, Staged, Plain, Header, TableAnswer, MergeAnswer, tableView, mergeView, stores, body, compactionWords, lengths, mergeOf, Staging, Merging, Compacting, Clearing, stage-checks, merge-checks, compact-checks, clear-checks, staging-done, staging-refused, merging-done, merging-refused, compacting-done, compacting-refused, clearing-done, clearing-refused, Served, lent}
+use Rattle.refusals.specs.Refusals.{reply, firstRefusal, outcome, ifAccepted}
 use Rattle.plain_table.specs.Refusing.{Lengths, stageChecks, mergeChecks, compactChecks, clearChecks, storesShort, wordsShort}
 use Rattle.plain_table.specs.Calls.{staging, merging, compacting, clearing, refusal, done}
 use Rattle.table.specs.Refusing.{outside, pendingOutside, stageRefusal, mergeRefusal, compactRefusal, clearRefusal}
@@ -35,7 +35,7 @@ clear-outside h keys e = rw e
 
 -- ---- the four calls
 
-module _ {h : Header} {answer : TableAnswer} {r : Served} (k : ServedWith (headerAfter h (tableView answer)) (responseOf nothingResponse (tableView answer)) r) where
+module _ {h : Header} {answer : TableAnswer} {r : Served} (k : ServedWith (ifAccepted (tableView answer) (λ h. h) h) (responseOf nothingResponse (tableView answer)) r) where
   pub staging-does : {q : Staged} {pending pending′ : List ℕ} (rows keys sorts : List ℕ) → Staging h pending q answer pending′
       → Does (λ p. calls (lent (stores h rows keys sorts pending)) p (staging q) []) (stores h rows keys sorts pending) (stores (r .header) rows keys sorts pending′) (r .response) (stageRefusal h (length pending) q)
   staging-does {q} {pending} {pending′} rows keys sorts m =
@@ -93,7 +93,7 @@ merge-response : (h : Header) (rows : List ℕ) (p : Plain) → textOf h rows (m
 unfolding textOf mergeText
 merge-response h rows p = refl
 
-module _ {h : Header} {answer : MergeAnswer} {r : Served} (k : ServedWith (headerMerged h (mergeView answer)) (responseOf mergeResponse (mergeView answer)) r)
+module _ {h : Header} {answer : MergeAnswer} {r : Served} (k : ServedWith (ifAccepted (mergeView answer) (λ m. m .header) h) (responseOf mergeResponse (mergeView answer)) r)
     {rows keys sorts pending rows′ keys′ sorts′ live base live′ base′ : List ℕ} (live-words : length live ≡ 16) (base-words : length base ≡ 16) where
   pub merging-does : Merging (stores h rows keys sorts pending) (compactionWords live base) answer (body rows′ keys′ sorts′) (compactionWords live′ base′)
       → Does (λ p. calls (lent (stores h rows keys sorts pending)) p merging (mergeText p)) (stores h rows keys sorts pending) (stores (r .header) rows′ keys′ sorts′ pending) (r .response) (mergeRefusal h (lengths rows keys sorts pending live base))

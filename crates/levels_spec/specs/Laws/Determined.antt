@@ -12,4 +12,4 @@ pub answering-determined : {line : List ℕ} {s s₁ s₂ : Stores} {text₁ tex
 answering-determined t h a b =
     let x = a .answers t h in
     let y = b .answers t h in
-    record { text = x .text-is ∙ sym (y .text-is); first = x .held; second = y .held }
+    record { text = x .0 ∙ sym (y .0); first = x .1; second = y .1 }

@@ -1,6 +1,7 @@
 -- The result of a line of each letter. Assumes nothing.
-use Rattle.levels_spec.specs.Laws.Prelude.{ℕ, _≡_, cond, List, [], Option, drop, getD, known, conditionIn, insert, removeKey, removeRow, Lengths, Plain, staging, merging, compacting, clearing}
-use Rattle.levels_spec.specs.Response.{opens, calls, queries, mergeText, fastSubsetOf, rangeText, versionText, listText, numberedText, openingIn, served, onTable, result}
+use Rattle.levels_spec.specs.Laws.Prelude.{ℕ, _≡_, cond, List, [], Option, drop, getD, known, conditionIn, insert, removeKey, removeRow, Lengths, Plain, staging, merging, compacting, clearing, true, false}
+use Rattle.levels_spec.specs.Response.{opens, calls, queries, mergeText, fastSubsetOf, rangeText, versionText, listText, served, onTable, result}
+use Rattle.plain_table.specs.Staged.{openingIn}
 
 module _ (l : Lengths) (t : Option Plain) {letter : ℕ} (ns : List ℕ) where
   pub result-open : letter ≡ 79 → result l t letter ns ≡ opens l t (openingIn ns) (getD ns 5 0)
@@ -39,10 +40,10 @@ module _ (l : Lengths) (t : Option Plain) {letter : ℕ} (ns : List ℕ) where
   unfolding result served
   result-version e = rw e
 
-  pub result-list : letter ≡ 76 → result l t letter ns ≡ onTable t (λ p. queries p 0 (listText p))
+  pub result-list : letter ≡ 76 → result l t letter ns ≡ onTable t (λ p. queries p 0 (listText false p))
   unfolding result served
   result-list e = rw e
 
-  pub result-numbered : letter ≡ 85 → result l t letter ns ≡ onTable t (λ p. queries p 0 (numberedText p))
+  pub result-numbered : letter ≡ 85 → result l t letter ns ≡ onTable t (λ p. queries p 0 (listText true p))
   unfolding result served
   result-numbered e = rw e

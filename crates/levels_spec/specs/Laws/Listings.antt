@@ -1,7 +1,7 @@
 -- L and U print the text of a listing, in the old form and in the new (document 02, change 11). This holds for every proper table
 -- in whose live rows every cell is a u32. Every table of a session is such a table: Laws/Printed. Assumes nothing.
 use Rattle.levels_spec.specs.Laws.Prelude.{_≡_, Bool, true, false, some, all, Plain, Proper, openable-bounds, Listing, listingText, ParsesAs, tableListing, liveFits, table-listed}
-use Rattle.levels_spec.specs.Response.{listText, numberedText}
+use Rattle.levels_spec.specs.Response.{listText}
 
 -- the listing of a table
 abbrev pub listingOf : Bool → Plain → Listing
@@ -14,11 +14,11 @@ module _ (p : Plain) (proper : Proper p) (cells : all liveFits (p .rows) ≡ tru
       (proper .widths) (proper .live-first) cells
 
   -- "the new form, which `levels` prints for a line U"
-  pub numbered-listed : ParsesAs true (numberedText p) (some (listingOf true p))
-  unfolding numberedText
+  pub numbered-listed : ParsesAs true (listText true p) (some (listingOf true p))
+  unfolding listText
   numbered-listed = listed true
 
   -- the old form, which it prints for L
-  pub plain-listed : ParsesAs false (listText p) (some (listingOf false p))
+  pub plain-listed : ParsesAs false (listText false p) (some (listingOf false p))
   unfolding listText
   plain-listed = listed false

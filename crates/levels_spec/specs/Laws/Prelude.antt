@@ -44,7 +44,7 @@ pub use Rattle.plain_table.specs.Refusing.{Lengths}
 pub use Rattle.plain_table.specs.Staged.{Opening, Staged, insert, removeKey, removeRow}
 pub use Rattle.refusals.specs.Laws.Replies.{ruled-refused, some-number}
 pub use Rattle.refusals.specs.Refusals.{accepted, check, outcome, reply}
-pub use Rattle.table.specs.Contracts.{Clearing, Compacting, Merging, Opened, Represents, Staging, Stores, body, compactionWords, headerAfter, headerMerged, lengths, mergeOf, stores}
+pub use Rattle.table.specs.Contracts.{Clearing, Compacting, Merging, Opened, Represents, Staging, Stores, body, compactionWords, lengths, mergeOf, stores}
 pub use Rattle.table.specs.Laws.Checks.{clear-checks, compact-checks, merge-checks, stage-checks}
 pub use Rattle.table.specs.Laws.Keeps.{after-accepted, after-refused, clearing-done, clearing-refused, compacting-done, compacting-refused, merging-done, merging-refused, opening-done, staging-done, staging-refused}
 pub use Rattle.table.specs.Laws.Replies.{reply-accepted}

@@ -2,16 +2,22 @@
 -- (document 02, change 11). Assumes nothing.
 use Rattle.levels_spec.specs.Laws.Prelude.{ℕ, _≤_, _≡_, refl, sym, ap, _∙_, inl, inr, Bool, true, false, cond, not, _&&_, false≢true, List, [], _∷_, _++_, append-assoc, Option, none, some, decLt, arith, leb, ltb, eqb, length, drop, getD, List·getD-eq-default, eqb-true, leb-true, not-false, or-second, split, and-left, and-right, all-getD, check, Proper, firstRefusal-no, opened-proper, after-proper, line-numbers}
 use Rattle.lists.specs.Lists.{all, any}
-use Rattle.plain_table.specs.Staged.{Opening, openable, insert, removeKey, removeRow, inserts}
+use Rattle.plain_table.specs.Staged.{Opening, openable, insert, removeKey, removeRow, inserts, openingIn}
 use Rattle.plain_table.specs.Refusing.{Lengths, storesShort, openRefusal}
 use Rattle.plain_table.specs.Plain.{Plain, opened}
 use Rattle.plain_table.specs.Calls.{Call, staging, merging, compacting, clearing, done, after}
-use Rattle.levels_text.specs.Lines.{fields, isDecimal, isLine, letter, numbers, isBare, isForm, ofForms}
+use Rattle.levels_text.specs.Lines.{fields, isDecimal, isLine, letter, numbers, isBare, isForm, ofForms, prependToFirst}
 use Rattle.listing_spec.specs.Listings.{Listing, areNumbers, ParsesAs}
-use Rattle.levels_spec.specs.Response.{LineResult, printing, replied, openNumber, opens, calls, queries, listText, numberedText, openingIn, served, onTable, result, lineResult}
-use Rattle.levels_spec.specs.Session.{programLengths, linesIn, session, printed, tableAfter}
+use Rattle.levels_spec.specs.Response.{LineResult, printing, replied, openNumber, opens, calls, queries, listText, served, onTable, result, lineResult}
+use Rattle.levels_spec.specs.Session.{programLengths, linesIn, session, printed}
 use Rattle.levels_spec.specs.Laws.Listings.{listingOf, plain-listed, numbered-listed}
 use Rattle.levels_spec.specs.Laws.Cells.{Fits, opened-fits, staged-fits, merged-fits, compacted-fits, cleared-fits, after-fits}
+use mathlib.Core.Option.{Option·elim}
+
+-- the table after lines
+unfoldable pub tableAfter : Option Plain → List (List ℕ) → Option Plain
+tableAfter t [] = t
+tableAfter t (line ∷ lines) = tableAfter (lineResult programLengths t line .table) lines
 
 -- ---- every table of a session
 
@@ -92,7 +98,7 @@ module _ (Q : Option Plain → Type 0) (every-table : (p : Plain) → Listable p
       ]
 
   on-table : {t : Option Plain} (letter : ℕ) (ns : List ℕ) → areNumbers ns ≡ true → OfSession t → Q t → Q (onTable t (λ p. served l p letter ns) .table)
-  unfolding onTable
+  unfolding onTable Option·elim
   on-table letter ns f no-table here = here
   on-table letter ns f (a-table k) here = served-table letter ns k f
 
@@ -154,15 +160,12 @@ opened-open t (line ∷ lines) k e =
 abbrev pub listLine : Bool → List ℕ
 listLine numbered = cond numbered 85 76 ∷ []
 
-abbrev listed : Bool → Plain → List ℕ
-listed numbered p = cond numbered (numberedText p) (listText p)
-
-line-lists : (numbered : Bool) (p : Plain) → lineResult programLengths (some p) (listLine numbered) ≡ printing (listed numbered p) (some p)
-unfolding lineResult ofForms isLine isForm isBare fields letter numbers all isDecimal result onTable served queries replied
+line-lists : (numbered : Bool) (p : Plain) → lineResult programLengths (some p) (listLine numbered) ≡ printing (listText numbered p) (some p)
+unfolding lineResult ofForms isLine isForm isBare fields prependToFirst letter numbers all isDecimal result onTable Option·elim served queries replied
 line-lists true p = refl
 line-lists false p = refl
 
-listed-shown : (numbered : Bool) (p : Plain) → Listable p → ParsesAs numbered (listed numbered p) (some (listingOf numbered p))
+listed-shown : (numbered : Bool) (p : Plain) → Listable p → ParsesAs numbered (listText numbered p) (some (listingOf numbered p))
 listed-shown true p k = numbered-listed p (k .proper) (k .fits .rows)
 listed-shown false p k = plain-listed p (k .proper) (k .fits .rows)
 
@@ -188,10 +191,10 @@ listing-printed numbered input before after e opens =
     let p = o .table in
     record {
       listing = listingOf numbered p;
-      text = listed numbered p;
+      text = listText numbered p;
       shown = listed-shown numbered p (o .listable);
       prints = ap (session none) e ∙ session-append none before (listLine numbered ∷ after) ∙ ap (λ (l : List ℕ). session none before ++ l) (rest (o .same));
     }
   where
-    rest : {p : Plain} → tableAfter none before ≡ some p → session (tableAfter none before) (listLine numbered ∷ after) ≡ listed numbered p ++ session (tableAfter none before) after
+    rest : {p : Plain} → tableAfter none before ≡ some p → session (tableAfter none before) (listLine numbered ∷ after) ≡ listText numbered p ++ session (tableAfter none before) after
     rest {p} s = rw s (unfold session in rw (line-lists numbered p))

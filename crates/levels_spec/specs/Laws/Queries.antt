@@ -6,7 +6,7 @@ use Rattle.table.specs.Refusing.{outside, pairsShort, fastRefusal, versionRefus
 use Rattle.table.specs.Contracts.{Stores, Represents, fastSubset, fastAmong, RangeRead, VersionRead}
 use Rattle.listing_write.specs.Writing.{storedText}
 use Rattle.levels_spec.specs.declared.Response.the-variants.{Listing}
-use Rattle.levels_spec.specs.Response.{queries, fastSubsetOf, rangeText, versionText, listText, numberedText}
+use Rattle.levels_spec.specs.Response.{queries, fastSubsetOf, rangeText, versionText, listText}
 use Rattle.levels_spec.specs.inner.Responses.{textOf, responseOf, rangeResponse, versionResponse, listingResponse}
 use Rattle.levels_spec.specs.Laws.Results.{responseOf-refused, responseOf-accepted, responds-table, Does, queries-refused, queries-done}
 use Rattle.levels_spec.specs.Laws.Calls.{reply-ruled}
@@ -90,12 +90,12 @@ pub version-does : {s : Stores} {answer : VersionAnswer} {response : Response} �
     → Does (λ p. queries p 0 (versionText p)) s s response (versionRefusal (s .header))
 version-does same m = version-queried versionResponse versionText (λ p r. version-shown r) same m
 
-list-shown : {p : Plain} {s : Stores} → Represents p s → storedText false (s .header) (s .rows) ≡ listText p
+list-shown : {p : Plain} {s : Stores} → Represents p s → storedText false (s .header) (s .rows) ≡ listText false p
 unfolding listText storedText
 list-shown r = ap (listingText false) (stored-plain r false)
 
-numbered-shown : {p : Plain} {s : Stores} → Represents p s → storedText true (s .header) (s .rows) ≡ numberedText p
-unfolding numberedText storedText
+numbered-shown : {p : Plain} {s : Stores} → Represents p s → storedText true (s .header) (s .rows) ≡ listText true p
+unfolding listText storedText
 numbered-shown r = ap (listingText true) (stored-plain r true)
 
 listing-response : (numbered : Bool) (h : Header) (rows : List ℕ) → textOf h rows (Listing numbered) ≡ storedText numbered h rows
@@ -103,9 +103,9 @@ unfolding textOf
 listing-response numbered h rows = refl
 
 pub list-does : {s : Stores} {answer : VersionAnswer} {response : Response} → response ≡ responseOf (listingResponse false) (versionView answer) → VersionRead (s .header) answer
-    → Does (λ p. queries p 0 (listText p)) s s response (versionRefusal (s .header))
-list-does {s} same m = version-queried (listingResponse false) listText (λ p r. listing-response false (s .header) (s .rows) ∙ list-shown r) same m
+    → Does (λ p. queries p 0 (listText false p)) s s response (versionRefusal (s .header))
+list-does {s} same m = version-queried (listingResponse false) (listText false) (λ p r. listing-response false (s .header) (s .rows) ∙ list-shown r) same m
 
 pub numbered-does : {s : Stores} {answer : VersionAnswer} {response : Response} → response ≡ responseOf (listingResponse true) (versionView answer) → VersionRead (s .header) answer
-    → Does (λ p. queries p 0 (numberedText p)) s s response (versionRefusal (s .header))
-numbered-does {s} same m = version-queried (listingResponse true) numberedText (λ p r. listing-response true (s .header) (s .rows) ∙ numbered-shown r) same m
+    → Does (λ p. queries p 0 (listText true p)) s s response (versionRefusal (s .header))
+numbered-does {s} same m = version-queried (listingResponse true) (listText true) (λ p r. listing-response true (s .header) (s .rows) ∙ numbered-shown r) same m

@@ -3,6 +3,7 @@ use Rattle.levels_spec.specs.Laws.Prelude.{ℕ, _<_, _≡_, refl, sym, _
 use Rattle.refusals.specs.Refusals.{Reply, refused, accepted, reply, outcome}
 use Rattle.levels_spec.specs.Response.{LineResult, printing, replied, calls, queries, onTable}
 use Rattle.levels_spec.specs.inner.Responses.{textOf, responseOf, nothingResponse, Responds}
+use mathlib.Core.Option.{Option·elim}
 
 -- ---- the response
 
@@ -58,7 +59,7 @@ pub record Does (line : Plain → LineResult) (s s′ : Stores) (response : Resp
   pub result-done : (p : Plain) → Represents p s → n ≡ 0 → Responds (line p) s′ response
 
 pub does-respond : {line : Plain → LineResult} {s s′ : Stores} {response : Response} {n : ℕ} → Does line s s′ response n → (t : Option Plain) → Held t s → Responds (onTable t line) s′ response
-unfolding onTable
+unfolding onTable Option·elim
 does-respond {line} {s} {s′} {response} {n} d none (no-table e) =
     let one : n ≡ 1 = d .outside-first e in
     let more : 0 < n = omega arith in

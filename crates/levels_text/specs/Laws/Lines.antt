@@ -2,7 +2,7 @@
 -- Assumes nothing.
 use Rattle.levels_text.specs.Laws.Prelude.{ℕ, zero, suc, _+_, _-_, _*_, _≤_, _<_, _≡_, refl, sym, ap, _∙_, inl, inr, Bool, true, false, not, _&&_, _||_, and-true, and-false, false≢true, List, [], _∷_, add-one, arith, leb, ltb, eqb, length, drop, getD, length-drop, drop-of-length-le, drop-cons, drop-drop, eq-eqb, ne-eqb, le-leb, lt-leb, lt-ltb, eqb-true, eqb-false, leb-true, leb-false, split, and-left, and-right}
 use Rattle.lists.specs.Lists.{all}
-use Rattle.levels_text.specs.Lines.{fields, valueFrom, isDecimal, isLine, letter, numbers, isBare, isForm, ofForms}
+use Rattle.levels_text.specs.Lines.{prependToFirst, fields, valueFrom, isDecimal, isLine, letter, numbers, isBare, isForm, ofForms}
 
 -- ---- the first field, and the others
 
@@ -14,7 +14,7 @@ others bytes = drop 1 (fields bytes)
 
 -- there is always a first field
 pub fields-cons : (bytes : List ℕ) → fields bytes ≡ first bytes ∷ others bytes
-unfolding fields first others
+unfolding fields first others prependToFirst
 fields-cons [] = refl
 fields-cons (byte ∷ bytes) =
     elim (split (eqb byte 44)) [ inl e ↦ rw e | inr e ↦ rw (e, fields-cons bytes) ]
@@ -24,7 +24,7 @@ unfolding fields first
 first-comma bytes = refl
 
 pub first-more : (byte : ℕ) (bytes : List ℕ) → (byte ≡ 44 → ⊥) → first (byte ∷ bytes) ≡ byte ∷ first bytes
-unfolding fields first
+unfolding fields first prependToFirst
 first-more byte bytes ne = rw (ne-eqb _ _ ne, fields-cons bytes)
 
 pub others-comma : (bytes : List ℕ) → others (44 ∷ bytes) ≡ first bytes ∷ others bytes
@@ -32,7 +32,7 @@ unfolding fields others
 others-comma bytes = fields-cons bytes
 
 pub others-more : (byte : ℕ) (bytes : List ℕ) → (byte ≡ 44 → ⊥) → others (byte ∷ bytes) ≡ others bytes
-unfolding fields others
+unfolding fields others prependToFirst
 others-more byte bytes ne = rw (ne-eqb _ _ ne, fields-cons bytes)
 
 pub length-first : (bytes : List ℕ) → length (first bytes) ≤ length bytes

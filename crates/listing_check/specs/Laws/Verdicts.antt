@@ -2,8 +2,9 @@
 use Rattle.listing_check.specs.Laws.Prelude.{ℕ, _≡_, refl, _∙_, inl, inr, Bool, true, List, [], _∷_, Option, none, some, arith, drop, getD, split, above-head, above-tail, above-cons, above-weaker, above-rising, rising-ext, Constraint, met, rising-from, listing-parts}
 use Rattle.lists.specs.Lists.{filter, all, above, rising}
 use Rattle.listing_spec.specs.Listings.{Listing, rowNumbers, isListing}
-use Rattle.listing_check.specs.Answers.{correct, outOfOrder, lowestWrong, rightNumbers, misplaced, wrongNumbers, lowest, findingOf, verdictOn, verdictOf}
+use Rattle.listing_check.specs.Answers.{rightNumbers, misplaced, wrongNumbers, lowest, verdictFor, verdictOn}
 use Rattle.listing_check.specs.Laws.Numbers.{Apart, wrong-none, wrong-some, wrong-same, FirstNotAbove, misplaced-none, misplaced-rising, misplaced-some, misplaced-at}
+use Rattle.listing_check.specs.declared.Verdict.the-variants.{Right, Misplaced, Wrong}
 
 -- ---- the right numbers rise
 
@@ -34,52 +35,51 @@ right-rising conditions l e =
 
 -- ---- the cases of a verdict
 
-finding-right : (o w : Option ℕ) → findingOf o w ≡ correct → (o ≡ none) × (w ≡ none)
-unfolding findingOf
+finding-right : (o w : Option ℕ) → verdictFor o w ≡ Right → (o ≡ none) × (w ≡ none)
+unfolding verdictFor
 finding-right none none e = (refl, refl)
 finding-right none (some m) e = absurd (let z : _≡_ {A = ℕ} 0 1 = cc in omega arith)
 finding-right (some m) w e = absurd (let z : _≡_ {A = ℕ} 0 1 = cc in omega arith)
 
 module _ (n : ℕ) where
-  finding-wrong : (o w : Option ℕ) → findingOf o w ≡ lowestWrong n → w ≡ some n
-  unfolding findingOf
+  finding-wrong : (o w : Option ℕ) → verdictFor o w ≡ Wrong n → w ≡ some n
+  unfolding verdictFor
   finding-wrong none none e = absurd (let z : _≡_ {A = ℕ} 0 1 = cc in omega arith)
   finding-wrong none (some m) e = cc
   finding-wrong (some m) w e = absurd (let z : _≡_ {A = ℕ} 0 1 = cc in omega arith)
 
-  finding-misplaced : (o w : Option ℕ) → findingOf o w ≡ outOfOrder n → o ≡ some n
-  unfolding findingOf
+  finding-misplaced : (o w : Option ℕ) → verdictFor o w ≡ Misplaced n → o ≡ some n
+  unfolding verdictFor
   finding-misplaced none none e = absurd (let z : _≡_ {A = ℕ} 0 1 = cc in omega arith)
   finding-misplaced none (some m) e = absurd (let z : _≡_ {A = ℕ} 0 1 = cc in omega arith)
   finding-misplaced (some m) w e = cc
 
 module _ (given right : List ℕ) where
   -- "It says yes exactly if those numbers are, rising and each once, the rows .. that meet every condition"
-  pub right-exactly : rising right ≡ true → (verdictOn given right ≡ correct → given ≡ right) × (given ≡ right → verdictOn given right ≡ correct)
+  pub right-exactly : rising right ≡ true → (verdictOn given right ≡ Right → given ≡ right) × (given ≡ right → verdictOn given right ≡ Right)
   unfolding verdictOn
   right-exactly rises = (
     λ e.
         let s = finding-right (misplaced given) (lowest (wrongNumbers given right)) e in
         rising-ext given right (misplaced-none given (s .0)) rises (wrong-none given right (s .1)),
-    λ e. rw (e, misplaced-rising right rises, wrong-same right) (unfold findingOf in refl),
+    λ e. rw (e, misplaced-rising right rises, wrong-same right) (unfold verdictFor in refl),
   )
 
   -- "the lowest row number wrongly present or absent"
-  pub wrong-lowest : {number : ℕ} → verdictOn given right ≡ lowestWrong number → Apart given right number
+  pub wrong-lowest : {number : ℕ} → verdictOn given right ≡ Wrong number → Apart given right number
   unfolding verdictOn
   wrong-lowest {number} e = wrong-some given right (finding-wrong number (misplaced given) (lowest (wrongNumbers given right)) e)
 
   -- "the place, from 0, of the first number not above the one before"
-  pub misplaced-first : {place : ℕ} → verdictOn given right ≡ outOfOrder place → FirstNotAbove given place
+  pub misplaced-first : {place : ℕ} → verdictOn given right ≡ Misplaced place → FirstNotAbove given place
   unfolding verdictOn
   misplaced-first {place} e = misplaced-some given (finding-misplaced place (misplaced given) (lowest (wrongNumbers given right)) e)
 
-  pub first-misplaced : {place : ℕ} → FirstNotAbove given place → verdictOn given right ≡ outOfOrder place
+  pub first-misplaced : {place : ℕ} → FirstNotAbove given place → verdictOn given right ≡ Misplaced place
   unfolding verdictOn
-  first-misplaced {place} f = rw (misplaced-at given f) (unfold findingOf in refl)
+  first-misplaced {place} f = rw (misplaced-at given f) (unfold verdictFor in refl)
 
 -- the same for a listing
 pub yes-exactly : (conditions : List Constraint) (l : Listing) (given : List ℕ) → isListing true l ≡ true
-    → (verdictOf (some l) conditions given ≡ correct → given ≡ rightNumbers conditions l) × (given ≡ rightNumbers conditions l → verdictOf (some l) conditions given ≡ correct)
-unfolding verdictOf
+    → (verdictOn given (rightNumbers conditions l) ≡ Right → given ≡ rightNumbers conditions l) × (given ≡ rightNumbers conditions l → verdictOn given (rightNumbers conditions l) ≡ Right)
 yes-exactly conditions l given e = right-exactly given (rightNumbers conditions l) (right-rising conditions l e)

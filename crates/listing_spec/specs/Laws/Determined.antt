@@ -36,10 +36,10 @@ read-same : {numbered : Bool} {text output output₁ output₂ : List ℕ} {a b 
 read-same {numbered} {text} {output} x y =
     let l = parses-determined numbered (x .shown) (y .shown) in
     record {
-      answer = x .answers ∙ rw l (sym (y .answers));
+      answer = x .effect .answers ∙ rw l (sym (y .effect .answers));
       cells =
-          ⊎-elim (λ zero. x .written zero ∙ rw l (sym (y .written (sym (ap (λ k. readRefusal k (length output)) l) ∙ zero))))
-          (λ more. x .unchanged more ∙ sym (y .unchanged (rw l at more)))
+          ⊎-elim (λ zero. x .effect .written zero ∙ rw l (sym (y .effect .written (sym (ap (λ k. readRefusal k (length output)) l) ∙ zero))))
+          (λ more. x .effect .unchanged more ∙ sym (y .effect .unchanged (rw l at more)))
           (some-number (readRefusal (x .listing) (length output)));
     }
 
@@ -56,9 +56,9 @@ pub convert-determined : {numbered : Bool} {text output output₁ output₂ : Li
 convert-determined {numbered} {text} {output} {a = a} {b = b} x y =
     let l = parses-determined numbered (x .shown) (y .shown) in
     record {
-      answer = text-view-injective a b (x .answers ∙ rw l (sym (y .answers)));
+      answer = text-view-injective a b (x .effect .answers ∙ rw l (sym (y .effect .answers)));
       cells =
-          ⊎-elim (λ zero. x .written zero ∙ rw l (sym (y .written (sym (ap (λ k. convertRefusal numbered k (length output)) l) ∙ zero))))
-          (λ more. x .unchanged more ∙ sym (y .unchanged (rw l at more)))
+          ⊎-elim (λ zero. x .effect .written zero ∙ rw l (sym (y .effect .written (sym (ap (λ k. convertRefusal numbered k (length output)) l) ∙ zero))))
+          (λ more. x .effect .unchanged more ∙ sym (y .effect .unchanged (rw l at more)))
           (some-number (convertRefusal numbered (x .listing) (length output)));
     }

@@ -1,8 +1,8 @@
 -- A listing converted to the other form is of that form, and converting it back restores the text. Assumes nothing.
 use Rattle.listing_spec.specs.Laws.Prelude.{ℕ, zero, suc, _+_, _-_, _≤_, _<_, _≡_, refl, sym, ap, ap₂, _∙_, inl, inr, Bool, true, false, _&&_, false≢true, List, [], _∷_, _++_, map, Option, none, some, decLt, arith, leb, ltb, length, take, drop, getD, length-append, List·getD-append, getD-take, length-take-le, getD-at, eq-eqb, le-leb, lt-ltb, le-ltb, all-head, all-tail, all-cons, all-snoc, split, all-getD, all-of, take-put, TextAnswer, Written}
-use Rattle.lists.specs.Lists.{all}
-use Rattle.refusals.specs.Refusals.{check, firstRefusal, accepted, reply}
-use Rattle.listing_spec.specs.Listings.{Listing, headWidth, prefixWidth, listingText, areNumbers, isHead, isRow, isListing, ParsesAs, parses, numberedFrom, toNumbered, fromNumbered, lacksRow, convertedText, convertRefusal, textView, ListingConverted, Restored, RestoresText}
+use Rattle.lists.specs.Lists.{all, splice}
+use Rattle.refusals.specs.Refusals.{check, firstRefusal, accepted, reply, Effect}
+use Rattle.listing_spec.specs.Listings.{Listing, headWidth, prefixWidth, listingText, areNumbers, isHead, isRow, isListing, ParsesAs, parses, numberedFrom, toNumbered, fromNumbered, lacksRow, convertedText, convertRefusal, textView, ListingConverted, RestoresText}
 use Rattle.listing_spec.specs.Laws.Texts.{RowsFit, Bounded, listing-parts, listing-of, head-wide, head-bounds, row-parts, row-of, fit-none, fit-more, fit-rest, shown-listing, shown-text, parses-determined}
 use Rattle.listing_spec.specs.Laws.Conversions.{length-numberedFrom, lacks-none, to-from, from-to}
 
@@ -136,14 +136,14 @@ accepted-same e = cc
 module _ {numbered : Bool} {text output output′ : List ℕ} {bytes : ℕ} (x : ListingConverted numbered text output (Written bytes) output′) where
   accepted-conversion : convertRefusal numbered (x .listing) (length output) ≡ 0
   unfolding textView
-  accepted-conversion = accepted-number (length (convertedText numbered (x .listing))) (convertRefusal numbered (x .listing) (length output)) (x .answers)
+  accepted-conversion = accepted-number (length (convertedText numbered (x .listing))) (convertRefusal numbered (x .listing) (length output)) (x .effect .answers)
 
   converted-bytes : bytes ≡ length (convertedText numbered (x .listing))
   unfolding textView reply
-  converted-bytes = accepted-same (rw accepted-conversion at (x .answers))
+  converted-bytes = accepted-same (rw accepted-conversion at (x .effect .answers))
 
   pub converted-taken : take bytes output′ ≡ convertedText numbered (x .listing)
-  converted-taken = rw (converted-bytes, x .written accepted-conversion) (take-put output (convertedText numbered (x .listing)))
+  converted-taken = rw (converted-bytes, x .effect .written accepted-conversion) (take-put output (convertedText numbered (x .listing)))
 
 none-missing : (l : Listing) (room : ℕ) → convertRefusal true (some l) room ≡ 0 → lacksRow l ≡ false
 unfolding convertRefusal firstRefusal
@@ -185,14 +185,9 @@ come-again text (some l) room s given moved e m sm =
     let n : m ≡ some (fromNumbered l) = parses-determined false sm there in
     rw n (back-of false text (fromNumbered l) refl (ap (listingText true) (to-from l good (none-missing l room given)) ∙ sym (shown-text s)))
 
-module _ (text : List ℕ) (room : ℕ) where
-  short-none : length text ≤ room → short text room ≡ 0
-  unfolding firstRefusal
-  short-none long = rw (le-ltb room (length text) long)
-
-  short-some : room < length text → 0 < short text room
-  unfolding firstRefusal
-  short-some less = rw (lt-ltb room (length text) less) (omega arith)
+-- The conversion back is refused only with 2, and exactly if the output is shorter than the text; accepted, it writes the text.
+abbrev pub Restored : List ℕ → List ℕ → TextAnswer → List ℕ → Type 0
+Restored text output answer output′ = Effect (short text (length output)) (textView answer) (length text) output output′ (splice output 0 text)
 
 -- therefore the conversion back restores the text
 restored : {numbered : Bool} {text moved again again′ : List ℕ} {answer : TextAnswer} (y : ListingConverted numbered moved again answer again′) → Back numbered text (y .listing)
@@ -200,9 +195,9 @@ restored : {numbered : Bool} {text moved again again′ : List ℕ} {answer : Te
 restored {text = text} {again = again} y b =
     let n = b .number (length again) in
     record {
-      answers = y .answers ∙ ap₂ (λ (k : ℕ) (t : List ℕ). reply k (length t)) n (b .same);
-      written = λ long. rw (← b .same) (y .written (n ∙ short-none text (length again) long));
-      unchanged = λ less. y .unchanged (rw n (short-some text (length again) less));
+      answers = y .effect .answers ∙ ap₂ (λ (k : ℕ) (t : List ℕ). reply k (length t)) n (b .same);
+      unchanged = λ some. y .effect .unchanged (rw n some);
+      written = λ none. rw (← b .same) (y .effect .written (n ∙ none));
     }
 
 -- "coming back restores the text exactly"
@@ -216,12 +211,9 @@ roundtrip-from-new text output output′ again again′ bytes answer x y =
     restored y (come-again text (x .listing) (length output) (x .shown) (accepted-conversion x) _ (converted-taken x) (y .listing) (y .shown))
 
 -- an accepted conversion back has written the text
-pub restored-taken : {text again again′ : List ℕ} {bytes : ℕ} → Restored text again (Written bytes) again′ → take bytes again′ ≡ text
+pub restored-taken : {text again again′ : List ℕ} (bytes : ℕ) → Restored text again (Written bytes) again′ → take bytes again′ ≡ text
 unfolding textView reply
-restored-taken {text} {again} {again′} {bytes} r =
+restored-taken {text} {again} bytes r =
     let zero = accepted-number (length text) (short text (length again)) (r .answers) in
     let long : bytes ≡ length text = accepted-same (r .answers ∙ ap (λ (k : ℕ). reply k (length text)) zero) in
-    rw (long, r .written (room-enough zero)) (take-put again text)
-  where
-    room-enough : short text (length again) ≡ 0 → length text ≤ length again
-    room-enough e = elim (decLt (length again) (length text)) [ yes h ↦ absurd (omega (arith, short-some text (length again) h)) | no h ↦ omega arith ]
+    rw (long, r .written zero) (take-put again text)

@@ -8,7 +8,7 @@ use Rattle.listing_write.specs.Writing.{storedText, writeRefusal, Listin
 module _ {numbered : Bool} {h : Header} {rows output output′ : List ℕ} {bytes : ℕ} (x : ListingWritten numbered h rows output (Written bytes) output′) where
   accepted-write : writeRefusal numbered h rows (length output) ≡ 0
   unfolding textView
-  accepted-write = accepted-number (length (storedText numbered h rows)) (writeRefusal numbered h rows (length output)) (x .answers)
+  accepted-write = accepted-number (length (storedText numbered h rows)) (writeRefusal numbered h rows (length output)) (x .effect .answers)
 
   -- both checks with refusal 2
   abbrev room : List Check
@@ -33,20 +33,20 @@ module _ {numbered : Bool} {h : Header} {rows output output′ : List ℕ} {byte
 
   bytes-are : bytes ≡ length (storedText numbered h rows)
   unfolding textView reply
-  bytes-are = accepted-same (x .answers ∙ ap (λ (k : ℕ). reply k (length (storedText numbered h rows))) accepted-write)
+  bytes-are = accepted-same (x .effect .answers ∙ ap (λ (k : ℕ). reply k (length (storedText numbered h rows))) accepted-write)
 
   pub written-inside : bytes ≤ length output
   written-inside = omega (arith, fits, bytes-are)
 
   -- the text is at the start of the output
   pub written-taken : take bytes output′ ≡ storedText numbered h rows
-  written-taken = rw (bytes-are, x .written accepted-write) (take-put output (storedText numbered h rows))
+  written-taken = rw (bytes-are, x .effect .written accepted-write) (take-put output (storedText numbered h rows))
 
 -- a call with room for the text and the rows is not refused
 pub not-refused : {numbered : Bool} {h : Header} {rows output output′ : List ℕ} {n : ℕ} → ListingWritten numbered h rows output (Refused n) output′
     → outside h ≡ false → rowsShort h (length rows) ≡ false → length (storedText numbered h rows) ≤ length output → ⊥
 unfolding textView writeRefusal firstRefusal reply
 not-refused {numbered} {h} {rows} {output} x e f room =
-    let view = rw (e, f, le-ltb (length output) (length (storedText numbered h rows)) room) at (x .answers) in
+    let view = rw (e, f, le-ltb (length output) (length (storedText numbered h rows)) room) at (x .effect .answers) in
     let z : _≡_ {A = ℕ} 0 1 = cc in
     omega arith

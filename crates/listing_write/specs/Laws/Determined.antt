@@ -4,8 +4,8 @@ use Rattle.listing_write.specs.Laws.Prelude.{sym, _∙_, ⊎-elim, Bool,
 pub written-determined : {numbered : Bool} {h : Header} {rows output output₁ output₂ : List ℕ} {a b : TextAnswer} → ListingWritten numbered h rows output a output₁
     → ListingWritten numbered h rows output b output₂ → Same a b output₁ output₂
 written-determined {numbered} {h} {rows} {output} {a = a} {b = b} x y = record {
-  answer = text-view-injective a b (x .answers ∙ sym (y .answers));
+  answer = text-view-injective a b (x .effect .answers ∙ sym (y .effect .answers));
   cells =
-      ⊎-elim (λ zero. x .written zero ∙ sym (y .written zero)) (λ more. x .unchanged more ∙ sym (y .unchanged more))
+      ⊎-elim (λ zero. x .effect .written zero ∙ sym (y .effect .written zero)) (λ more. x .effect .unchanged more ∙ sym (y .effect .unchanged more))
       (some-number (writeRefusal numbered h rows (length output)));
 }

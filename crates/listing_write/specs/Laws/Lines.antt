@@ -5,7 +5,7 @@ use Rattle.plain_table.specs.Plain.{liveFrom}
 use Rattle.table.specs.Refusing.{outside, rowsShort}
 use Rattle.table.specs.Stores.{rowsIn}
 use Rattle.listing_spec.specs.Listings.{listingText}
-use Rattle.listing_write.specs.Writing.{rowFields, tableListing, storedListing, storedText}
+use Rattle.listing_write.specs.Writing.{rowFields, tableListing, storedText}
 use Rattle.listing_write.specs.inner.Lines.{headLine, rowLine, rowLines, Stored}
 
 live-lines : (numbered : Bool) (columns number count : ℕ) (rows : List ℕ)
@@ -19,7 +19,7 @@ live-lines numbered columns number (suc count) rows =
     ]
 
 pub stored-lines : (numbered : Bool) (h : Header) (rows : List ℕ) → storedText numbered h rows ≡ headLine numbered h ++ rowLines numbered (h .columns) 0 (h .rows) rows
-unfolding storedText storedListing tableListing listingText headLine
+unfolding storedText tableListing listingText headLine
 stored-lines numbered h rows = rw (length-rowsIn h rows) (unfold rowsIn in rw (live-lines numbered (h .columns) 0 (h .rows) rows))
 
 -- what checks 1 and 2 establish

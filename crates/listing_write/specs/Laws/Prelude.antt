@@ -18,7 +18,7 @@ pub use Rattle.listing_spec.specs.Laws.Restored.{accepted-number, accepted-same
 pub use Rattle.listing_spec.specs.Laws.Texts.{RowsFit, fit-more, fit-none, listing-of, parses-determined, row-of}
 pub use Rattle.listing_spec.specs.declared.TextAnswer.{TextAnswer}
 pub use Rattle.listing_spec.specs.declared.TextAnswer.the-variants.{Refused, Written}
-pub use Rattle.listing_write.specs.Writing.{ListingWritten, storedListing, writeRefusal}
+pub use Rattle.listing_write.specs.Writing.{ListingWritten, writeRefusal}
 pub use Rattle.lists.specs.Laws.All.{all-cons, all-head, all-tail, or-right, or-second}
 pub use Rattle.lists.specs.Laws.Filter.{split}
 pub use Rattle.lists.specs.Laws.Rows.{rowsOf-widths}

@@ -1,9 +1,9 @@
 -- A listing that is written is read back. Assumes nothing.
-use Rattle.listing_write.specs.Laws.Prelude.{ℕ, _≤_, _<_, _≡_, ap, _∙_, Bool, true, List, [], _∷_, _++_, Option, some, arith, ltb, length, take, lt-ltb, le-ltb, splice, flatten, Header, Written, parses-determined, storedListing, ListingWritten}
+use Rattle.listing_write.specs.Laws.Prelude.{ℕ, _≤_, _<_, _≡_, ap, _∙_, Bool, true, List, [], _∷_, _++_, Option, some, arith, ltb, length, take, lt-ltb, le-ltb, splice, flatten, Header, Written, parses-determined, ListingWritten}
 use Rattle.refusals.specs.Refusals.{check, firstRefusal, Reply, reply}
 use Rattle.listing_spec.specs.Listings.{Listing, areNumbers, ParsesAs, listingCells, readRefusal, readWords, ListingRead}
 use Rattle.listing_write.specs.Laws.Answers.{inside, stored, written-taken}
-use Rattle.listing_write.specs.Laws.Represented.{stored-listed}
+use Rattle.listing_write.specs.Laws.Represented.{stored-listed, storedListing}
 
 -- The contract of reading a listing: the head's numbers and the number of listed rows, and each row's numbers in order. It is
 -- refused only with 2, and exactly if the output is too short for these.
@@ -28,9 +28,9 @@ shown-read {numbered} {output = output} {l = l} s x =
     let e : x .listing ≡ some l = parses-determined numbered (x .shown) s in
     let n : readRefusal (x .listing) (length output) ≡ readRefusal (some l) (length output) = ap (λ (k : Option Listing). readRefusal k (length output)) e in
     record {
-      answers = x .answers ∙ ap (λ (k : Option Listing). reply (readRefusal k (length output)) (readWords k)) e;
-      written = λ long. x .written (n ∙ short-none l (length output) long) ∙ ap (λ (k : Option Listing). splice output 0 (listingCells k)) e;
-      unchanged = λ less. x .unchanged (rw n (short-some l (length output) less));
+      answers = x .effect .answers ∙ ap (λ (k : Option Listing). reply (readRefusal k (length output)) (readWords k)) e;
+      written = λ long. x .effect .written (n ∙ short-none l (length output) long) ∙ ap (λ (k : Option Listing). splice output 0 (listingCells k)) e;
+      unchanged = λ less. x .effect .unchanged (rw n (short-some l (length output) less));
     }
 
 module _ {numbered : Bool} {h : Header} {rows output output′ : List ℕ} {bytes : ℕ} (x : ListingWritten numbered h rows output (Written bytes) output′) where

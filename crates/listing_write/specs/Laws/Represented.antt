@@ -8,10 +8,14 @@ use Rattle.constraints.specs.Constraints.{isLive}
 use Rattle.plain_table.specs.Plain.{Plain, liveRows}
 use Rattle.table.specs.Refusing.{outside, rowsShort}
 use Rattle.table.specs.Stores.{rowsIn}
-use Rattle.listing_spec.specs.Listings.{listingText, areNumbers, ParsesAs}
-use Rattle.listing_write.specs.Writing.{tableListing, storedListing, storedText, writeRefusal}
+use Rattle.listing_spec.specs.Listings.{Listing, listingText, areNumbers, ParsesAs}
+use Rattle.listing_write.specs.Writing.{tableListing, storedText, writeRefusal}
 use Rattle.listing_write.specs.Laws.Lines.{stored-rows}
 use Rattle.listing_write.specs.Laws.Listed.{liveFits, table-listed}
+
+-- the listing of a header and a row store
+abbrev pub storedListing : Bool → Header → List ℕ → Listing
+storedListing numbered h rows = tableListing numbered (openingOf h) (h .generation) (rowsIn h rows)
 
 -- ---- rows of a store whose cells are u32
 
@@ -58,7 +62,7 @@ live-first cells = either (isDead (getD cells 0 0))
 module _ (numbered : Bool) (h : Header) (rows : List ℕ) (e : outside h ≡ false) (f : rowsShort h (length rows) ≡ false) (generation : h .generation ≤ 4294967295) (cells : areNumbers rows ≡ true) where
   -- for any content of the stores, the text written is the text of a listing
   pub stored-listed : ParsesAs numbered (storedText numbered h rows) (some (storedListing numbered h rows))
-  unfolding storedText storedListing
+  unfolding storedText
   stored-listed =
       let i = outside-inside h e in
       let each = rowsOf (h .columns) (h .rows) rows in
@@ -78,7 +82,7 @@ rows-long {p} {s} r = rw (r .shown .header) (le-ltb (length (s .rows)) (p .openi
 module _ {p : Plain} {s : Stores} (r : Represents p s) (numbered : Bool) where
   -- the listing is that of the plain table, which U and L print
   pub stored-plain : storedListing numbered (s .header) (s .rows) ≡ tableListing numbered (p .opening) (p .generation) (p .rows)
-  unfolding storedListing tableListing
+  unfolding tableListing
   stored-plain = rw (length-rowsIn (s .header) (s .rows), live-shown r) (unfold liveRows in rw (r .shown .header))
 
   -- the call is refused only if the output is too short

@@ -1,6 +1,6 @@
 -- Contracts of the two halves of a merge: the pending records are applied; then pending is emptied, and a compaction may follow.
 -- Assumes nothing.
-use Prim.Native.Nat.{ℕ, _≤_}
+use Prim.Native.Nat.{ℕ, _+_, _*_, _/_, _≤_}
 use mathlib.Core.Path.{_≡_}
 use mathlib.Core.Bool.{cond}
 use mathlib.Core.List.{List, []}
@@ -10,7 +10,7 @@ use Rattle.table.specs.declared.Header.{Header}
 use Rattle.table.specs.declared.Merge.{Merge}
 use Rattle.merge_insert.specs.declared.MergeProgress.{MergeProgress}
 use Rattle.table.specs.Stores.{headerOf, rowStore, sortStore}
-use Rattle.table.specs.Contracts.{Stores, stores, Represents, SlotsPast, PastNeeded}
+use Rattle.table.specs.Contracts.{Stores, stores, Represents, SamePast}
 use Rattle.merge_pending.specs.inner.Becoming.{Becomes, withCounts}
 
 -- ---- the passes over the pending records
@@ -22,7 +22,7 @@ pub record AppliedTable (p : Plain) (s s′ : Stores) (m : MergeProgress) : Type
   pub place : m .place ≡ applied p .place
 
 pub record Applying (h : Header) (rows keys sorts pending : List ℕ) (m : MergeProgress) (rows′ keys′ sorts′ : List ℕ) : Type 0 where
-  pub past : SlotsPast (h .capacity) keys keys′
+  pub past : SamePast (2 * h .capacity) keys keys′
   pub counts : m .header ≡ withCounts h (m .header .rows) (m .header .dead) (m .header .entries) (m .header .largest)
   pub rows-fit : m .header .rows ≤ h .capacity
   pub table : (p : Plain) → Represents p (stores h rows keys sorts pending)
@@ -53,6 +53,6 @@ module _ (m : MergeProgress) (before : ℕ) (rows keys sorts live-words base : L
     pub words : finished (m .status) p .generation ≡ p .generation → (live-words′ ≡ live-words) × (base′ ≡ base)
 
   pub record Finishing : Type 0 where
-    pub past : SlotsPast (m .header .capacity) keys keys′
-    pub words-past : PastNeeded (m .header .capacity) live-words live-words′ × PastNeeded (m .header .capacity) base base′
+    pub past : SamePast (2 * m .header .capacity) keys keys′
+    pub words-past : SamePast ((m .header .capacity + 63) / 64) live-words live-words′ × SamePast ((m .header .capacity + 63) / 64) base base′
     pub table : (pending : List ℕ) (p : Plain) → Represents p (stores (m .header) rows keys sorts pending) → FinishedTable pending p

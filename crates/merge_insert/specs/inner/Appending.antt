@@ -24,7 +24,7 @@ use Rattle.merge_insert.specs.declared.append.Admission.{Admission}
 use Rattle.merge_insert.specs.declared.append.Admission.the-variants.{Stop, Entries}
 use Rattle.table.specs.Sound.{indexShapeOf}
 use Rattle.table.specs.inner.FullIndexShape.{fullIndexShapeOf}
-use Rattle.table.specs.Contracts.{SlotsPast}
+use Rattle.table.specs.Contracts.{SamePast}
 use Rattle.merge_pending.specs.inner.Becoming.{withCounts}
 
 -- ---- the sort entry of a row
@@ -73,7 +73,7 @@ outgrown h = not (eqb (sizeClassFor (h .capacity) (h .rows + 1)) (sizeClassFor (
 pub record KeysGrown (h h′ : Header) (rows′ keys : List ℕ) (Entry : Type 0) (keys′ : List ℕ) : Type 0 where
   pub more : outgrown h ≡ true → KeysSound (indexShapeOf h′) rows′ keys′
   pub stepped : outgrown h ≡ false → Entry
-  pub past : SlotsPast (h .capacity) keys keys′
+  pub past : SamePast (2 * h .capacity) keys keys′
   pub same : length keys′ ≡ length keys
 
 -- there is room for one more row, which is written

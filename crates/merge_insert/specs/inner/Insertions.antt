@@ -1,5 +1,5 @@
 -- Contract of all inserts of a merge. Assumes nothing.
-use Prim.Native.Nat.{ℕ, _+_, _≤_, _<_}
+use Prim.Native.Nat.{ℕ, _+_, _*_, _≤_, _<_}
 use mathlib.Core.Path.{_≡_}
 use mathlib.Core.List.{List, _∷_}
 use lib.ListN.{getD}
@@ -8,7 +8,7 @@ use Rattle.plain_table.specs.Plain.{insertAll, inserted, Plain}
 use Rattle.table.specs.declared.Header.{Header}
 use Rattle.merge_insert.specs.declared.MergeProgress.{MergeProgress}
 use Rattle.table.specs.Numbers.{openingOf}
-use Rattle.table.specs.Contracts.{Stores, stores, Represents, SlotsPast}
+use Rattle.table.specs.Contracts.{Stores, stores, Represents, SamePast}
 use Rattle.merge_pending.specs.inner.Becoming.{Becomes, Recounted, Ready, Waiting, Remaining}
 
 -- all inserts
@@ -18,7 +18,7 @@ pub record InsertedTable (p : Plain) (s s′ : Stores) (m : MergeProgress) : Typ
   pub place : m .place ≡ insertAll (inserts (p .staged)) 0 p .place
 
 pub record Insertions (h : Header) (rows keys sorts pending : List ℕ) (m : MergeProgress) (rows′ keys′ sorts′ : List ℕ) : Type 0 where
-  pub past : SlotsPast (h .capacity) keys keys′
+  pub past : SamePast (2 * h .capacity) keys keys′
   pub header : Recounted h (m .header)
   pub table : (p : Plain) → Represents p (stores h rows keys sorts pending)
       → InsertedTable p (stores h rows keys sorts pending) (stores (m .header) rows′ keys′ sorts′ pending) m
@@ -45,7 +45,7 @@ pub record InsertGoes (m : MergeProgress) (r : MergeProgress) (one : Staged) (re
       → insertAll (inserts (one ∷ rest)) (m .place) p ≡ inserted next (r .status) (r .place)
 
 pub record InsertedNext (m : MergeProgress) (rows keys sorts pending : List ℕ) (at : ℕ) (r : MergeProgress) (rows′ keys′ sorts′ : List ℕ) : Type 0 where
-  pub past : SlotsPast (m .header .capacity) keys keys′
+  pub past : SamePast (2 * m .header .capacity) keys keys′
   pub header : Recounted (m .header) (r .header)
   pub place-fits : r .place ≤ m .place + 1
   pub table : m .status ≡ 0 → (one : Staged) (rest : List Staged) → Waiting (openingOf (m .header)) pending (m .header .pending) at (one ∷ rest)

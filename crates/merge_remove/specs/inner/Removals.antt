@@ -16,7 +16,7 @@ use Rattle.plain_table.specs.Plain.{Plain, withoutKey, withoutRow}
 use Rattle.table.specs.declared.Header.{Header}
 use Rattle.table.specs.Numbers.{openingOf}
 use Rattle.table.specs.inner.FullIndexShape.{fullIndexShapeOf}
-use Rattle.table.specs.Contracts.{stores, Represents, SlotsPast}
+use Rattle.table.specs.Contracts.{stores, Represents, SamePast}
 use Rattle.merge_pending.specs.inner.Becoming.{Becomes, withDead, kindOf, Waiting, hashOf}
 
 -- the table after a removal
@@ -51,7 +51,7 @@ spared kind row found = cond (eqb kind 1) false (not (eqb found row))
 
 -- one removal, with the hash of its key, from a table with any number of dead rows
 pub record Removal (h : Header) (rows keys : List ℕ) (removal : Staged) (hash : ℕ) (r : Bool) (rows′ keys′ : List ℕ) : Type 0 where
-  pub past : SlotsPast (h .capacity) keys keys′
+  pub past : SamePast (2 * h .capacity) keys keys′
   pub table : hash ≡ hashOf (h .keys) removal → (dead : ℕ) (sorts pending : List ℕ) (p : Plain)
       → Represents p (stores (withDead h dead) rows keys sorts pending)
       → Becomes p (removed removal p) (stores (withDead h dead) rows keys sorts pending) (stores (withDead h (dead + died r)) rows′ keys′ sorts pending)
@@ -64,7 +64,7 @@ pub record RemovalAt (h : Header) (pending : List ℕ) (at : ℕ) : Type 0 where
 
 -- the removal at a place
 pub record Removed (h : Header) (rows keys pending : List ℕ) (at : ℕ) (r : Bool) (rows′ keys′ : List ℕ) : Type 0 where
-  pub past : SlotsPast (h .capacity) keys keys′
+  pub past : SamePast (2 * h .capacity) keys keys′
   pub table : (removal : Staged) (rest : List Staged) → Waiting (openingOf h) pending (h .pending) at (removal ∷ rest) → (kindOf removal ≡ 0 → ⊥)
       → (dead : ℕ) (sorts : List ℕ) (p : Plain) → Represents p (stores (withDead h dead) rows keys sorts pending)
       → Becomes p (removed removal p) (stores (withDead h dead) rows keys sorts pending) (stores (withDead h (dead + died r)) rows′ keys′ sorts pending)
@@ -81,7 +81,7 @@ pub record Removable (h : Header) (rows keys pending : List ℕ) (kind : ℕ) : 
 pub record Removals (h : Header) (rows keys pending : List ℕ) (kind : ℕ) (h′ : Header) (rows′ keys′ : List ℕ) : Type 0 where
   pub header : h′ ≡ withDead h (h′ .dead)
   pub dead-few : 3 * h′ .dead ≤ 3 * h .dead + h .pending
-  pub past : SlotsPast (h .capacity) keys keys′
+  pub past : SamePast (2 * h .capacity) keys keys′
   pub table : (sorts : List ℕ) (p : Plain) → Represents p (stores h rows keys sorts pending)
       → Becomes p (removedAll kind (p .staged) p) (stores h rows keys sorts pending) (stores h′ rows′ keys′ sorts pending)
 
@@ -94,7 +94,7 @@ pub record RemovalNext (h : Header) (rows keys pending : List ℕ) (at kind : �
 
 -- the removal is applied, and r rows died
 pub record RemovedNext (h : Header) (rows keys pending : List ℕ) (at kind r : ℕ) (rows′ keys′ : List ℕ) : Type 0 where
-  pub past : SlotsPast (h .capacity) keys keys′
+  pub past : SamePast (2 * h .capacity) keys keys′
   pub few : r ≤ 1
   pub table : (removal : Staged) (rest : List Staged) → Waiting (openingOf h) pending (h .pending) at (removal ∷ rest)
       → (dead : ℕ) (sorts : List ℕ) (p : Plain) → Represents p (stores (withDead h dead) rows keys sorts pending)

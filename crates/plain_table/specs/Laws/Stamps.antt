@@ -4,10 +4,14 @@ use Rattle.plain_table.specs.Laws.Prelude.{ℕ, zero, suc, _+_, _≤_, _
 use Rattle.lists.specs.Lists.{all}
 use Rattle.plain_table.specs.Plain.{Row, Plain, opened, stage, liveWithKey, killIf, removed, below, raised, applied, compacted, unstaged, compactsAfter, merged, cleared}
 use Rattle.plain_table.specs.Calls.{Call, staging, merging, compacting, clearing, refreshing, feeding, recordsOf, stageAll, refusal, done, after, LentCall, afterAll}
-use Rattle.plain_table.specs.Appending.{mergeAppends, mergeOrClear, byCall, stampsOf, stampsAfter, stampsSince, greatest}
+use Rattle.plain_table.specs.Appending.{mergeAppends, mergeOrClear, byCall, stampsAfter, stampsSince, greatest}
 use Rattle.plain_table.specs.Laws.Rows.{liveRow, raised-same}
 use Rattle.plain_table.specs.Laws.Counts.{Appended, new, again, appended-alike, removed-keeps, length-removed, removed-alike, applied-keeps}
 use Rattle.plain_table.specs.Laws.Proper.{stop-above}
+
+-- the sort values of rows
+abbrev stampsOf : Plain → List (List ℕ) → List ℕ
+stampsOf p rows = map (λ cells. getD cells (p .opening .sort) 0) rows
 
 -- `largest` of the table is the largest of these sort values, and they never fall
 pub record Stamped (p : Plain) (stamps : List ℕ) : Type 0 where

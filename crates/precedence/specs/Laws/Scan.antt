@@ -3,7 +3,8 @@ use Rattle.precedence.specs.Laws.Prelude.{ℕ, zero, suc, _+_, _*_, _/_,
 use Rattle.lists.specs.Lists.{any, same}
 use Rattle.plain_table.specs.Staged.{hasKey}
 use Rattle.plain_table.specs.Plain.{Row, Plain, liveFrom}
-use Rattle.precedence.specs.Precedence.{Pair, pairsOf, otherKeyCells, firstFailing, failingPair, Failure, failureOr, failureAmong}
+use Rattle.precedence.specs.Precedence.{Pair, pairsOf, otherKeyCells, firstFailing, failingPair, Failure, failureAmong}
+use mathlib.Core.Option.{Option·elim}
 
 -- ---- live rows that pass a test of their cells
 
@@ -78,15 +79,15 @@ module _ (p : Plain) (column : ℕ) (pairs : List Pair) (n : ℕ) (row : Row) (r
   among n rows = failureAmong p column pairs (liveFrom n rows)
 
   pub failure-here : (place : ℕ) → row .live ≡ true → failingPair p column pairs (row .cells) ≡ some place → among n (row ∷ rows) ≡ some (record { row = n; place = place })
-  unfolding failureAmong liveFrom failureOr
+  unfolding failureAmong liveFrom Option·elim
   failure-here place l e = rw (l, e)
 
   pub failure-later : row .live ≡ true → failingPair p column pairs (row .cells) ≡ none → among n (row ∷ rows) ≡ among (suc n) rows
-  unfolding failureAmong liveFrom failureOr
+  unfolding failureAmong liveFrom Option·elim
   failure-later l e = rw (l, e)
 
   pub failure-dead : row .live ≡ false → among n (row ∷ rows) ≡ among (suc n) rows
-  unfolding failureAmong liveFrom failureOr
+  unfolding failureAmong liveFrom Option·elim
   failure-dead l = rw l
 
 -- ---- pairs in words

@@ -2,7 +2,6 @@
 use Prim.Native.Nat.{ℕ, zero, suc, _+_, _-_, _*_, _≤_, _<_, min}
 use mathlib.Core.Path.{_≡_}
 use mathlib.Core.Bool.{Bool, true, false, cond, not, _&&_}
-use mathlib.Core.Option.{Option, none, some}
 use mathlib.Core.List.{List, [], _∷_, _++_}
 use lib.Dec.{ltb, eqb}
 use lib.ListN.{length, getD}
@@ -227,20 +226,15 @@ pub record RefineClosed (head : SubsetHead) (s : Scan) (output : List ℕ) (answ
       → Builds output₀ output (s .found) (filter test (members (subsetOf head ids)))
       → Answered (accepted (narrowed test (subsetOf head ids))) output₀ answer output′
 
--- a next place in the form of the answer
-unfoldable pub nextOf : Option ℕ → NextPlace
-nextOf none = NoPlace
-nextOf (some place) = At place
-
 -- the place to continue from after a page
-unfoldable pub nextAt : Subset → ℕ → Option ℕ
-nextAt subset next = cond (ltb next (size subset)) (some next) none
+unfoldable pub nextAt : Subset → ℕ → NextPlace
+nextAt subset next = cond (ltb next (size subset)) (At next) NoPlace
 
 -- the end of a page
 pub record PageClosed (subset : Subset) (s : Scan) (output : List ℕ) (answer : PageAnswer) (output′ : List ℕ) : Type 0 where
   pub refuses : (s .refused ≡ 0 → ⊥) → (answer ≡ PageIsRefused (s .refused)) × (output′ ≡ output)
   pub pages : s .refused ≡ 0 → (output₀ kept : List ℕ) → Builds output₀ output (s .found) kept
-      → (answer ≡ Paged (record { written = length kept; dead = s .dead; next = nextOf (nextAt subset (s .next)) })) × (output′ ≡ splice output₀ 0 kept)
+      → (answer ≡ Paged (record { written = length kept; dead = s .dead; next = nextAt subset (s .next) })) × (output′ ≡ splice output₀ 0 kept)
 
 -- the end of a search for a match
 pub record MatchClosed (s : Scan) (answer : MatchAnswer) : Type 0 where

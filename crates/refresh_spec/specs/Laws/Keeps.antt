@@ -2,13 +2,13 @@
 -- index store the refresh stages what the plain table stages. Assumes nothing.
 use Rattle.refresh_spec.specs.Laws.Prelude.{ℕ, _+_, _*_, _≤_, _<_, _≡_, sym, _∙_, inl, inr, Bool, true, List, [], map, ltb, eqb, length, ltb-false, or-no-left, or-no-right, splice-nil, split, filter-all, all-of, all-filter-of, some-number, Staged, wordsAll, firstRefusal-no, firstRefusal-rest, Whole, openable-bounds, live-wide, refreshed-whole, Header, openingOf, recordWords, Stores, stores, bodyOf, joined, Represents, ofRows, reply-refused, reply-accepted, header-inside, largestView-largestOf, live-shown, records-represent, SoundTable, sound-table, shows-plain, RefreshAnswer}
 use Rattle.lists.specs.Lists.{splice, flatten}
-use Rattle.refusals.specs.Refusals.{refused, accepted, firstRefusal}
+use Rattle.refusals.specs.Refusals.{refused, accepted, firstRefusal, ifAccepted}
 use Rattle.plain_table.specs.Plain.{Plain, liveRows}
 use Rattle.plain_table.specs.Refusing.{Lengths, overfull}
 use Rattle.plain_table.specs.Refreshing.{Refresh, mentions, mentioning, indexShort, refreshChecks}
 use Rattle.plain_table.specs.Calls.{refreshing, recordsOf, stageAll, refusal}
 use Rattle.table.specs.Refusing.{outside, pendingOutside}
-use Rattle.refresh_spec.specs.Refreshes.{refreshView, refreshRefusal, recordsFound, answered, recordsStaged, headerRefreshed, Refreshing}
+use Rattle.refresh_spec.specs.Refreshes.{refreshView, refreshRefusal, recordsFound, answered, Refreshing}
 
 -- ---- its refusals
 
@@ -89,27 +89,27 @@ module _ {h : Header} {rows pending index pending′ index′ : List ℕ} {q : R
 
   -- if accepted, it has staged the records that it found
   pub refreshing-done : {p : Plain} {keys sorts : List ℕ} → number ≡ 0 → Represents p (stores h rows keys sorts pending)
-      → Represents (stageAll p found-records) (stores (headerRefreshed h (refreshView answer)) rows keys sorts pending′)
-  unfolding headerRefreshed
+      → Represents (stageAll p found-records) (stores (ifAccepted (refreshView answer) (λ a. a .header) h) rows keys sorts pending′)
+  unfolding ifAccepted
   refreshing-done e r =
       rw (view-accepted e)
       (records-represent found-records pending′ r (records-whole r q (m .found)) (passed e .free) (m .staged e))
 
-  pub refreshing-refused : {keys sorts : List ℕ} → 0 < number → stores (headerRefreshed h (refreshView answer)) rows keys sorts pending′ ≡ stores h rows keys sorts pending
-  unfolding headerRefreshed
+  pub refreshing-refused : {keys sorts : List ℕ} → 0 < number → stores (ifAccepted (refreshView answer) (λ a. a .header) h) rows keys sorts pending′ ≡ stores h rows keys sorts pending
+  unfolding ifAccepted
   refreshing-refused some = rw (view-refused some, m .unchanged some .0)
 
   -- "it is fed the records that the call staged"
-  pub fed-accepted : number ≡ 0 → recordsStaged (refreshView answer) found-records ≡ found-records
-  unfolding recordsStaged
+  pub fed-accepted : number ≡ 0 → ifAccepted (refreshView answer) (λ a. found-records) [] ≡ found-records
+  unfolding ifAccepted
   fed-accepted e = rw (view-accepted e)
 
-  pub fed-refused : 0 < number → recordsStaged (refreshView answer) found-records ≡ []
-  unfolding recordsStaged
+  pub fed-refused : 0 < number → ifAccepted (refreshView answer) (λ a. found-records) [] ≡ []
+  unfolding ifAccepted
   fed-refused some = rw (view-refused some)
 
   -- these records are what was written
-  pub fed-written : pending′ ≡ splice pending (h .pending) (flatten (map (recordWords (h .keys)) (recordsStaged (refreshView answer) found-records)))
+  pub fed-written : pending′ ≡ splice pending (h .pending) (flatten (map (recordWords (h .keys)) (ifAccepted (refreshView answer) (λ a. found-records) [])))
   unfolding flatten
   fed-written =
       elim (some-number number) [
@@ -119,7 +119,7 @@ module _ {h : Header} {rows pending index pending′ index′ : List ℕ} {q : R
 
 -- "the table stays sound whatever it holds"
 pub refreshing-keeps : {s : Stores} {index pending′ index′ : List ℕ} {q : Refresh} {answer : RefreshAnswer} → Refreshing (s .header) (s .rows) (s .pending) index q answer pending′ index′
-    → SoundTable s → SoundTable (joined (headerRefreshed (s .header) (refreshView answer)) (bodyOf s) pending′)
+    → SoundTable s → SoundTable (joined (ifAccepted (refreshView answer) (λ a. a .header) (s .header)) (bodyOf s) pending′)
 refreshing-keeps m t =
     elim (some-number (number m)) [
       | inl none ↦ sound-table (refreshing-done m none (shows-plain t .1))

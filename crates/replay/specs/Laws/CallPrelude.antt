@@ -12,7 +12,7 @@ pub use borrow.Author.Tests.{le-ltb, lt-ltb, ltb-false, ne-eqb}
 pub use Rattle.history.specs.Laws.Calls.{step-represents, steps-represents}
 pub use Rattle.history.specs.Laws.Further.{behind-nothing, whole-step}
 pub use Rattle.history.specs.Laws.Refreshes.{own-indexes-sound}
-pub use Rattle.history.specs.Refreshes.{OwnIndex, adopted, other-call, ownRefresh, refreshes}
+pub use Rattle.history.specs.Refreshes.{OwnIndex, adopted, other-call, refreshes}
 pub use Rattle.lists.specs.Laws.All.{or-no-left, or-no-right}
 pub use Rattle.lists.specs.Laws.Parts.{part-to-end}
 pub use Rattle.plain_table.specs.Calls.{clearing, compacting, merging, staging}
@@ -25,12 +25,12 @@ pub use Rattle.plain_table.specs.Staged.{Opening, Staged, insert, removeKey, re
 pub use Rattle.refresh_spec.specs.Index.{IndexSound, isNew}
 pub use Rattle.refresh_spec.specs.Laws.Decided.{index-decided}
 pub use Rattle.refresh_spec.specs.Laws.Keeps.{number}
-pub use Rattle.refresh_spec.specs.Refreshes.{Refreshing, headerRefreshed, refreshView}
+pub use Rattle.refresh_spec.specs.Refreshes.{Refreshing, refreshView}
 pub use Rattle.refresh_spec.specs.declared.RefreshAnswer.{RefreshAnswer}
 pub use Rattle.refusals.specs.Laws.Replies.{some-number}
-pub use Rattle.replay.specs.Requests.{Request, Served, end, lentAll, lentTo, made, make, next, refresh, refreshed, refreshed-unsound}
+pub use Rattle.replay.specs.Requests.{Request, Served, end, lentTo, made, make, next, refresh, refreshed, refreshed-unsound}
 pub use Rattle.replay.specs.inner.Making.{Made, MadeOnIndex, MadeOnPending}
-pub use Rattle.table.specs.Contracts.{Clearing, Compacting, CompactionWords, Merging, Represents, SlotsPast, Staging, Stores, WordsPast, body, compactionWords, headerAfter, headerMerged, lengths, stores}
+pub use Rattle.table.specs.Contracts.{Clearing, Compacting, CompactionWords, Merging, Represents, SamePast, Staging, Stores, WordsPast, body, compactionWords, lengths, stores}
 pub use Rattle.table.specs.Laws.Checks.{compact-checks, merge-checks}
 pub use Rattle.table.specs.Numbers.{mergeView, tableView}
 pub use Rattle.table.specs.Refusing.{compactRefusal, mergeRefusal}

@@ -2,10 +2,10 @@
 -- except for the program's choices: in a table the key store's slots below 2 × capacity, after a compaction the compaction words
 -- needed, and after a refresh the index words needed. With another index store, it is also open which of the rows that mention a
 -- value are staged. Assumes nothing.
-use Rattle.replay.specs.Laws.Prelude.{ℕ, _<_, _≡_, refl, sym, ap, _∙_, _⊎_, inl, inr, true, false, List, [], map, arith, length, any, some-number, refused-same, Opening, openRefusal, opened, LentCall, afterAll, Header, TableAnswer, Refused, Table, Stores, Body, stores, joined, CompactionWords, lengths, Represents, SlotsPast, WordsPast, table-view-injective, opening-done, isNew, IndexSound, Steps, steps-represents, SameCells, steps-determined, Request, isRefresh, requested, IndexPast, served-steps, callsLent, MadeFrom, Replayed}
+use Rattle.replay.specs.Laws.Prelude.{ℕ, _*_, _+_, _<_, _≡_, refl, sym, ap, _∙_, _⊎_, inl, inr, true, false, List, [], map, arith, length, any, some-number, refused-same, Opening, openRefusal, opened, LentCall, afterAll, Header, TableAnswer, Refused, Table, Stores, Body, stores, joined, CompactionWords, lengths, Represents, SamePast, WordsPast, table-view-injective, opening-done, isNew, IndexSound, Steps, steps-represents, SameCells, steps-determined, Request, isRefresh, requested, served-steps, MadeFrom, Replayed}
 use Rattle.refusals.specs.Refusals.{accepted, reply, outcome}
 use Rattle.table.specs.Numbers.{tableView}
-use Rattle.replay.specs.Laws.Theorem.{replay-requested, replay-index}
+use Rattle.replay.specs.Laws.Theorem.{replay-requested, replay-index, callsLent}
 
 -- the result of a replay
 pub record ReplayLeft : Type 0 where
@@ -34,7 +34,7 @@ module _ (o : Opening) (generation : ℕ) (requests : List Request) (b : Body) (
     -- the key store: all of it, if the opening is refused; otherwise the slots that are never written, and each key store refers to
     -- the live rows of the one plain table
     pub keys-refused : 0 < openRefusal o (lengths (b .rows) (b .keys) (b .sorts) pending [] []) → x .body .keys ≡ y .body .keys
-    pub slots-past : SlotsPast (o .capacity) (x .body .keys) (y .body .keys)
+    pub slots-past : SamePast (2 * o .capacity) (x .body .keys) (y .body .keys)
     pub represent : (h : Header) → tableView (x .answer) ≡ accepted h
         → Represents (afterAll (opened o generation) requestedCalls) (joined h (x .body) (x .pending))
         × Represents (afterAll (opened o generation) requestedCalls) (joined h (y .body) (y .pending))
@@ -44,7 +44,7 @@ module _ (o : Opening) (generation : ℕ) (requests : List Request) (b : Body) (
     pub words-kept : (h : Header) → tableView (x .answer) ≡ accepted h → h .generation ≡ generation → x .words ≡ y .words
     -- the index store: all of it, if no refresh is requested; otherwise the words that are never written, and an index store that
     -- was new is sound
-    pub index-past : IndexPast (o .capacity) (x .index) (y .index)
+    pub index-past : SamePast (16 + 24 * o .capacity) (x .index) (y .index)
     pub index-refused : 0 < openRefusal o (lengths (b .rows) (b .keys) (b .sorts) pending [] []) → x .index ≡ y .index
     pub index-kept : any isRefresh requests ≡ false → x .index ≡ y .index
     pub index-sound : (h : Header) → tableView (x .answer) ≡ accepted h → isNew index ≡ true → (columns : List ℕ)

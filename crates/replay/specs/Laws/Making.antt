@@ -1,10 +1,11 @@
 -- Requests executed one after another, and the step of each. Assumes nothing.
-use Rattle.replay.specs.Laws.CallPrelude.{ℕ, _≡_, refl, sym, ap, _∙_, inl, inr, List, [], _∷_, _++_, map-append, arith, some-number, Staged, Refresh, onward-all, accepted-done, Header, TableAnswer, MergeAnswer, tableView, mergeView, mergeRefusal, compactRefusal, Stores, stores, body, CompactionWords, compactionWords, lengths, Represents, SlotsPast, WordsPast, headerAfter, headerMerged, Staging, Merging, Compacting, Clearing, merge-checks, compact-checks, RefreshAnswer, refreshView, headerRefreshed, Refreshing, index-decided, steps-represents, Request, make, refresh, lentTo, lentAll, Served, made, refreshed, refreshed-unsound, end, next, Made, MadeOnPending, MadeOnIndex}
+use Rattle.replay.specs.Laws.CallPrelude.{ℕ, _*_, _≡_, refl, sym, ap, _∙_, inl, inr, List, [], _∷_, _++_, map-append, arith, some-number, Staged, Refresh, onward-all, accepted-done, Header, TableAnswer, MergeAnswer, tableView, mergeView, mergeRefusal, compactRefusal, Stores, stores, body, CompactionWords, compactionWords, lengths, Represents, SamePast, WordsPast, Staging, Merging, Compacting, Clearing, merge-checks, compact-checks, RefreshAnswer, refreshView, Refreshing, index-decided, steps-represents, Request, make, refresh, lentTo, Served, made, refreshed, refreshed-unsound, end, next, Made, MadeOnPending, MadeOnIndex}
 use Rattle.plain_table.specs.Refusing.{Lengths, storesShort, wordsShort, compactChecks}
 use Rattle.plain_table.specs.Plain.{Plain, compacted}
 use Rattle.plain_table.specs.Calls.{Call, staging, merging, compacting, clearing, refusal, done, after, LentCall, afterAll}
 use Rattle.history.specs.Histories.{stages, merges, compacts, clears, refreshes, refreshes-unsound}
-use Rattle.replay.specs.Laws.Requests.{served-steps, served-then}
+use Rattle.replay.specs.Laws.Requests.{served-steps, served-then, lentAll}
+use Rattle.refusals.specs.Refusals.{ifAccepted}
 
 -- no request
 pub none-made : {requests : List Request} (l : Lengths) (s : Stores) (w : CompactionWords) (index : List ℕ) → requests ≡ [] → Made requests l s w index s w index
@@ -52,7 +53,7 @@ made-then {l = l} {s} {t} {u} {w} {w₁} {w₂} a b =
 
 -- a request that is lent no compaction words, and does not write the slots past those needed
 words-unlent : {s t : Stores} {index index′ : List ℕ} {q : Request} {c : Call} (l : Lengths) (w : CompactionWords) → Served l s index q c t index′
-    → ((p : Plain) → Represents p s → SlotsPast (p .opening .capacity) (s .keys) (t .keys)) → Made (q ∷ []) l s w index t w index′
+    → ((p : Plain) → Represents p s → SamePast (2 * p .opening .capacity) (s .keys) (t .keys)) → Made (q ∷ []) l s w index t w index′
 words-unlent {c = c} l w one slots =
     record {
       calls = c ∷ [];
@@ -67,23 +68,23 @@ module _ {h : Header} {pending : List ℕ} {requests : List Request} where
   nothing-staged e = record { made = λ rows keys sorts live base index. none-made _ _ _ _ e }
 
   pub staging-made : {h′ : Header} {pending′ : List ℕ} {q : Staged} {answer : TableAnswer} → requests ≡ make (staging q) ∷ [] → Staging h pending q answer pending′
-      → h′ ≡ headerAfter h (tableView answer) → MadeOnPending requests h pending h′ pending′
+      → h′ ≡ ifAccepted (tableView answer) (λ h. h) h → MadeOnPending requests h pending h′ pending′
   staging-made {h′} {pending′} {q} {answer} e m same =
-      record { made = λ rows keys sorts live base index. rw (e, same) (words-unlent (lengths rows keys sorts pending live base) (compactionWords live base) (made (stages q answer pending′ m)) (λ p r. refl)) }
+      record { made = λ rows keys sorts live base index. rw (e, same) (words-unlent (lengths rows keys sorts pending live base) (compactionWords live base) (made (stages (compactionWords live base) q answer pending′ m)) (λ p r. refl)) }
 
 module _ {h : Header} {rows pending index : List ℕ} {requests : List Request} where
   pub nothing-refreshed : requests ≡ [] → MadeOnIndex requests h rows pending index h pending index
   nothing-refreshed e = record { made = λ keys sorts live base. none-made _ _ _ _ e }
 
   pub refreshing-made : {h′ : Header} {pending′ index′ : List ℕ} {r : Refresh} {answer : RefreshAnswer} → requests ≡ refresh r ∷ [] → Refreshing h rows pending index r answer pending′ index′
-      → h′ ≡ headerRefreshed h (refreshView answer) → MadeOnIndex requests h rows pending index h′ pending′ index′
+      → h′ ≡ ifAccepted (refreshView answer) (λ a. a .header) h → MadeOnIndex requests h rows pending index h′ pending′ index′
   refreshing-made {h′} {pending′} {index′} {r} {answer} e m same =
       record {
         made = λ keys sorts live base.
             let l : Lengths = lengths rows keys sorts pending live base in
             elim (index-decided h rows (r .columns) index) [
-              | inl sound ↦ rw (e, same) (words-unlent l (compactionWords live base) (refreshed r answer pending′ index′ m sound (refreshes r index answer pending′ index′ m sound)) (λ p x. refl))
-              | inr unsound ↦ rw (e, same) (words-unlent l (compactionWords live base) (refreshed-unsound r answer pending′ index′ m unsound (refreshes-unsound r index answer pending′ index′ m unsound)) (λ p x. refl))
+              | inl sound ↦ rw (e, same) (words-unlent l (compactionWords live base) (refreshed r answer pending′ index′ m sound (refreshes (compactionWords live base) r index answer pending′ index′ m sound)) (λ p x. refl))
+              | inr unsound ↦ rw (e, same) (words-unlent l (compactionWords live base) (refreshed-unsound r answer pending′ index′ m unsound (refreshes-unsound (compactionWords live base) r index answer pending′ index′ m unsound)) (λ p x. refl))
             ];
       }
 
@@ -107,7 +108,7 @@ compaction-rises p e = omega arith
 
 module _ {h h′ : Header} {rows keys sorts pending rows′ keys′ sorts′ : List ℕ} (live base index : List ℕ) {requests : List Request} where
   pub merging-made : {live′ base′ : List ℕ} {answer : MergeAnswer} → requests ≡ make merging ∷ [] → Merging (stores h rows keys sorts pending) (compactionWords live base) answer (body rows′ keys′ sorts′) (compactionWords live′ base′)
-      → h′ ≡ headerMerged h (mergeView answer)
+      → h′ ≡ ifAccepted (mergeView answer) (λ m. m .header) h
       → Made requests (lengths rows keys sorts pending live base) (stores h rows keys sorts pending) (compactionWords live base) index (stores h′ rows′ keys′ sorts′ pending) (compactionWords live′ base′) index
   unfolding done
   merging-made {live′} {base′} {answer} e m same =
@@ -125,7 +126,7 @@ module _ {h h′ : Header} {rows keys sorts pending rows′ keys′ sorts′ : L
       })
 
   pub compacting-made : {live′ base′ : List ℕ} {answer : TableAnswer} → requests ≡ make compacting ∷ [] → Compacting h (body rows keys sorts) (compactionWords live base) answer (body rows′ keys′ sorts′) (compactionWords live′ base′)
-      → h′ ≡ headerAfter h (tableView answer)
+      → h′ ≡ ifAccepted (tableView answer) (λ h. h) h
       → Made requests (lengths rows keys sorts pending live base) (stores h rows keys sorts pending) (compactionWords live base) index (stores h′ rows′ keys′ sorts′ pending) (compactionWords live′ base′) index
   unfolding done
   compacting-made {live′} {base′} {answer} e m same =
@@ -148,8 +149,8 @@ module _ {h h′ : Header} {rows keys sorts pending rows′ keys′ sorts′ : L
       })
 
 pub clearing-made : {h h′ : Header} {rows keys sorts pending keys′ : List ℕ} (live base index : List ℕ) {requests : List Request} {answer : TableAnswer} → requests ≡ make clearing ∷ []
-    → Clearing h keys answer keys′ → h′ ≡ headerAfter h (tableView answer)
+    → Clearing h keys answer keys′ → h′ ≡ ifAccepted (tableView answer) (λ h. h) h
     → Made requests (lengths rows keys sorts pending live base) (stores h rows keys sorts pending) (compactionWords live base) index (stores h′ rows keys′ sorts pending) (compactionWords live base) index
 clearing-made {h} {h′} {rows} {keys} {sorts} {pending} {keys′} live base index {requests} {answer} e m same =
     rw (e, same)
-    (words-unlent (lengths rows keys sorts pending live base) (compactionWords live base) (made (clears answer keys′ m)) (λ p r. rw (table-capacity r) at (m .past)))
+    (words-unlent (lengths rows keys sorts pending live base) (compactionWords live base) (made (clears (compactionWords live base) answer keys′ m)) (λ p r. rw (table-capacity r) at (m .past)))

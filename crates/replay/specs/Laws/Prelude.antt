@@ -1,5 +1,5 @@
--- The names that the laws of a list of calls (Theorem, Determined) take from elsewhere, re-exported. It defines nothing of its own.
-pub use Prim.Native.Nat.{_<_, suc, zero, ℕ}
+-- The names that the laws of this crate take from elsewhere, re-exported. It defines nothing of its own.
+pub use Prim.Native.Nat.{_*_, _+_, _<_, suc, zero, ℕ}
 pub use mathlib.Core.Bool.{false, true}
 pub use mathlib.Core.List.{List, [], map}
 pub use mathlib.Core.Logic.{_⊎_, inl, inr}
@@ -20,11 +20,11 @@ pub use Rattle.plain_table.specs.Staged.{Opening}
 pub use Rattle.refresh_spec.specs.Index.{IndexSound, isNew}
 pub use Rattle.refusals.specs.Laws.Determined.{refused-same}
 pub use Rattle.refusals.specs.Laws.Replies.{some-number}
-pub use Rattle.replay.specs.Laws.Requests.{calls-plain, calls-requested, index-past, index-sound, index-unused, served-steps}
-pub use Rattle.replay.specs.Requests.{IndexPast, Request, isRefresh, lentAll, requested}
+pub use Rattle.replay.specs.Laws.Requests.{calls-plain, calls-requested, index-past, index-sound, index-unused, lentAll, requested, served-steps}
+pub use Rattle.replay.specs.Requests.{Request, isRefresh}
 pub use Rattle.replay.specs.inner.Making.{Made}
-pub use Rattle.replay.specs.Replays.{MadeFrom, Replayed, callsLent}
-pub use Rattle.table.specs.Contracts.{Body, CompactionWords, Opened, Represents, SlotsPast, Stores, WordsPast, body, joined, lengths, stores}
+pub use Rattle.replay.specs.Replays.{MadeFrom, Replayed}
+pub use Rattle.table.specs.Contracts.{Body, CompactionWords, Opened, Represents, SamePast, Stores, WordsPast, body, joined, lengths, stores}
 pub use Rattle.table.specs.Laws.Answers.{table-view-injective}
 pub use Rattle.table.specs.Laws.Keeps.{opening-done}
 pub use Rattle.table.specs.Laws.Replies.{accepted-number}

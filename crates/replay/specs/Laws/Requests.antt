@@ -1,12 +1,22 @@
 -- Requests executed one after another: they are steps of a history; their effect on the index store; and that with a new index
 -- store the calls are those requested. Assumes nothing.
-use Rattle.replay.specs.Laws.CallPrelude.{ℕ, _+_, _*_, _-_, _≤_, _≡_, refl, sym, ap, _∙_, inl, inr, true, false, false≢true, List, [], _∷_, _++_, map, append-nil, mul-le-mul-left, arith, length, drop, drop-drop, ltb-false, or-no-left, or-no-right, some-number, Opening, Lengths, Plain, firstRefusal-no, firstRefusal-rest, onward-all, Header, Stores, body, Represents, RefreshAnswer, isNew, IndexSound, number, ownRefresh, OwnIndex, adopted, other-call, refreshes, step-represents, own-indexes-sound, behind-nothing, whole-step}
+use Rattle.replay.specs.Laws.CallPrelude.{ℕ, _+_, _*_, _-_, _≤_, _≡_, refl, sym, ap, _∙_, inl, inr, true, false, false≢true, List, [], _∷_, _++_, map, append-nil, mul-le-mul-left, arith, length, drop, drop-drop, ltb-false, or-no-left, or-no-right, some-number, Opening, Lengths, Plain, firstRefusal-no, firstRefusal-rest, onward-all, Header, Stores, body, Represents, RefreshAnswer, isNew, IndexSound, number, OwnIndex, adopted, other-call, refreshes, step-represents, own-indexes-sound, behind-nothing, whole-step}
 use Rattle.lists.specs.Lists.{any}
 use Rattle.plain_table.specs.Refreshing.{Refresh, refreshChecks}
 use Rattle.plain_table.specs.Calls.{Call, refreshing, afterAll, LentCall}
 use Rattle.refresh_spec.specs.Refreshes.{refreshRefusal, Refreshing}
-use Rattle.history.specs.Histories.{refreshedStores, Called, behind, Steps, end as steps-end, next as steps-next, History}
-use Rattle.replay.specs.Requests.{Request, make, refresh, isRefresh, requested, IndexPast, lentTo, lentAll, Served, made, refreshed, refreshed-unsound, ServedAll, end, next}
+use Rattle.history.specs.Histories.{refreshedStores, Called, behind, Steps, end as steps-end, next as steps-next, History, lentCall}
+use Rattle.replay.specs.Requests.{Request, make, refresh, isRefresh, lentTo, Served, made, refreshed, refreshed-unsound, ServedAll, end, next}
+use Rattle.table.specs.Contracts.{SamePast, compactionWords}
+
+-- the call that a request corresponds to with a sound index store of this length
+unfoldable pub requested : ℕ → Request → Call
+requested index (make c) = c
+requested index (refresh r) = refreshing r index
+
+-- each of the calls with these lengths
+abbrev pub lentAll : Lengths → List Call → List LentCall
+lentAll l calls = map (lentTo l) calls
 
 -- ---- steps of a history
 
@@ -49,7 +59,7 @@ module _ {h : Header} {rows pending index pending′ index′ : List ℕ} {r : R
   unfolding refreshRefusal refreshChecks
   columns-few e = ltb-false _ _ (firstRefusal-no _ 11 _ (firstRefusal-rest _ 1 _ (firstRefusal-rest _ 0 _ e)))
 
-  refreshing-past : IndexPast (h .capacity) index index′
+  refreshing-past : SamePast (16 + 24 * h .capacity) index index′
   refreshing-past =
       elim (some-number (number m)) [
         | inl e ↦
@@ -59,12 +69,12 @@ module _ {h : Header} {rows pending index pending′ index′ : List ℕ} {r : R
       ]
 
 module _ {p : Plain} {s : Stores} (r : Represents p s) where
-  served-past : {l : Lengths} {t : Stores} {index index′ : List ℕ} {q : Request} {c : Call} → Served l s index q c t index′ → IndexPast (p .opening .capacity) index index′
+  served-past : {l : Lengths} {t : Stores} {index index′ : List ℕ} {q : Request} {c : Call} → Served l s index q c t index′ → SamePast (16 + 24 * p .opening .capacity) index index′
   served-past (made call) = refl
   served-past (refreshed q answer pending′ index′ m sound call) = rw (ap (λ (h : Header). h .capacity) (r .shown .header)) at (refreshing-past m)
   served-past (refreshed-unsound q answer pending′ index′ m unsound call) = rw (ap (λ (h : Header). h .capacity) (r .shown .header)) at (refreshing-past m)
 
-pub index-past : {l : Lengths} {p : Plain} {s t : Stores} {index index′ : List ℕ} {qs : List Request} {cs : List Call} → Represents p s → ServedAll l s index qs cs t index′ → IndexPast (p .opening .capacity) index index′
+pub index-past : {l : Lengths} {p : Plain} {s t : Stores} {index index′ : List ℕ} {qs : List Request} {cs : List Call} → Represents p s → ServedAll l s index qs cs t index′ → SamePast (16 + 24 * p .opening .capacity) index index′
 unfolding afterAll
 index-past r (end s index) = refl
 index-past {l} {p} r (next {c = c} one more) =
@@ -83,12 +93,12 @@ KeptSome o generation s index = (calls : List LentCall) × OwnIndex o generation
 module _ {o : Opening} {generation : ℕ} where
   -- a refresh that is lent the whole index store
   refreshed-kept : {calls : List LentCall} {index pending′ index′ : List ℕ} (s : Stores) {r : Refresh} {answer : RefreshAnswer} → OwnIndex o generation calls s index
-      → Refreshing (s .header) (s .rows) (s .pending) index r answer pending′ index′ → OwnIndex o generation (calls ++ (ownRefresh s index r 0 0 ∷ [])) (refreshedStores s answer pending′) index′
+      → Refreshing (s .header) (s .rows) (s .pending) index r answer pending′ index′ → OwnIndex o generation (calls ++ (lentCall (refreshing r (length index)) s (compactionWords [] []) ∷ [])) (refreshedStores s answer pending′) index′
   refreshed-kept {calls} {index} {pending′} {index′} s {r} {answer} kept m =
       go (behind-nothing (refreshedStores s answer pending′)) (append-nil index′)
     where
-      go : {a : Stores} {b : List ℕ} → behind (refreshedStores s answer pending′) (body [] [] []) [] ≡ a → index′ ++ [] ≡ b → OwnIndex o generation (calls ++ (ownRefresh s index r 0 0 ∷ [])) a b
-      go e f = rw (← e, ← f) (refreshes {calls = calls} s (body [] [] []) [] index [] 0 0 r answer pending′ index′ (rw (behind-nothing s, append-nil index) kept) m)
+      go : {a : Stores} {b : List ℕ} → behind (refreshedStores s answer pending′) (body [] [] []) [] ≡ a → index′ ++ [] ≡ b → OwnIndex o generation (calls ++ (lentCall (refreshing r (length index)) s (compactionWords [] []) ∷ [])) a b
+      go e f = rw (← e, ← f) (refreshes {calls = calls} s (body [] [] []) [] index [] (compactionWords [] []) r answer pending′ index′ (rw (behind-nothing s, append-nil index) kept) m)
 
   -- it is sound for a refresh by any columns
   kept-sound : {calls : List LentCall} {s : Stores} {index : List ℕ} → OwnIndex o generation calls s index → (columns : List ℕ) → IndexSound (s .header) (s .rows) columns index

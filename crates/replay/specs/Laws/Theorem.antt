@@ -1,8 +1,12 @@
 -- An opening and the requests after it are a history, so term 3 of the order holds for the resulting stores. Assumes nothing.
-use Rattle.replay.specs.Laws.Prelude.{ℕ, zero, suc, _<_, _≡_, refl, sym, ap, _∙_, _⊎_, inl, inr, true, false, List, [], map, arith, length, any, Opening, openRefusal, Call, LentCall, afterAll, Header, TableAnswer, Refused, Table, headerOf, Stores, Body, body, stores, joined, CompactionWords, lengths, Represents, SlotsPast, Opened, accepted-number, opening-done, isNew, IndexSound, end, History, Claimed, steps-represents, history-whole, term-three, Request, isRefresh, requested, lentAll, Made, served-steps, index-unused, index-past, calls-requested, calls-plain, index-sound, callsLent, MadeFrom, Replayed}
+use Rattle.replay.specs.Laws.Prelude.{ℕ, zero, suc, _*_, _<_, _≡_, refl, sym, ap, _∙_, _⊎_, inl, inr, true, false, List, [], map, arith, length, any, Opening, openRefusal, Call, LentCall, afterAll, Header, TableAnswer, Refused, Table, headerOf, Stores, Body, body, stores, joined, CompactionWords, lengths, Represents, SamePast, Opened, accepted-number, opening-done, isNew, IndexSound, end, History, Claimed, steps-represents, history-whole, term-three, Request, isRefresh, requested, lentAll, Made, served-steps, index-unused, index-past, calls-requested, calls-plain, index-sound, MadeFrom, Replayed}
 use Rattle.refusals.specs.Refusals.{Reply, refused, reply, outcome}
 use Rattle.plain_table.specs.Plain.{opened}
 use Rattle.table.specs.Numbers.{tableView}
+
+-- the calls, each with the lengths of the whole stores
+abbrev pub callsLent : List Call → Body → List ℕ → CompactionWords → List LentCall
+callsLent calls b pending w = lentAll (lengths (b .rows) (b .keys) (b .sorts) pending (w .live) (w .base)) calls
 
 -- ---- the claim
 
@@ -75,7 +79,7 @@ module _ {o : Opening} {generation : ℕ} {b : Body} {pending keys′ : List ℕ
       let shown = opened-represents h e in
       let last : h′ .generation ≡ afterAll (opened o generation) (lentAll (lengths (b .rows) keys′ (b .sorts) pending (w .live) (w .base)) (made .calls)) .generation =
       ap (λ (x : Header). x .generation) (steps-represents shown (served-steps (made .served)) .shown .header) in
-      let past : SlotsPast (o .capacity) keys′ (b′ .keys) = made .slots-past (opened o generation) shown in
+      let past : SamePast (2 * o .capacity) keys′ (b′ .keys) = made .slots-past (opened o generation) shown in
       record {
         refusal = rw none;
         unchanged = λ some. absurd (omega arith);

@@ -7,7 +7,7 @@ use mathlib.Core.List.{List, [], _∷_, _++_}
 use native.Mathlib.Omega.{arith}
 use lib.ListN.{length, take}
 use Rattle.lists.specs.Lists.{any}
-use Rattle.refusals.specs.Refusals.{Reply, accepted, reply}
+use Rattle.refusals.specs.Refusals.{Reply, accepted, reply, ifAccepted}
 use Rattle.offsets.specs.declared.SubsetAnswer.{SubsetAnswer}
 use Rattle.offsets.specs.declared.SubsetAnswer.the-variants.{Refused, Range, List as Ids}
 use Rattle.offsets.specs.Subsets.{Subset, list, retain, narrowed}
@@ -25,8 +25,12 @@ use Rattle.history.specs.Runs.{Query, refineOne, refineList, intersectWith, int
 use Rattle.history.specs.Laws.Narrowing.{or-false}
 use Rattle.history.specs.Laws.Queries.{refinable, refined-fit}
 use Rattle.replay_queries.specs.declared.RunAnswer.{RunAnswer}
-use Rattle.replay_queries.specs.Outcomes.{idsAt, subsetLeft, behind, rangeStep, queried, QueriedAll, end, next}
+use Rattle.replay_queries.specs.Outcomes.{idsAt, subsetLeft, rangeStep, queried, QueriedAll, end, next}
 use Rattle.replay_queries.specs.inner.Executing.{counted, applyAnswer, Executed}
+
+-- the result of queries after others that were accepted
+abbrev pub behind : List Query → Outcome → Outcome
+behind before o = outcome (o .ids) (before ++ o .accepted)
 
 -- ---- the ids left by an answer
 
@@ -39,7 +43,7 @@ swapped false false = refl
 -- an accepted answer refines if its query does; a refused one does not
 left-refined : (l : RunAnswer) (a : Subset) (place : ℕ) (answer : SubsetAnswer) (output : List ℕ) (q : Query)
     → applyAnswer l place (refines q) answer .refined ≡ (l .refined || any refines (byReply a q (subsetView answer output) .accepted ++ []))
-unfolding applyAnswer byReply any
+unfolding applyAnswer byReply ifAccepted any
 left-refined l a place (Refused n) output q = rw (read-refused output n) (sym (or-false (l .refined)))
 left-refined l a place (Range from to) output q = rw (read-range output from to) (swapped (refines q) (l .refined))
 left-refined l a place (Ids n) output q = rw (read-list output n) (swapped (refines q) (l .refined))
@@ -60,7 +64,7 @@ left-fits l place refines (Ids n) room fits held = fits n refl
 left-there : (l : RunAnswer) (a : Subset) (q : Query) (place : ℕ) (refines : Bool) (answer : SubsetAnswer) (output given first second : List ℕ)
     → ((n : ℕ) → idsAt place n given first second ≡ take n output) → subsetLeft l given first second ≡ a
     → subsetLeft (applyAnswer l place refines answer) given first second ≡ byReply a q (subsetView answer output) .ids
-unfolding subsetLeft applyAnswer byReply
+unfolding subsetLeft applyAnswer byReply ifAccepted
 left-there l a q place refines (Refused n) output given first second there e = rw (read-refused output n) e
 left-there l a q place refines (Range from to) output given first second there e = rw (read-range output from to) (dense-is _ _ refl)
 left-there l a q place refines (Ids n) output given first second there e = rw (read-list output n) (sparse-is _ _ refl ∙ ap list (there n))

@@ -3,7 +3,8 @@ use Rattle.replay_queries.specs.Laws.Prelude.{ℕ, _≤_, _≡_, refl, L
 use Rattle.offsets.specs.declared.SubsetHead.{SubsetHead}
 use Rattle.offsets.specs.Subsets.{Subset}
 use Rattle.offsets.specs.Answers.{subsetOf}
-use Rattle.replay_queries.specs.Outcomes.{idsAt, subsetLeft, behind, QueriedAll, end, next}
+use Rattle.replay_queries.specs.Outcomes.{idsAt, subsetLeft, QueriedAll, end, next}
+use Rattle.replay_queries.specs.Laws.Executing.{behind}
 
 -- ---- one query
 

@@ -57,8 +57,8 @@ pub sequence-determined : {refusal : ℕ} {found : Option (List ℕ)} {output ou
     → SequenceAnswered refusal found output a output₁ → SequenceAnswered refusal found output b output₂ → Same a b output₁ output₂
 sequence-determined {refusal} {a = a} {b = b} x y =
     record {
-      answer = sym (sequence-view-inverse a) ∙ ap sequenceIn (x .answers ∙ sym (y .answers)) ∙ sequence-view-inverse b;
+      answer = sym (sequence-view-inverse a) ∙ ap sequenceIn (x .effect .answers ∙ sym (y .effect .answers)) ∙ sequence-view-inverse b;
       cells =
-          ⊎-elim (λ none. x .written none ∙ sym (y .written none)) (λ some. x .unchanged some ∙ sym (y .unchanged some))
+          ⊎-elim (λ none. x .effect .written none ∙ sym (y .effect .written none)) (λ some. x .effect .unchanged some ∙ sym (y .effect .unchanged some))
           (some-number refusal);
     }

@@ -2,7 +2,7 @@
 use Rattle.short_histories.specs.Laws.Prelude.{ℕ, suc, _+_, _≤_, _<_, _≡_, refl, sym, true, false, List, none, some, arith, length, lt-ltb, le-ltb, lt-leb, le-leb, splice, splice-nil, SequenceAnswer, Refused, None, Written}
 use Rattle.refusals.specs.Refusals.{firstRefusal, reply}
 use Rattle.short_histories.specs.declared.PositionAnswer.the-variants.{Refused as PositionRefused, Position}
-use Rattle.short_histories.specs.Sequences.{shortHistories, positionOf, sequenceAt, nextAfter, known, positionRefusal, sequenceRefusal, stepsOf, nextRefusal, positionView, sequenceView, PositionAnswered, SequenceFound, NextFound}
+use Rattle.short_histories.specs.Sequences.{shortHistories, positionOf, sequenceAt, nextAfter, known, positionRefusal, sequenceRefusal, nextRefusal, positionView, sequenceView, PositionAnswered, SequenceFound, NextFound}
 use Rattle.short_histories.specs.Laws.Positions.{short-histories-counted}
 
 -- ---- the position of a sequence
@@ -34,26 +34,26 @@ module _ (position : ℕ) (output : List ℕ) where
   pub sequence-past-last : 137257 ≤ position → SequenceFound position output (Refused 16) output
   unfolding sequenceView reply
   sequence-past-last h =
-      rw (past-last h) (record { answers = refl; written = λ e. absurd (omega arith); unchanged = λ k. refl })
+      rw (past-last h) (record { effect = record { answers = refl; unchanged = λ k. refl; written = λ e. absurd (omega arith) } })
 
   pub sequence-no-room : position < 137257 → (steps : ℕ) → steps ≡ length (sequenceAt position) → length output < steps
       → SequenceFound position output (Refused 2) output
   unfolding sequenceView reply
   sequence-no-room h steps e k =
-      rw (no-room h (rw (← e) k)) (record { answers = refl; written = λ e. absurd (omega arith); unchanged = λ l. refl })
+      rw (no-room h (rw (← e) k)) (record { effect = record { answers = refl; unchanged = λ l. refl; written = λ e. absurd (omega arith) } })
 
   pub sequence-written : position < 137257 → (steps : ℕ) → steps ≡ length (sequenceAt position) → steps ≤ length output → (output′ : List ℕ)
       → output′ ≡ splice output 0 (sequenceAt position) → SequenceFound position output (Written steps) output′
-  unfolding sequenceView reply stepsOf
+  unfolding sequenceView reply
   sequence-written h steps e k output′ w =
-      rw (fits h (rw (← e) k), e, w) (record { answers = refl; written = λ z. refl; unchanged = λ l. absurd (omega arith) })
+      rw (fits h (rw (← e) k), e, w) (record { effect = record { answers = refl; unchanged = λ l. absurd (omega arith); written = λ z. refl } })
 
 -- ---- the next sequence
 
 module _ (sequence output : List ℕ) where
   pub next-unknown : known sequence ≡ false → NextFound sequence output (Refused 15) output
   unfolding sequenceView reply nextRefusal firstRefusal
-  next-unknown e = rw e (record { answers = refl; written = λ z. absurd (omega arith); unchanged = λ l. refl })
+  next-unknown e = rw e (record { effect = record { answers = refl; unchanged = λ l. refl; written = λ z. absurd (omega arith) } })
 
   last : 137257 ≤ suc (positionOf sequence) → nextAfter sequence ≡ none
   unfolding nextAfter
@@ -61,11 +61,10 @@ module _ (sequence output : List ℕ) where
 
   pub next-none : known sequence ≡ true → (position : ℕ) → position ≡ positionOf sequence → 137257 ≤ position + 1
       → NextFound sequence output None output
-  unfolding sequenceView reply nextRefusal firstRefusal stepsOf
+  unfolding sequenceView reply nextRefusal firstRefusal
   next-none e position p h =
-      let room : length (stepsOf none) ≤ length output = omega arith in
-      rw (e, last (omega arith), le-ltb (length output) (length (stepsOf none)) room)
-      (record { answers = refl; written = λ z. sym (splice-nil output 0); unchanged = λ l. absurd (omega arith) })
+      rw (e, last (omega arith), le-ltb (length output) 0 (omega arith))
+      (record { effect = record { answers = refl; unchanged = λ l. absurd (omega arith); written = λ z. sym (splice-nil output 0) } })
 
   further : suc (positionOf sequence) < 137257 → nextAfter sequence ≡ some (sequenceAt (suc (positionOf sequence)))
   unfolding nextAfter
@@ -74,7 +73,7 @@ module _ (sequence output : List ℕ) where
   -- if the first test passes, it is the sequence at the next position
   next-is : known sequence ≡ true → suc (positionOf sequence) < 137257
       → nextRefusal sequence (length output) ≡ sequenceRefusal (suc (positionOf sequence)) (length output)
-  unfolding nextRefusal sequenceRefusal firstRefusal stepsOf
+  unfolding nextRefusal sequenceRefusal firstRefusal
   next-is e h = rw (e, further h, lt-leb (length shortHistories) (suc (positionOf sequence)) (let q = short-histories-counted in omega arith))
 
   pub next-written : known sequence ≡ true → (position : ℕ) → position ≡ positionOf sequence → position + 1 < 137257

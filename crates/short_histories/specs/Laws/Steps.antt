@@ -5,7 +5,12 @@ use Rattle.refusals.specs.Refusals.{firstRefusal, reply}
 use Rattle.plain_table.specs.Staged.{Opening, openable, wordsOf}
 use Rattle.plain_table.specs.Refusing.{wrongWidth, noSuchRow, overfull, stageChecks}
 use Rattle.short_histories.specs.declared.StepAnswer.the-variants.{Refused, Insert, Remove, Merge}
-use Rattle.short_histories.specs.Sequences.{shortOpening, thirdCell, inserting, removing, steps, stepCall, stepRefusal, stepView, StepAnswered}
+use Rattle.short_histories.specs.Sequences.{thirdCell, inserting, removing, steps, stepRefusal, stepView, StepAnswered}
+
+-- "three columns, one key, sort column 1, capacity 6"; "all four rules": the tables that the steps are for. The comparison opens
+-- them in this way; no contract mentions one
+unfoldable pub shortOpening : ℕ → Opening
+shortOpening rule = record { columns = 3; keys = 1; sort = 1; rule = rule; capacity = 6 }
 
 -- the table can be opened, under each of the four rules
 pub short-openable : (rule : ℕ) → rule ≤ 3 → openable (shortOpening rule) ≡ true
@@ -27,7 +32,7 @@ steps-fit rule = refl
 
 -- step, key, stamp, third cell
 pub steps-answered : StepAnswered 0 (Insert 0 0 0) × StepAnswered 1 (Insert 0 1 1) × StepAnswered 2 (Insert 1 0 1) × StepAnswered 3 (Insert 1 1 0) × StepAnswered 4 (Remove 0) × StepAnswered 5 (Remove 1) × StepAnswered 6 Merge
-unfolding stepView reply stepRefusal firstRefusal stepCall steps inserting removing thirdCell
+unfolding stepView reply stepRefusal firstRefusal steps inserting removing thirdCell
 steps-answered = (refl, refl, refl, refl, refl, refl, refl)
 
 pub answered-at : (k step : ℕ) (answer : StepAnswer) → StepAnswered k answer → step ≡ k → StepAnswered step answer

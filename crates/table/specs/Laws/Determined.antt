@@ -3,7 +3,7 @@
 -- key store's slots below 2 × capacity; after an opening or a clear, those of them that are not in use; after a compaction, the
 -- compaction words needed; and, if the stores represent no table, everything but the refusal and what is never written. Assumes
 -- nothing.
-use Rattle.table.specs.Laws.Prelude.{ℕ, _*_, _<_, _≡_, refl, sym, ap, ap₂, _∙_, ⊎-elim, true, false, List, [], arith, length, take, length-take, length-replicate, getD-replicate, ext-getD, getD-take, some-number, Same, SameAnswer, refused-same, answer-same, Constraint, entriesOf, entriesSound, sizeClassFor, KeysSound, zeros, empty-free, sizeClass-most, Opening, Staged, openRefusal, Header, TableAnswer, MergeAnswer, RowAnswer, CellAnswer, RangeAnswer, VersionAnswer, SoundAnswer, stageRefusal, mergeRefusal, compactRefusal, clearRefusal, lookupRefusal, cellRefusal, fastRefusal, indexShapeOf, KeysDiffer, stores, lengths, Represents, SlotsPast, PastNeeded, Opened, Staging, Merging, Compacting, Clearing, LookedUp, CellRead, RangeRead, VersionRead, RowsSince, RowsSinceVersion, Checked, Body, bodyOf, joined, CompactionWords, lengthsLent, Stores}
+use Rattle.table.specs.Laws.Prelude.{ℕ, _*_, _<_, _≡_, refl, sym, ap, ap₂, _∙_, ⊎-elim, true, false, List, [], arith, length, take, length-take, length-replicate, getD-replicate, ext-getD, getD-take, some-number, Same, SameAnswer, refused-same, answer-same, Constraint, entriesOf, entriesSound, sizeClassFor, KeysSound, zeros, empty-free, sizeClass-most, Opening, Staged, openRefusal, Header, TableAnswer, MergeAnswer, RowAnswer, CellAnswer, RangeAnswer, VersionAnswer, SoundAnswer, stageRefusal, mergeRefusal, compactRefusal, clearRefusal, lookupRefusal, cellRefusal, fastRefusal, indexShapeOf, KeysDiffer, stores, lengths, Represents, SamePast, Opened, Staging, Merging, Compacting, Clearing, LookedUp, CellRead, RangeRead, VersionRead, RowsSince, RowsSinceVersion, Checked, Body, bodyOf, joined, CompactionWords, lengthsLent, Stores}
 use Rattle.refusals.specs.Refusals.{outcome}
 use Rattle.plain_table.specs.Plain.{Plain, opened, merged, cleared}
 use Rattle.table.specs.declared.SoundAnswer.the-variants.{Refused, Sound}
@@ -11,6 +11,7 @@ use Rattle.table.specs.Numbers.{tableView, mergeView, rowView, cellView,
 use Rattle.table.specs.Laws.Shown.{represents-long, rows-counted}
 use Rattle.table.specs.Laws.Opening.{cleared-rows, cleared-opening}
 use Rattle.table.specs.Laws.Answers.{table-view-injective, merge-view-injective, row-view-injective, cell-view-injective, range-view-injective, version-view-injective}
+use Rattle.table.specs.Contracts.{WordsPast}
 
 -- ---- *Open*
 
@@ -33,7 +34,7 @@ empty-keys p h rows keys sorts pending none r =
 module _ (o : Opening) (generation : ℕ) (s : Body) (pending : List ℕ) (a : TableAnswer) (keys₁ : List ℕ) (b : TableAnswer) (keys₂ : List ℕ) where
   pub record SameOpening : Type 0 where
     pub refused : 0 < openRefusal o (lengths (s .rows) (s .keys) (s .sorts) pending [] []) → Same a b keys₁ keys₂
-    pub slots-past : SlotsPast (o .capacity) keys₁ keys₂
+    pub slots-past : SamePast (2 * o .capacity) keys₁ keys₂
     -- equal but for the choice
     pub table : Same a b (slotsUsed (o .capacity) keys₁) (slotsUsed (o .capacity) keys₂)
 
@@ -98,8 +99,8 @@ module _ (s : Stores) (w : CompactionWords) (x y : CallResult MergeAnswer) where
     pub outcomes : outcome (mergeView (x .answer)) ≡ outcome (mergeView (y .answer))
     pub refused : 0 < mergeRefusal (s .header) (lengthsLent s w) → x ≡ y
     -- equal in what is never written
-    pub slots-past : SlotsPast (s .header .capacity) (x .body .keys) (y .body .keys)
-    pub words-past : PastNeeded (s .header .capacity) (x .words .live) (y .words .live) × PastNeeded (s .header .capacity) (x .words .base) (y .words .base)
+    pub slots-past : SamePast (2 * s .header .capacity) (x .body .keys) (y .body .keys)
+    pub words-past : WordsPast (s .header .capacity) (x .words) (y .words)
     -- on a table: equal but for the choices
     pub table : (p : Plain) → Represents p s → SameTable x y
     -- equal compaction words, if nothing is compacted
@@ -135,8 +136,8 @@ module _ (h : Header) (b : Body) (w : CompactionWords) (x y : CallResult TableAn
     pub outcomes : outcome (tableView (x .answer)) ≡ outcome (tableView (y .answer))
     pub refused : 0 < compactRefusal h (lengthsLent (joined h b []) w) → x ≡ y
     -- equal in what is never written
-    pub slots-past : SlotsPast (h .capacity) (x .body .keys) (y .body .keys)
-    pub words-past : PastNeeded (h .capacity) (x .words .live) (y .words .live) × PastNeeded (h .capacity) (x .words .base) (y .words .base)
+    pub slots-past : SamePast (2 * h .capacity) (x .body .keys) (y .body .keys)
+    pub words-past : WordsPast (h .capacity) (x .words) (y .words)
     -- on a table: equal but for the choices
     pub table : (pending : List ℕ) (p : Plain) → Represents p (joined h b pending) → SameTable x y
 
@@ -167,7 +168,7 @@ module _ (h : Header) (keys : List ℕ) (a : TableAnswer) (keys₁ : List ℕ) (
     pub outcomes : outcome (tableView a) ≡ outcome (tableView b)
     pub refused : 0 < clearRefusal h (length keys) → Same a b keys₁ keys₂
     -- equal in what is never written
-    pub slots-past : SlotsPast (h .capacity) keys₁ keys₂
+    pub slots-past : SamePast (2 * h .capacity) keys₁ keys₂
     -- on a table: equal but for the choice
     pub table : (rows sorts pending : List ℕ) (p : Plain) → Represents p (stores h rows keys sorts pending) → Same a b (slotsUsed (h .capacity) keys₁) (slotsUsed (h .capacity) keys₂)
 

@@ -2,28 +2,29 @@
 -- call, from its contract alone, for accepted, refused and stopped calls. Before them come laws about the plain table after each
 -- call. Assumes nothing.
 use Rattle.table.specs.Laws.Prelude.{ℕ, _≤_, _<_, _≡_, sym, ap, _∙_, ⊎-elim, Option·map, List, [], length, getD, Reply, refused, accepted, some-number, ruled-refused, Constraint, Opening, Staged, Plain, lookup, opened, stage, merged, compacted, cleared, openRefusal, Header, Merge, TableAnswer, MergeAnswer, RowAnswer, CellAnswer, RangeAnswer, tableView, mergeView, rowView, cellView, rangeView, stageRefusal, mergeRefusal, compactRefusal, clearRefusal, lookupRefusal, cellRefusal, fastRefusal, headerOf, Sound}
-use Rattle.table.specs.Contracts.{Stores, stores, lengths, Represents, headerAfter, headerMerged, Opened, Staging, Merging, Compacting, Clearing, ofRows, LookedUp, CellRead, fastSubset, RangeRead, Body, body, bodyOf, joined, CompactionWords, lengthsLent}
+use Rattle.table.specs.Contracts.{Stores, stores, lengths, Represents, Opened, Staging, Merging, Compacting, Clearing, ofRows, LookedUp, CellRead, fastSubset, RangeRead, Body, body, bodyOf, joined, CompactionWords, lengthsLent}
 use Rattle.table.specs.Laws.Replies.{reply-refused, reply-accepted, accepted-number, accepted-same}
 use Rattle.table.specs.Laws.Staging.{staging-represents}
 use Rattle.table.specs.Laws.Sound.{represents-sound, sound-represents}
+use Rattle.refusals.specs.Refusals.{ifAccepted}
 
 -- ---- the plain table that the stores show after each call
 
 -- the header after a refused call, and after an accepted one
-pub after-refused : (h : Header) (r : Reply Header) (n : ℕ) → r ≡ refused n → headerAfter h r ≡ h
-unfolding headerAfter
+pub after-refused : (h : Header) (r : Reply Header) (n : ℕ) → r ≡ refused n → ifAccepted r (λ h. h) h ≡ h
+unfolding ifAccepted
 after-refused h r n e = rw e
 
-pub after-accepted : (h : Header) (r : Reply Header) (h′ : Header) → r ≡ accepted h′ → headerAfter h r ≡ h′
-unfolding headerAfter
+pub after-accepted : (h : Header) (r : Reply Header) (h′ : Header) → r ≡ accepted h′ → ifAccepted r (λ h. h) h ≡ h′
+unfolding ifAccepted
 after-accepted h r h′ e = rw e
 
-merged-refused : (h : Header) (r : Reply Merge) (n : ℕ) → r ≡ refused n → headerMerged h r ≡ h
-unfolding headerMerged
+merged-refused : (h : Header) (r : Reply Merge) (n : ℕ) → r ≡ refused n → ifAccepted r (λ m. m .header) h ≡ h
+unfolding ifAccepted
 merged-refused h r n e = rw e
 
-merged-accepted : (h : Header) (r : Reply Merge) (m : Merge) → r ≡ accepted m → headerMerged h r ≡ m .header
-unfolding headerMerged
+merged-accepted : (h : Header) (r : Reply Merge) (m : Merge) → r ≡ accepted m → ifAccepted r (λ m. m .header) h ≡ m .header
+unfolding ifAccepted
 merged-accepted h r m e = rw e
 
 -- *Open*
@@ -36,41 +37,41 @@ opening-done {o} {generation} m h e =
 -- *Stage*
 module _ {h : Header} {rows keys sorts pending pending′ : List ℕ} {q : Staged} {answer : TableAnswer} (m : Staging h pending q answer pending′) where
   pub staging-done : {p : Plain} → stageRefusal h (length pending) q ≡ 0 → Represents p (stores h rows keys sorts pending)
-      → Represents (stage p q) (stores (headerAfter h (tableView answer)) rows keys sorts pending′)
+      → Represents (stage p q) (stores (ifAccepted (tableView answer) (λ h. h) h) rows keys sorts pending′)
   staging-done e r =
       rw (after-accepted h (tableView answer) _ (m .answers ∙ reply-accepted (stageRefusal h (length pending) q) _ e)) (staging-represents q pending′ r e (m .written e))
 
-  pub staging-refused : 0 < stageRefusal h (length pending) q → stores (headerAfter h (tableView answer)) rows keys sorts pending′ ≡ stores h rows keys sorts pending
+  pub staging-refused : 0 < stageRefusal h (length pending) q → stores (ifAccepted (tableView answer) (λ h. h) h) rows keys sorts pending′ ≡ stores h rows keys sorts pending
   staging-refused some =
       rw (after-refused h (tableView answer) (stageRefusal h (length pending) q) (m .answers ∙ reply-refused (stageRefusal h (length pending) q) _ some), m .unchanged some)
 
 -- *Merge*, stopped or not
 module _ {s : Stores} {w w′ : CompactionWords} {b′ : Body} {answer : MergeAnswer} (m : Merging s w answer b′ w′) where
   pub merging-done : {p : Plain} → mergeRefusal (s .header) (lengthsLent s w) ≡ 0 → Represents p s
-      → Represents (merged p .table) (joined (headerMerged (s .header) (mergeView answer)) b′ (s .pending))
+      → Represents (merged p .table) (joined (ifAccepted (mergeView answer) (λ m. m .header) (s .header)) b′ (s .pending))
   merging-done {p} e r = let t = m .table e p r in rw (merged-accepted (s .header) (mergeView answer) _ (t .answers)) (t .represents)
 
-  pub merging-refused : 0 < mergeRefusal (s .header) (lengthsLent s w) → joined (headerMerged (s .header) (mergeView answer)) b′ (s .pending) ≡ s
+  pub merging-refused : 0 < mergeRefusal (s .header) (lengthsLent s w) → joined (ifAccepted (mergeView answer) (λ m. m .header) (s .header)) b′ (s .pending) ≡ s
   merging-refused some =
       rw (merged-refused (s .header) (mergeView answer) _ (ruled-refused (mergeView answer) _ (m .refusal) some), m .unchanged some .0)
 
 -- *Compact*
 module _ {h : Header} {b b′ : Body} {w w′ : CompactionWords} {pending : List ℕ} {answer : TableAnswer} (m : Compacting h b w answer b′ w′) where
   pub compacting-done : {p : Plain} → compactRefusal h (lengthsLent (joined h b []) w) ≡ 0 → Represents p (joined h b pending)
-      → Represents (compacted p) (joined (headerAfter h (tableView answer)) b′ pending)
+      → Represents (compacted p) (joined (ifAccepted (tableView answer) (λ h. h) h) b′ pending)
   compacting-done {p} e r = let t = m .table e pending p r in rw (after-accepted h (tableView answer) _ (t .answers)) (t .represents)
 
-  pub compacting-refused : 0 < compactRefusal h (lengthsLent (joined h b []) w) → joined (headerAfter h (tableView answer)) b′ pending ≡ joined h b pending
+  pub compacting-refused : 0 < compactRefusal h (lengthsLent (joined h b []) w) → joined (ifAccepted (tableView answer) (λ h. h) h) b′ pending ≡ joined h b pending
   compacting-refused some =
       rw (after-refused h (tableView answer) _ (ruled-refused (tableView answer) _ (m .refusal) some), m .unchanged some .0)
 
 -- *Clear*
 module _ {h : Header} {rows keys keys′ sorts pending : List ℕ} {answer : TableAnswer} (m : Clearing h keys answer keys′) where
   pub clearing-done : {p : Plain} → clearRefusal h (length keys) ≡ 0 → Represents p (stores h rows keys sorts pending)
-      → Represents (cleared p) (stores (headerAfter h (tableView answer)) rows keys′ sorts pending)
+      → Represents (cleared p) (stores (ifAccepted (tableView answer) (λ h. h) h) rows keys′ sorts pending)
   clearing-done {p} e r = let t = m .table e rows sorts pending p r in rw (after-accepted h (tableView answer) _ (t .answers)) (t .represents)
 
-  pub clearing-refused : 0 < clearRefusal h (length keys) → stores (headerAfter h (tableView answer)) rows keys′ sorts pending ≡ stores h rows keys sorts pending
+  pub clearing-refused : 0 < clearRefusal h (length keys) → stores (ifAccepted (tableView answer) (λ h. h) h) rows keys′ sorts pending ≡ stores h rows keys sorts pending
   clearing-refused some =
       rw (after-refused h (tableView answer) _ (ruled-refused (tableView answer) _ (m .refusal) some), m .unchanged some)
 
@@ -105,7 +106,7 @@ pub opening-makes : {o : Opening} {generation : ℕ} {b : Body} {pending keys′
 opening-makes m h e = sound-table (opening-done m h e)
 
 pub opening-keeps : {o : Opening} {generation : ℕ} {b : Body} {pending keys′ : List ℕ} {answer : TableAnswer} → Opened o generation b pending answer keys′
-    → (h : Header) → SoundTable (joined h b pending) → SoundTable (stores (headerAfter h (tableView answer)) (b .rows) keys′ (b .sorts) pending)
+    → (h : Header) → SoundTable (joined h b pending) → SoundTable (stores (ifAccepted (tableView answer) (λ h. h) h) (b .rows) keys′ (b .sorts) pending)
 opening-keeps {o} {generation} {b} {pending} {keys′} {answer} m h t =
     let n : ℕ = openRefusal o (lengths (b .rows) (b .keys) (b .sorts) pending [] []) in
     kept n
@@ -115,25 +116,25 @@ opening-keeps {o} {generation} {b} {pending} {keys′} {answer} m h t =
 
 -- *Stage insert, removal by key, removal by row*
 pub staging-keeps : {s : Stores} {q : Staged} {answer : TableAnswer} {pending′ : List ℕ} → Staging (s .header) (s .pending) q answer pending′
-    → SoundTable s → SoundTable (joined (headerAfter (s .header) (tableView answer)) (bodyOf s) pending′)
+    → SoundTable s → SoundTable (joined (ifAccepted (tableView answer) (λ h. h) (s .header)) (bodyOf s) pending′)
 staging-keeps {s} {q} m =
     kept (stageRefusal (s .header) (length (s .pending)) q) (λ some. staging-refused m some) (λ none p r. sound-table (staging-done m none r))
 
 -- *Merge*, stopped or not
 pub merging-keeps : {s : Stores} {w w′ : CompactionWords} {answer : MergeAnswer} {b′ : Body} → Merging s w answer b′ w′
-    → SoundTable s → SoundTable (joined (headerMerged (s .header) (mergeView answer)) b′ (s .pending))
+    → SoundTable s → SoundTable (joined (ifAccepted (mergeView answer) (λ m. m .header) (s .header)) b′ (s .pending))
 merging-keeps {s} {w} m =
     kept (mergeRefusal (s .header) (lengthsLent s w)) (λ some. merging-refused m some) (λ none p r. sound-table (merging-done m none r))
 
 -- *Compact*
 pub compacting-keeps : {s : Stores} {w w′ : CompactionWords} {answer : TableAnswer} {b′ : Body} → Compacting (s .header) (bodyOf s) w answer b′ w′
-    → SoundTable s → SoundTable (joined (headerAfter (s .header) (tableView answer)) b′ (s .pending))
+    → SoundTable s → SoundTable (joined (ifAccepted (tableView answer) (λ h. h) (s .header)) b′ (s .pending))
 compacting-keeps {s} {w} m =
     kept (compactRefusal (s .header) (lengthsLent (joined (s .header) (bodyOf s) []) w)) (λ some. compacting-refused m some) (λ none p r. sound-table (compacting-done m none r))
 
 -- *Clear*
 pub clearing-keeps : {s : Stores} {answer : TableAnswer} {keys′ : List ℕ} → Clearing (s .header) (s .keys) answer keys′
-    → SoundTable s → SoundTable (joined (headerAfter (s .header) (tableView answer)) (body (s .rows) keys′ (s .sorts)) (s .pending))
+    → SoundTable s → SoundTable (joined (ifAccepted (tableView answer) (λ h. h) (s .header)) (body (s .rows) keys′ (s .sorts)) (s .pending))
 clearing-keeps {s} m =
     kept (clearRefusal (s .header) (length (s .keys))) (λ some. clearing-refused m some) (λ none p r. sound-table (clearing-done m none r))
 

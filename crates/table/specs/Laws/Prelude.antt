@@ -44,7 +44,7 @@ pub use Rattle.sort_entries.specs.Laws.Sound.{sound-climb}
 pub use Rattle.sort_entries.specs.Laws.Stores.{entriesOf-same, length-entriesOf}
 pub use Rattle.sort_entries.specs.Laws.Tests.{rebuilt-all, valueAt-all}
 pub use Rattle.sort_entries.specs.Laws.Values.{rebuilt-same, valueAt-climbs}
-pub use Rattle.table.specs.Contracts.{Body, CellRead, Checked, Clearing, Compacting, CompactionWords, LookedUp, Merging, Opened, PastNeeded, RangeRead, Represents, RowsSince, RowsSinceVersion, SlotsPast, Staging, Stores, VersionRead, body, bodyOf, joined, lengths, lengthsLent, ofRows, stores, withPending}
+pub use Rattle.table.specs.Contracts.{Body, CellRead, Checked, Clearing, Compacting, CompactionWords, LookedUp, Merging, Opened, SamePast, RangeRead, Represents, RowsSince, RowsSinceVersion, Staging, Stores, VersionRead, body, bodyOf, joined, lengths, lengthsLent, ofRows, stores, withPending}
 pub use Rattle.table.specs.Numbers.{cellView, mergeView, openingOf, rangeView, rowView, tableView}
 pub use Rattle.table.specs.Refusing.{cellRefusal, clearRefusal, compactRefusal, fastRefusal, lookupRefusal, mergeRefusal, stageRefusal}
 pub use Rattle.table.specs.Sound.{KeysDiffer, Sound, indexShapeOf}

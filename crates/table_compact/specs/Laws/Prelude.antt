@@ -32,7 +32,7 @@ pub use Rattle.sort_entries.specs.Laws.Push.{lastPasses, push, push-new, push-s
 pub use Rattle.sort_entries.specs.Laws.Rebuilt.{rebuilt-few}
 pub use Rattle.sort_entries.specs.Laws.Stores.{entriesOf-put, length-words, words-entriesOf, words-snoc}
 pub use Rattle.sort_entries.specs.inner.Append.{Append}
-pub use Rattle.table.specs.Contracts.{Represents, SlotsPast, lengths, stores}
+pub use Rattle.table.specs.Contracts.{Represents, SamePast, lengths, stores}
 pub use Rattle.table.specs.Laws.Refusals.{full-shape-fits}
 pub use Rattle.table.specs.Laws.Shown.{entries-few, represents-long, row-shown, rows-counted, rows-in, rows-stored, stored-rows, stores-long}
 pub use Rattle.table.specs.Laws.Stored.{stored-live}

@@ -16,7 +16,7 @@ use Rattle.table.specs.declared.Header.{Header}
 use Rattle.table_compact.specs.declared.KeptCounts.{KeptCounts}
 use Rattle.table.specs.Sound.{indexShapeOf}
 use Rattle.table.specs.inner.FullIndexShape.{fullIndexShapeOf}
-use Rattle.table.specs.Contracts.{PastNeeded}
+use Rattle.table.specs.Contracts.{SamePast}
 
 -- the live rows among the first n rows of a store, in order
 unfoldable pub liveStored : ℕ → ℕ → List ℕ → List (List ℕ)
@@ -93,7 +93,7 @@ pub record Closed (h : Header) (rows sorts live base : List ℕ) (kept : KeptCou
   pub entries-counted : kept .entries ≡ length (entriesFor (h .sort) (closedRows h rows))
   pub sorts-after : sorts′ ≡ splice sorts 0 (entryWords (entriesFor (h .sort) (closedRows h rows)))
   pub numbered : (i : ℕ) → LiveAt (indexShapeOf h) rows i → newRow live′ base′ i ≡ liveBelow (indexShapeOf h) rows i
-  pub words-past : PastNeeded (h .capacity) live live′ × PastNeeded (h .capacity) base base′
+  pub words-past : SamePast ((h .capacity + 63) / 64) live live′ × SamePast ((h .capacity + 63) / 64) base base′
 
 -- the header after the compaction
 abbrev pub closedHeader : Header → KeptCounts → Header

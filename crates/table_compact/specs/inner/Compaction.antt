@@ -15,7 +15,7 @@ use Rattle.table.specs.declared.Header.{Header}
 use Rattle.table.specs.Stores.{headerOf, rowStore, sortStore}
 use Rattle.table.specs.Sound.{indexShapeOf}
 use Rattle.table.specs.inner.FullIndexShape.{fullIndexShapeOf}
-use Rattle.table.specs.Contracts.{stores, Represents, SlotsPast, PastNeeded}
+use Rattle.table.specs.Contracts.{stores, Represents, SamePast}
 
 -- numbers within their bounds, and stores and compaction words that are long enough
 pub record Lendable (h : Header) (rows keys sorts live base : List ℕ) : Type 0 where
@@ -42,7 +42,7 @@ pub record ClosedUp (h : Header) (rows keys sorts : List ℕ) (h′ : Header) (r
   pub represents : Represents (compacted p) (stores h′ rows′ keys′ sorts′ pending)
 
 pub record Compaction (h : Header) (rows keys sorts live base : List ℕ) (h′ : Header) (rows′ keys′ sorts′ live′ base′ : List ℕ) : Type 0 where
-  pub past : SlotsPast (h .capacity) keys keys′
-  pub words-past : PastNeeded (h .capacity) live live′ × PastNeeded (h .capacity) base base′
+  pub past : SamePast (2 * h .capacity) keys keys′
+  pub words-past : SamePast ((h .capacity + 63) / 64) live live′ × SamePast ((h .capacity + 63) / 64) base base′
   pub table : (pending : List ℕ) (p : Plain) → Represents p (stores h rows keys sorts pending)
       → ClosedUp h rows keys sorts h′ rows′ keys′ sorts′ pending p

@@ -14,8 +14,8 @@ pub rearranged-determined : {order : ℕ → List ℕ → List ℕ} {width : ℕ
     → Rearranged order width cells output a output₁ → Rearranged order width cells output b output₂ → Same a b output₁ output₂
 rearranged-determined {width = width} {cells} {output} {a = a} {b = b} x y =
     record {
-      answer = columns-view-injective a b (x .answers ∙ sym (y .answers));
+      answer = columns-view-injective a b (x .effect .answers ∙ sym (y .effect .answers));
       cells =
-          ⊎-elim (λ none. x .written none ∙ sym (y .written none)) (λ some. x .unchanged some ∙ sym (y .unchanged some))
+          ⊎-elim (λ none. x .effect .written none ∙ sym (y .effect .written none)) (λ some. x .effect .unchanged some ∙ sym (y .effect .unchanged some))
           (some-number (columnsRefusal width (length cells) (length output)));
     }

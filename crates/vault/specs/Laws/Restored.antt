@@ -1,8 +1,9 @@
 -- "Applying either after the other restores the cells", for two calls: one accepted, then the other on what it wrote.
 -- Assumes nothing.
 use Rattle.vault.specs.Laws.Prelude.{ℕ, zero, suc, _+_, _%_, _≤_, _<_, _≡_, refl, ap, _∙_, List, [], _∷_, decLt, arith, ltb, length, take, lt-ltb, le-ltb, eq-eqb, part-splice, ColumnsAnswer, Written}
-use Rattle.refusals.specs.Refusals.{check, firstRefusal, reply}
-use Rattle.vault.specs.Columns.{toColumns, fromColumns, columnsRefusal, columnsView, Rearranged, Restored}
+use Rattle.lists.specs.Lists.{splice}
+use Rattle.refusals.specs.Refusals.{check, firstRefusal, reply, Effect}
+use Rattle.vault.specs.Columns.{toColumns, fromColumns, columnsRefusal, columnsView, Rearranged}
 use Rattle.vault.specs.Laws.Differences.{Cells}
 use Rattle.vault.specs.Laws.Inverse.{toColumns-length, fromColumns-length, fromColumns-toColumns, toColumns-fromColumns}
 use Rattle.vault.specs.Laws.Refusals.{Accepted, accepted}
@@ -15,7 +16,7 @@ none-refused (suc n) e = absurd (let z : _≡_ {A = ℕ} 0 1 = cc in omega arith
 
 module _ {order : ℕ → List ℕ → List ℕ} {width : ℕ} {cells output output′ : List ℕ} (x : Rearranged order width cells output Written output′) where
   not-refused : columnsRefusal width (length cells) (length output) ≡ 0
-  not-refused = none-refused _ (x .answers)
+  not-refused = none-refused _ (x .effect .answers)
 
   known : Accepted width (length cells) (length output)
   known = accepted width (length cells) (length output) not-refused
@@ -24,16 +25,12 @@ module _ {order : ℕ → List ℕ → List ℕ} {width : ℕ} {cells output out
   front : length (order width cells) ≡ length cells → take (length cells) output′ ≡ order width cells
   front e =
       let fits : 0 + length (order width cells) ≤ length output = omega (arith, known .room) in
-      rw (← e, x .written not-refused) (part-splice output (order width cells) 0 fits)
+      rw (← e, x .effect .written not-refused) (part-splice output (order width cells) 0 fits)
 
 module _ (cells : List ℕ) (room : ℕ) where
   -- the refusal of the second call: 2 if the output is shorter than the cells, 0 otherwise
   abbrev short : ℕ
   short = firstRefusal (check (ltb room (length cells)) 2 ∷ [])
-
-  short-none : length cells ≤ room → short ≡ 0
-  unfolding firstRefusal
-  short-none long = rw (le-ltb room (length cells) long)
 
   short-some : room < length cells → 0 < short
   unfolding firstRefusal
@@ -43,6 +40,11 @@ module _ (cells : List ℕ) (room : ℕ) where
   short-only : {width output : ℕ} → Accepted width (length cells) output → columnsRefusal width (length cells) room ≡ short
   unfolding columnsRefusal firstRefusal
   short-only {width} k = rw (le-ltb width 1 (k .narrow), le-ltb 8 width (k .wide), eq-eqb (length cells % width) 0 (k .multiple))
+
+-- The second call is refused with no number but 2, and with 2 exactly if its output is shorter than the cells; accepted, it writes the
+-- cells.
+abbrev pub Restored : List ℕ → List ℕ → ColumnsAnswer → List ℕ → Type 0
+Restored cells output answer output′ = Effect (short cells (length output)) (columnsView answer) tt output output′ (splice output 0 cells)
 
 -- one order after the other, if the second is the inverse of the first
 undone : {there back : ℕ → List ℕ → List ℕ} {width : ℕ} {cells output output′ second second′ : List ℕ} {answer : ColumnsAnswer}
@@ -55,9 +57,9 @@ undone {back = back} {width} {cells} {second = second} long e x y =
     let r = ap (back width) w ∙ e in
     let n = ap (λ (l : ℕ). columnsRefusal width l (length second)) m ∙ short-only cells (length second) (known x) in
     record {
-      answers = rw (← n) (y .answers);
-      written = λ room. rw (← r) (y .written (n ∙ short-none cells (length second) room));
-      unchanged = λ less. y .unchanged (rw n (short-some cells (length second) less));
+      answers = rw (← n) (y .effect .answers);
+      unchanged = λ some. y .effect .unchanged (rw n some);
+      written = λ none. rw (← r) (y .effect .written (n ∙ none));
     }
 
 module _ {width : ℕ} {cells output output′ second second′ : List ℕ} {answer : ColumnsAnswer} (f : Cells cells) where
@@ -76,8 +78,8 @@ module _ {width : ℕ} {cells output output′ second second′ : List ℕ} {ans
 -- a second call that is accepted has written the cells
 pub restored-front : {cells second second′ : List ℕ} → Restored cells second Written second′ → take (length cells) second′ ≡ cells
 restored-front {cells} {second} r =
-    let room = room-enough (none-refused _ (r .answers)) in
-    rw (r .written room) (part-splice second cells 0 (omega arith))
+    let none = none-refused _ (r .answers) in
+    rw (r .written none) (part-splice second cells 0 (omega (arith, room-enough none)))
   where
     room-enough : short cells (length second) ≡ 0 → length cells ≤ length second
     room-enough e = elim (decLt (length second) (length cells)) [ yes h ↦ absurd (omega (arith, short-some cells (length second) h)) | no h ↦ omega arith ]
