@@ -16,7 +16,7 @@ pub use Rattle.listing_check.specs.declared.CheckAnswer.{CheckAnswer}
 pub use Rattle.listing_check.specs.declared.CheckScan.{CheckScan}
 pub use Rattle.listing_check.specs.declared.CheckAnswer.the-variants.{Checked, Refused}
 pub use Rattle.constraints.specs.declared.Constraint.{Constraint}
-pub use Rattle.listing_parse.specs.inner.Lines.{Found, LineAt}
+pub use Rattle.listing_parse.specs.inner.Lines.{Found}
 pub use Rattle.table.specs.declared.Header.{Header}
 pub use mathlib.Core.WellFounded.{InvImage·wf}
 pub use Rattle.query_scan.specs.declared.Test.the-variants.{Known, Row}
@@ -35,9 +35,8 @@ pub use Rattle.lists.specs.Laws.Filter.{and-right}
 pub use lib.Dec.{eqb, leb}
 pub use mathlib.Core.Logic.{inl, inr}
 pub use Rattle.constraints.specs.Constraints.{known, meets}
-pub use Rattle.listing_spec.specs.inner.Checking.{listingIn, pieces, textGood}
+pub use Rattle.listing_spec.specs.inner.Checking.{begins, listingIn, pieces, textGood}
 pub use native.Mathlib.Nat.{min-eq-left, min-eq-right, zero-mul}
 pub use Rattle.lists.specs.Laws.Rows.{rowAt-zero}
 pub use Rattle.listing_spec.specs.Laws.Texts.{shown-listing, text-shown, text-wrong}
-pub use Rattle.refusals.specs.Laws.Replies.{some-number}
 pub use Rattle.lists.specs.Laws.Search.{take-put}

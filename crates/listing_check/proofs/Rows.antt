@@ -1,5 +1,5 @@
 -- A D line that is read: what `row_at` finds. Assumes nothing.
-use Rattle.listing_check.proofs.Prelude.{ℕ, suc, _+_, _-_, _≤_, _<_, _≡_, refl, sym, ap, subst, _∙_, true, List, [], _∷_, arith, leb-true, le-leb, length, take, drop, getD, length-drop, length-take-le, inl, inr, leb, all-head, and-right, take-put, some-number, pieces, Found, LineAt, RowRead}
+use Rattle.listing_check.proofs.Prelude.{ℕ, suc, _+_, _-_, _≤_, _<_, _≡_, refl, sym, ap, subst, _∙_, true, List, [], _∷_, arith, leb-true, le-leb, length, take, drop, getD, length-drop, length-take-le, leb, all-head, and-right, take-put, begins, pieces, Found, RowRead}
 use Rattle.lists.specs.Lists.{splice, above, rising}
 use Rattle.cells.specs.Cells.{isDead}
 use Rattle.constraints.specs.Constraints.{isLive}
@@ -21,15 +21,19 @@ module _ (columns count least left n : ℕ) (cells : List ℕ) (rows : List (Lis
   unfolding rowNumbers risingFrom rising
   rises = rising-from (n ∷ rowNumbers rows) ∙ rw (le-leb 0 n (omega arith)) (and-right (leb least n) (risingFrom (suc n) (rowNumbers rows)) (r .ordered refl .0))
 
+pub row-due : {columns : ℕ} {text : List ℕ} {start : ℕ} → start < length text → ValidRows true columns text start → begins 68 (1 + columns) (pieces (drop start text)) ≡ true
+unfolding prefixWidth
+row-due {columns} {text} {start} = valid-rows-line true columns text start
+
 -- a number and the cells behind it
 front : (stored : List ℕ) (columns : ℕ) → 1 + columns ≤ length stored → take (1 + columns) stored ≡ getD stored 0 0 ∷ take columns (drop 1 stored)
 front [] columns h = absurd (omega arith)
 front (x ∷ stored) columns h = let e : 1 + columns ≡ suc columns = omega arith in rw e
 
-module _ {columns : ℕ} {text : List ℕ} {start next : ℕ} {stored : List ℕ} (before : start < length text) (w : ValidRows true columns text start) (at : LineAt text start 68 (1 + columns) next stored) where
+module _ {columns : ℕ} {text : List ℕ} {start next : ℕ} {stored : List ℕ} (w : ValidRows true columns text start) (at : Found text start 68 (1 + columns) next stored) where
   there : Found text start 68 (prefixWidth true + columns) next stored
   unfolding prefixWidth
-  there = at .found (elim (some-number next) [ inl e ↦ absurd (valid-rows-line true columns text start before w at e) | inr h ↦ h ])
+  there = at
 
   wide : 1 + columns ≤ length stored
   unfolding prefixWidth

@@ -8,9 +8,9 @@ ghost use Rattle.listing_parse.specs.inner.Surveys.{Surveyed};
 ghost use Rattle.listing_check.specs.Answers.{AnswersChecked};
 ghost use Rattle.listing_check.specs.inner.Scanning.{MisplacedAt, Due, RowRead, finishedAs, Begun, Stepped, closed};
 use constraints::Constraint;
-use levels_text::MOST_NUMBERS;
+use listing_parse::MOST_FIELDS;
 use listing_parse::Survey;
-use listing_parse::line_at;
+use listing_parse::reread_line;
 use listing_parse::scan_text;
 use query::loops::all_pass;
 use query_scan::Test;
@@ -123,8 +123,8 @@ fn row_at(columns: u32, text: &[u8], start: usize) -> Row
     ensures { λ r. ⌜ RowRead columns (now (text .entry)) start r ⌝ }
 {
     let width = 1 + columns as usize;
-    let mut numbers = [0u32; MOST_NUMBERS];
-    let next = line_at(text, start, b'D', width, &mut numbers);
+    let mut numbers = [0u32; MOST_FIELDS];
+    let next = reread_line(text, start, width, &mut numbers);
     let mut cells = [0u32; 8];
     row_buffer::write_row(&mut cells, 0, &numbers[1..width]);
     Row {

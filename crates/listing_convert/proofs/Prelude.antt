@@ -10,7 +10,7 @@ pub use Rattle.levels_text.specs.inner.Appending.{Appended, appended-none, appe
 pub use Rattle.listing_parse.specs.inner.Lines.{Found}
 pub use Rattle.listing_spec.specs.declared.TextAnswer.the-variants.{Refused, Written}
 pub use Rattle.listing_parse.specs.declared.Survey.{Survey}
-pub use Rattle.listing_parse.specs.Laws.Steps.{ValidRows, none-from, rowsFrom, valid-rows-line, valid-rows-next, valid-rows-row}
+pub use Rattle.listing_parse.specs.Laws.Steps.{ValidRows, none-from, row-few, rowsFrom, valid-rows-line, valid-rows-next, valid-rows-row}
 pub use native.Mathlib.Numerals.{add-one}
 pub use Rattle.lists.specs.Laws.Rising.{bool-ext, iota-snoc, length-iota}
 pub use borrow.Author.Tests.{eq-eqb, le-ltb, lt-ltb, ltb-false, ltb-true, ne-eqb}

@@ -16,12 +16,12 @@ ghost use Rattle.listing_spec.specs.Laws.Conversions.{fieldsLength};
 ghost use Rattle.listing_parse.specs.inner.Surveys.{Listed};
 ghost use Rattle.listing_parse.specs.Laws.Steps.{rowsFrom, ValidRows};
 ghost use Rattle.listing_convert.specs.inner.Converting.{convertedRow, convertedFrom, convertedHead, convertedLength};
-use levels_text::MOST_NUMBERS;
 use levels_text::write::number_length;
 use levels_text::write::put_line;
 use levels_text::write::put_numbered;
+use listing_parse::MOST_FIELDS;
 use listing_parse::Survey;
-use listing_parse::line_at;
+use listing_parse::reread_line;
 use listing_parse::row_width;
 use listing_parse::scan_text;
 use listing_spec::TextAnswer;
@@ -75,7 +75,7 @@ fn convert_rows(
 ) -> usize
     requires { ⌜ columns ≤ 8 ⌝ }
     requires { ⌜ start ≤ length (now text) ⌝ }
-    requires { ⌜ 59 ≤ length (now numbers) ⌝ }
+    requires { ⌜ 9 ≤ length (now numbers) ⌝ }
     requires { ⌜ ValidRows numbered columns (now text) start ⌝ }
     requires { ⌜ length (rowsFrom (now text) start) ≤ 65536 ⌝ }
     requires { ⌜ used + length (flatten (map (textLine 68) (convertedFrom numbered 0 (rowsFrom (now text) start)))) ≤ length (now output) ⌝ }
@@ -86,13 +86,9 @@ fn convert_rows(
     let mut number = 0;
     let mut at = start;
     while at < text.len() {
-        let next = line_at(text, at, b'D', width, numbers);
-        if next == 0 {
-            return end;
-        }
+        at = reread_line(text, at, width, numbers);
         end = convert_row(numbered, columns, number, numbers, output, end);
         number += 1;
-        at = next;
     }
     end
 }
@@ -117,7 +113,7 @@ fn write_converted(numbered: bool, s: Survey, text: &[u8], output: &mut [u8]) ->
     ensures { λ r. ⌜ Appended (now (output .entry)) 0 (convertedText numbered (some (listingIn (now (text .entry))))) (now (output .exit)) r ⌝ }
 {
     let used = convert_head(numbered, s, output);
-    let mut numbers = [0u32; MOST_NUMBERS];
+    let mut numbers = [0u32; MOST_FIELDS];
     convert_rows(
         numbered,
         s.columns as usize,

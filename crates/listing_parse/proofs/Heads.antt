@@ -1,7 +1,10 @@
 -- The ways through `keeps_bounds`, `head_at` and `scan_text`. Assumes nothing.
-use Rattle.listing_parse.proofs.Prelude.{ℕ, _≤_, _<_, _≡_, refl, sym, ap, _∙_, Bool, true, false, cond, not, _&&_, and-false, false≢true, List, [], _∷_, arith, length, take, drop, getD, List·getD-eq-default, eq-eqb, ne-eqb, le-leb, lt-leb, lt-ltb, le-ltb, leb, eqb, getD-take, length-take-le, take-suc, ℕ-discrete, bounds-columns, Survey, lineIn, Found, LineAt}
-use Rattle.listing_spec.specs.Listings.{headLetter, headWidth, keepsBounds, isHead}
+use Rattle.listing_parse.proofs.Prelude.{ℕ, _-_, _≤_, _<_, _≡_, refl, sym, ap, _∙_, Bool, true, false, cond, not, _&&_, and-false, false≢true, inl, inr, split, List, [], _∷_, _++_, map, append-nil, append-assoc, arith, length-append, getD-at, lineOf, line-ended, shown-text, text-shown, length, take, drop, getD, List·getD-eq-default, eq-eqb, ne-eqb, le-leb, lt-leb, lt-ltb, le-ltb, leb, eqb, getD-take, length-take-le, take-suc, ℕ-discrete, bounds-columns, Survey, lineFrom, Found, LineAt}
+use Rattle.lists.specs.Lists.{flatten}
+use Rattle.levels_text.specs.Written.{textLine}
+use Rattle.listing_spec.specs.Listings.{listingText, headLetter, headWidth, keepsBounds, isHead}
 use Rattle.listing_spec.specs.inner.Checking.{pieces, begins, rowsGood, linesToRows, piecesGood, listingOf, textGood, listingIn}
+use Rattle.listing_parse.specs.inner.Lines.{endsLine}
 use Rattle.listing_parse.specs.inner.Surveys.{Counted, HeadFound, HeadAt, headOf, Surveyed}
 
 module _ (columns keys sort rule : ℕ) where
@@ -61,7 +64,7 @@ module _ (numbered : Bool) (text : List ℕ) {next : ℕ} {stored : List ℕ} (f
   abbrev ns : List ℕ
   ns = take (headWidth numbered) stored
 
-  cut : pieces text ≡ lineIn text 0 next ∷ pieces (drop next text)
+  cut : pieces text ≡ lineFrom text ∷ pieces (drop next text)
   cut = f .cut
 
   at-place : (i : ℕ) → i < 5 → getD ns i 0 ≡ getD stored i 0
@@ -81,7 +84,7 @@ module _ (numbered : Bool) (text : List ℕ) {next : ℕ} {stored : List ℕ} (f
   text-tests : textGood numbered text ≡ (in-bounds && leb count 65536 && rowsGood numbered (getD stored 0 0) count 0 65536 (pieces (drop next text)))
   unfolding textGood piecesGood
   text-tests =
-      let good : begins (headLetter numbered) (headWidth numbered) (lineIn text 0 next ∷ pieces (drop next text)) ≡ true = rw cut at (f .good) in
+      let good : begins (headLetter numbered) (headWidth numbered) (lineFrom text ∷ pieces (drop next text)) ≡ true = rw cut at (f .good) in
       rw (cut, good, ← f .read, head-tests, at-place 0 (omega arith), last)
 
   pub head-large : {stored′ : List ℕ} → 65536 < count → HeadAt numbered text 0 stored′
@@ -111,6 +114,41 @@ module _ (numbered : Bool) (text : List ℕ) {next : ℕ} {stored : List ℕ} (f
         rows-same : listingIn text .rows ≡ linesToRows (pieces (drop next text))
         rows-same = unfold listingIn listingOf in rw cut
 
+-- ---- the last byte
+
+record Ends (text : List ℕ) : Type 0 where
+  pub front : List ℕ
+  pub same : text ≡ front ++ (10 ∷ [])
+
+ends-line : (front : List ℕ) → endsLine (front ++ (10 ∷ [])) ≡ true
+unfolding endsLine
+ends-line front =
+    let long = length-append front (10 ∷ []) in
+    let some : 0 < length (front ++ (10 ∷ [])) = omega arith in
+    let last : getD (front ++ (10 ∷ [])) (length (front ++ (10 ∷ [])) - 1) 0 ≡ 10 = getD-at front 10 [] 0 (length (front ++ (10 ∷ [])) - 1) (omega arith) in
+    rw (lt-ltb 0 (length (front ++ (10 ∷ []))) some, eq-eqb (getD (front ++ (10 ∷ [])) (length (front ++ (10 ∷ [])) - 1) 0) 10 last)
+
+rows-end : (text : List ℕ) (rows : List (List ℕ)) → Ends text → Ends (text ++ flatten (map (textLine 68) rows))
+unfolding flatten
+rows-end text [] e = rw (append-nil text) e
+rows-end text (ns ∷ rows) e =
+    rw (← append-assoc text (textLine 68 ns) (flatten (map (textLine 68) rows)))
+    (rows-end (text ++ textLine 68 ns) rows (record { front = text ++ lineOf 68 ns; same = rw (line-ended 68 ns) (sym (append-assoc text (lineOf 68 ns) (10 ∷ []))) }))
+
+unended : (numbered : Bool) (text : List ℕ) → endsLine text ≡ false → textGood numbered text ≡ false
+unended numbered text e =
+    elim (split (textGood numbered text)) [
+      | inl g ↦ let last = ends g in absurd (false≢true (sym e ∙ ap endsLine (last .same) ∙ ends-line (last .front)))
+      | inr g ↦ g
+    ]
+  where
+    ends : textGood numbered text ≡ true → Ends text
+    ends g =
+        let l = listingIn text in
+        let head = textLine (headLetter numbered) (l .head) in
+        let whole : text ≡ head ++ flatten (map (textLine 68) (l .rows)) = shown-text (text-shown numbered text g) ∙ unfold listingText in refl in
+        rw whole (rows-end head (l .rows) (record { front = lineOf (headLetter numbered) (l .head); same = line-ended (headLetter numbered) (l .head) }))
+
 -- ---- the whole text
 
 head-shown : (numbered : Bool) (stored : List ℕ) → 6 ≤ length stored → (s : Survey) → s .columns ≡ getD stored 0 0 → s .keys ≡ getD stored 1 0 → s .sort ≡ getD stored 2 0
@@ -123,6 +161,9 @@ head-shown false stored long s a b c d g n =
 
 pub surveyed-none : (numbered : Bool) (text : List ℕ) {next : ℕ} {stored : List ℕ} {s : Survey} → HeadAt numbered text next stored → next ≡ 0 → s .«is_listing» ≡ false → Surveyed numbered text s
 surveyed-none numbered text h zero e = record { tested = e ∙ sym (h .wrong zero); found = λ t. absurd (false≢true (sym e ∙ t)) }
+
+pub surveyed-unended : (numbered : Bool) (text : List ℕ) {s : Survey} → endsLine text ≡ false → s .«is_listing» ≡ false → Surveyed numbered text s
+surveyed-unended numbered text last e = record { tested = e ∙ sym (unended numbered text last); found = λ t. absurd (false≢true (sym e ∙ t)) }
 
 pub surveyed : (numbered : Bool) (text : List ℕ) {stored : List ℕ} (s : Survey) → HeadFound numbered text (s .start) stored → 6 ≤ length stored
     → s .columns ≡ getD stored 0 0 → s .keys ≡ getD stored 1 0 → s .sort ≡ getD stored 2 0 → s .rule ≡ getD stored 3 0 → s .generation ≡ getD stored 4 0

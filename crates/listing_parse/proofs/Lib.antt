@@ -1,5 +1,7 @@
 mod Prelude
-pub mod Ends
+pub mod Fields
+pub mod Digits
+pub mod Lines
 pub mod Rows
 pub mod Counting
 pub mod Heads

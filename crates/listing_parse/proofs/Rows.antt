@@ -1,5 +1,5 @@
 -- The ways through `row_at` and `row_fits`. Assumes nothing.
-use Rattle.listing_parse.proofs.Prelude.{ℕ, suc, _+_, _-_, _≤_, _<_, _≡_, sym, ap, _∙_, Bool, true, false, not, _&&_, and-true, and-false, List, _∷_, arith, length, take, drop, getD, length-drop, ne-eqb, eq-eqb, le-leb, lt-leb, ltb, eqb, getD-take, numbers, joined-pieces, pieces-some, good-more, no-row, rows-more, lineIn, Found, LineAt, RowAt}
+use Rattle.listing_parse.proofs.Prelude.{ℕ, suc, _+_, _-_, _≤_, _<_, _≡_, sym, ap, _∙_, Bool, true, false, not, _&&_, and-true, and-false, List, _∷_, arith, length, take, drop, getD, length-drop, ne-eqb, eq-eqb, le-leb, lt-leb, ltb, eqb, getD-take, numbers, joined-pieces, pieces-some, good-more, no-row, rows-more, lineFrom, Found, LineAt, RowAt}
 use Rattle.listing_spec.specs.Listings.{prefixWidth}
 use Rattle.listing_spec.specs.inner.Checking.{pieces, begins, rowFits, rowsGood}
 
@@ -34,7 +34,7 @@ module _ (numbered : Bool) (columns count least : ℕ) where
 
     module _ {next : ℕ} {stored : List ℕ} (f : Found text start 68 (prefixWidth numbered + columns) next stored) where
       abbrev line : List ℕ
-      line = lineIn text start next
+      line = lineFrom (drop start text)
 
       stepped : (left : ℕ) → rowsGood numbered columns count least left (pieces (drop start text))
           ≡ (ltb 0 left && rowFits numbered count least (take (prefixWidth numbered + columns) stored) && rowsGood numbered columns count (suc (getD (numbers line) 0 0)) (left - 1) (pieces (drop next text)))

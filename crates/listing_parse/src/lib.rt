@@ -1,58 +1,151 @@
-// Parses the text of a listing line by line: whether it is of a form, its head's numbers, and how many rows it has. Lines are read
-// as `levels` reads its own.
+// Parses the text of a listing line by line: whether it is of a form, its head's numbers, and how many rows it has. Lines are those
+// that `levels` reads.
 ghost use mathlib.Core.Path.{_≡_};
-ghost use mathlib.Core.Bool.{false, cond};
+ghost use mathlib.Core.Bool.{true, false, cond};
 ghost use Prim.Native.Nat.{_+_, _≤_, _<_};
-ghost use lib.ListN.{length};
+ghost use lib.ListN.{length, drop};
+ghost use Rattle.levels_text.specs.Lines.{isDecimal};
+ghost use Rattle.levels_text.specs.Laws.Lines.{digit};
 ghost use Rattle.listing_spec.specs.Listings.{headLetter, headWidth, prefixWidth, keepsBounds};
-ghost use Rattle.listing_spec.specs.inner.Checking.{rowFits};
-ghost use Rattle.listing_parse.specs.inner.Lines.{LineEnd, LineAt, RowAt};
+ghost use Rattle.listing_spec.specs.inner.Checking.{pieces, begins, rowFits};
+ghost use Rattle.listing_parse.specs.inner.Lines.{endsLine, fieldFrom, DecimalAt, Reread, LineAt, LineReread, RowAt};
 ghost use Rattle.listing_parse.specs.inner.Surveys.{Counted, HeadAt, Surveyed};
-use levels_text::MOST_NUMBERS;
-use levels_text::Parsed;
 
 pub const MOST_ROWS: usize = 65536;
 
 // One more row than a listing may have: marks a wrong text.
 const WRONG: usize = 65537;
 
-// The end of the line that begins at `start`: the offset of its newline, or the end of the text.
-fn line_end(text: &[u8], start: usize) -> usize
-    requires { ⌜ start ≤ length (now text) ⌝ }
-    ensures { λ r. ⌜ LineEnd (now (text .entry)) start r ⌝ }
+// A D line has at most a row number and eight cells, a head line at most six numbers.
+pub const MOST_FIELDS: usize = 9;
+
+// A number and the offset after its digits.
+struct Number {
+    value: u32,
+    end: usize,
+}
+
+fn no_number() -> Number
+    ensures { λ r. ⌜ r .end ≡ 0 ⌝ }
 {
+    Number { value: 0, end: 0 }
+}
+
+fn is_digit(byte: u8) -> bool
+    ensures { λ r. ⌜ r ≡ digit byte ⌝ }
+{
+    if byte < b'0' {
+        return false;
+    }
+    byte <= b'9'
+}
+
+// True if the last byte is a newline. A loop over digits stops there at the latest, so it does not compare with the length.
+fn ends_line(text: &[u8]) -> bool
+    ensures { λ r. ⌜ r ≡ endsLine (now (text .entry)) ⌝ }
+{
+    if text.len() < 1 {
+        return false;
+    }
+    text[text.len() - 1] == b'\n'
+}
+
+// Reads the digits that begin at `start`. The end is 0 if they are not a decimal. The caller checks the byte after them.
+fn decimal_at(text: &[u8], start: usize) -> Number
+    requires { ⌜ start < length (now text) ⌝ }
+    requires { ⌜ endsLine (now text) ≡ true ⌝ }
+    ensures { λ r. ⌜ DecimalAt (now (text .entry)) start r ⌝ }
+{
+    let mut value: u64 = 0;
     let mut at = start;
-    while at < text.len() {
-        if text[at] == b'\n' {
-            return at;
+    while is_digit(text[at]) {
+        value = 10 * value + (text[at] - b'0') as u64;
+        if 0xffff_ffff < value {
+            return no_number();
         }
         at += 1;
     }
-    at
-}
-
-// Reads the line that begins at `start`. Returns the offset after its newline, or 0 if its letter or number count differs.
-pub fn line_at(text: &[u8], start: usize, letter: u8, width: usize, numbers: &mut [u32]) -> usize
-    requires { ⌜ start ≤ length (now text) ⌝ }
-    requires { ⌜ 59 ≤ length (now numbers) ⌝ }
-    ensures { λ r. ⌜ LineAt (now (text .entry)) start letter width r (now (numbers .exit)) ⌝ }
-{
-    let end = line_end(text, start);
-    if end == text.len() {
-        return 0;
+    if at == start {
+        return no_number();
     }
-    match levels_text::read_line(&text[start..end], numbers) {
-        Parsed::Wrong => 0,
-        Parsed::Line(first, count) => {
-            if first != letter {
-                return 0;
-            }
-            if count != width {
-                return 0;
-            }
-            end + 1
+    if text[start] == b'0' {
+        if start + 1 < at {
+            return no_number();
         }
     }
+    Number {
+        value: value as u32,
+        end: at,
+    }
+}
+
+// Reads the line that begins at `start`. Returns the offset after its newline, or 0 if its letter or number count differs. Nine
+// decimals with their commas are shorter than 120 bytes, so the length of the line is not checked.
+fn line_at(text: &[u8], start: usize, letter: u8, width: usize, numbers: &mut [u32]) -> usize
+    requires { ⌜ start < length (now text) ⌝ }
+    requires { ⌜ endsLine (now text) ≡ true ⌝ }
+    requires { ⌜ (44 < letter) × (width ≤ 9) ⌝ }
+    requires { ⌜ width ≤ length (now numbers) ⌝ }
+    ensures { λ r. ⌜ LineAt (now (text .entry)) start letter width r (now (numbers .exit)) ⌝ }
+{
+    if text[start] != letter {
+        return 0;
+    }
+    let mut at = start + 1;
+    let mut count = 0;
+    while count < width {
+        if text[at] != b',' {
+            return 0;
+        }
+        let number = decimal_at(text, at + 1);
+        if number.end == 0 {
+            return 0;
+        }
+        numbers[count] = number.value;
+        at = number.end;
+        count += 1;
+    }
+    if text[at] != b'\n' {
+        return 0;
+    }
+    at + 1
+}
+
+// Reads again a decimal that has passed its checks.
+fn reread_decimal(text: &[u8], start: usize) -> Number
+    requires { ⌜ isDecimal (fieldFrom (drop start (now text))) ≡ true ⌝ }
+    requires { ⌜ start + length (fieldFrom (drop start (now text))) < length (now text) ⌝ }
+    ensures { λ r. ⌜ Reread (now (text .entry)) start r ⌝ }
+{
+    let mut value: u32 = 0;
+    let mut at = start;
+    while b'0' <= text[at] {
+        value = 10 * value + (text[at] - b'0') as u32;
+        at += 1;
+    }
+    Number {
+        value: value,
+        end: at,
+    }
+}
+
+// Reads again a D line that has passed its checks. Returns the offset after its newline.
+pub fn reread_line(text: &[u8], start: usize, width: usize, numbers: &mut [u32]) -> usize
+    requires { ⌜ start < length (now text) ⌝ }
+    requires { ⌜ begins 68 width (pieces (drop start (now text))) ≡ true ⌝ }
+    requires { ⌜ width ≤ 9 ⌝ }
+    requires { ⌜ width ≤ length (now numbers) ⌝ }
+    ensures { λ r. ⌜ LineReread (now (text .entry)) start width (now (numbers .entry)) r (now (numbers .exit)) ⌝ }
+{
+    let mut at = start + 1;
+    let mut count = 0;
+    while count < width {
+        let number = reread_decimal(text, at + 1);
+        numbers[count] = number.value;
+        at = number.end;
+        count += 1;
+    }
+    at + 1
 }
 
 // How many numbers a D line has.
@@ -95,7 +188,8 @@ fn row_at(
 ) -> usize
     requires { ⌜ (1 ≤ columns) × (columns ≤ 8) ⌝ }
     requires { ⌜ start < length (now text) ⌝ }
-    requires { ⌜ 59 ≤ length (now numbers) ⌝ }
+    requires { ⌜ endsLine (now text) ≡ true ⌝ }
+    requires { ⌜ 9 ≤ length (now numbers) ⌝ }
     ensures { λ r. ⌜ RowAt numbered columns count least (now (text .entry)) start r (now (numbers .exit)) ⌝ }
 {
     let width = row_width(numbered, columns);
@@ -120,7 +214,8 @@ fn count_rows(
 ) -> usize
     requires { ⌜ (1 ≤ columns) × (columns ≤ 8) ⌝ }
     requires { ⌜ start ≤ length (now text) ⌝ }
-    requires { ⌜ 59 ≤ length (now numbers) ⌝ }
+    requires { ⌜ endsLine (now text) ≡ true ⌝ }
+    requires { ⌜ 9 ≤ length (now numbers) ⌝ }
     ensures { λ r. ⌜ Counted numbered columns count (now (text .entry)) start r ⌝ }
 {
     let mut at = start;
@@ -174,7 +269,8 @@ fn count_in(numbered: bool, last: u32) -> u32
 
 // Reads the first line of the text, with the letter and width of the form.
 fn first_line(numbered: bool, text: &[u8], numbers: &mut [u32]) -> usize
-    requires { ⌜ 59 ≤ length (now numbers) ⌝ }
+    requires { ⌜ endsLine (now text) ≡ true ⌝ }
+    requires { ⌜ 9 ≤ length (now numbers) ⌝ }
     ensures { λ r. ⌜ LineAt (now (text .entry)) 0 (headLetter numbered) (headWidth numbered) r (now (numbers .exit)) ⌝ }
 {
     if numbered {
@@ -185,7 +281,8 @@ fn first_line(numbered: bool, text: &[u8], numbers: &mut [u32]) -> usize
 
 // Reads the head line. Returns the offset after it, or 0 if it is wrong.
 fn head_at(numbered: bool, text: &[u8], numbers: &mut [u32]) -> usize
-    requires { ⌜ 59 ≤ length (now numbers) ⌝ }
+    requires { ⌜ endsLine (now text) ≡ true ⌝ }
+    requires { ⌜ 9 ≤ length (now numbers) ⌝ }
     ensures { λ r. ⌜ HeadAt numbered (now (text .entry)) r (now (numbers .exit)) ⌝ }
 {
     let next = first_line(numbered, text, numbers);
@@ -235,7 +332,10 @@ fn no_listing() -> Survey
 pub fn scan_text(numbered: bool, text: &[u8]) -> Survey
     ensures { λ r. ⌜ Surveyed numbered (now (text .entry)) r ⌝ }
 {
-    let mut numbers = [0u32; MOST_NUMBERS];
+    if !ends_line(text) {
+        return no_listing();
+    }
+    let mut numbers = [0u32; MOST_FIELDS];
     let start = head_at(numbered, text, &mut numbers);
     if start == 0 {
         return no_listing();

@@ -9,9 +9,8 @@ ghost use Rattle.listing_spec.specs.Listings.{ListingRead, listingView, numbere
 ghost use Rattle.listing_parse.specs.inner.Surveys.{Listed};
 ghost use Rattle.listing_parse.specs.Laws.Steps.{rowsFrom, ValidRows};
 ghost use Rattle.listing_read.specs.inner.ReadResults.{readView};
-use levels_text::MOST_NUMBERS;
 use listing_parse::Survey;
-use listing_parse::line_at;
+use listing_parse::reread_line;
 use listing_parse::row_width;
 use listing_parse::scan_text;
 use listing_spec::ListingAnswer;
@@ -22,17 +21,9 @@ use refusals::NO_LISTING;
 use refusals::TOO_SHORT;
 
 // Writes the numbers of each D line in order.
-fn write_rows(
-    numbered: bool,
-    columns: usize,
-    text: &[u8],
-    start: usize,
-    numbers: &mut [u32],
-    output: &mut [u32],
-)
+fn write_rows(numbered: bool, columns: usize, text: &[u8], start: usize, output: &mut [u32])
     requires { ⌜ columns ≤ 8 ⌝ }
     requires { ⌜ start ≤ length (now text) ⌝ }
-    requires { ⌜ 59 ≤ length (now numbers) ⌝ }
     requires { ⌜ ValidRows numbered columns (now text) start ⌝ }
     requires { ⌜ length (flatten (rowsFrom (now text) start)) ≤ length (now output) ⌝ }
     ensures { λ _. ⌜ now (output .exit) ≡ splice (now (output .entry)) 0 (flatten (rowsFrom (now (text .entry)) start)) ⌝ }
@@ -41,13 +32,8 @@ fn write_rows(
     let mut at = start;
     let mut used = 0;
     while at < text.len() {
-        let next = line_at(text, at, b'D', width, numbers);
-        if next == 0 {
-            return;
-        }
-        row_buffer::write_row(output, used, &numbers[..width]);
+        at = reread_line(text, at, width, &mut output[used..]);
         used += width;
-        at = next;
     }
 }
 
@@ -68,8 +54,7 @@ fn read_found(numbered: bool, s: Survey, text: &[u8], output: &mut [u32]) -> Rea
     if output.len() < rows * width {
         return ReadResult::Refused(TOO_SHORT);
     }
-    let mut numbers = [0u32; MOST_NUMBERS];
-    write_rows(numbered, columns, text, s.start, &mut numbers, output);
+    write_rows(numbered, columns, text, s.start, output);
     ReadResult::Found(s)
 }
 

@@ -1,5 +1,5 @@
 -- `listing_convert::convert_rows` meets its contract. Assumes nothing.
-use Rattle.listing_convert.proofs.Prelude.{_-_, _+_, _≡_, arith, length, needs, prefixWidth, valid-rows-line}
+use Rattle.listing_convert.proofs.Prelude.{_-_, _+_, _≡_, arith, length, needs, prefixWidth, row-few, valid-rows-line}
 use Rattle.listing_convert.proofs.Converting.{Converting, converting-begin, converting-wide, converting-room, converting-number, converting-more, converting-end}
 use Rattle.listing_convert.proofs.convert_rows.Statement.{statement}
 use Rattle.listing_convert.proofs.convert_rows.Tie as tie
@@ -15,31 +15,34 @@ abbrev μ-loop : tie.MeasureT-loop
 loop-holds : tie.Need-loop-holds Inv-loop μ-loop
 loop-holds c = (converting-begin _ _ _ _ _ _ _ (c .before .before .before .before .pre .1 .0) (c .before .before .before .before .pre .1 .1 .1 .0) (c .before .before .before .before .pre .1 .1 .1 .1 .1), c .row-width .ensures)
 
-line-at-requires : tie.Need-line-at-requires Inv-loop μ-loop
-line-at-requires c κs = (c .before .before .loop .inv .0 .inside, omega (arith, c .before .before .loop .inv .0 .same-numbers, c .before .before .before .before .before .before .before .pre .1 .1 .0))
-
-returns : tie.Need-returns Inv-loop μ-loop
-returns c = absurd (valid-rows-line _ _ _ _ (c .before .before .before .before .before .loop-test .taken) (c .before .before .before .before .before .before .loop .inv .0 .valid-rows) (rw (c .before .before .before .before .before .before .loop .inv .1) at (c .before .before .before .line-at .ensures)) (c .if1 .taken))
+reread-line-requires : tie.Need-reread-line-requires Inv-loop μ-loop
+reread-line-requires c κs =
+    let v = c .before .before .loop .inv .0 in
+    let e = c .before .before .loop .inv .1 in
+    let before = c .before .loop-test .taken in
+    let few = row-few _ _ _ e (c .before .before .before .before .before .before .before .pre .0) in
+    (before, (rw e (valid-rows-line _ _ _ _ before (v .valid-rows)), (few, omega (arith, few, v .same-numbers, c .before .before .before .before .before .before .before .pre .1 .1 .0))))
 
 convert-row-requires : tie.Need-convert-row-requires Inv-loop μ-loop
-convert-row-requires c κs = let f = c .before .before .before .before .before .line-at .ensures .found (search needs) in
-    (c .before .before .before .before .before .before .before .before .before .before .before .before .before .pre .0, (converting-wide _ _ _ _ _ _ _ (c .before .before .before .before .before .before .before .before .loop .inv .0) (c .before .before .before .before .before .before .before .before .loop .inv .1) f, omega (arith, converting-room _ _ _ _ _ _ _ (c .before .before .before .before .before .before .before .before .loop .inv .0) (c .before .before .before .before .before .before .before .before .loop .inv .1) f)))
+convert-row-requires c κs =
+    let v = c .before .before .before .before .before .before .before .loop .inv .0 in
+    let e = c .before .before .before .before .before .before .before .loop .inv .1 in
+    let f = c .before .before .before .before .reread-line .ensures .found in
+    (c .before .before .before .before .before .before .before .before .before .before .before .before .pre .0, (converting-wide _ _ _ _ _ _ _ v e f, omega (arith, converting-room _ _ _ _ _ _ _ v e f)))
 
 add-number : tie.Need-add-number Inv-loop μ-loop
-add-number c = omega (arith, converting-number _ _ _ _ _ _ _ (c .before .before .before .before .before .before .before .before .before .before .before .loop .inv .0) (c .before .before .before .before .before .before .before .before .before .before .before .loop .inv .1) (c .before .before .before .before .before .before .before .before .line-at .ensures .found (search needs)), c .before .before .before .before .before .before .before .before .before .before .before .before .before .before .before .before .pre .1 .1 .1 .1 .0)
+add-number c = omega (arith, converting-number _ _ _ _ _ _ _ (c .before .before .before .before .before .before .before .before .before .before .loop .inv .0) (c .before .before .before .before .before .before .before .before .before .before .loop .inv .1) (c .before .before .before .before .before .before .before .reread-line .ensures .found), c .before .before .before .before .before .before .before .before .before .before .before .before .before .before .before .pre .1 .1 .1 .1 .0)
 
 loop-less : tie.Need-loop-less Inv-loop μ-loop
-loop-less c = let f = c .before .before .before .before .before .before .before .before .line-at .ensures .found (search needs) in omega (arith, f .forward, f .inside)
+loop-less c = let f = c .before .before .before .before .before .before .before .reread-line .ensures .found in omega (arith, f .forward, f .inside)
 
 loop-again : tie.Need-loop-again Inv-loop μ-loop
-loop-again c = (converting-more _ _ _ _ _ _ _ (c .before .before .before .before .before .before .before .before .before .before .before .loop .inv .0) (c .before .before .before .before .before .before .before .before .before .before .before .loop .inv .1) (c .before .before .before .before .before .before .before .before .line-at .ensures .found (search needs)) (search needs) (search needs) (c .before .before .convert-row .ensures), c .before .before .before .before .before .before .before .before .before .before .before .loop .inv .1)
+loop-again c = (converting-more _ _ _ _ _ _ _ (c .before .before .before .before .before .before .before .before .before .before .loop .inv .0) (c .before .before .before .before .before .before .before .before .before .before .loop .inv .1) (c .before .before .before .before .before .before .before .reread-line .ensures .found) (search needs) (search needs) (c .before .before .convert-row .ensures), c .before .before .before .before .before .before .before .before .before .before .loop .inv .1)
 
 pub convert-rows-spec : {M : Type 1} → statement M
 convert-rows-spec =
     tie.close
     (tie.spec
-    Inv-loop μ-loop (λ c κs. search needs) loop-holds line-at-requires
-    (λ c. omega (arith, c .before .before .before .before .before .before .loop .inv .0 .same-numbers, c .before .before .numbers .given))
-    (λ c. c .before .before .before .before .before .before .loop .inv .0 .same) returns convert-row-requires add-number
-    loop-less loop-again (λ c. c .before .loop .inv .0 .same-numbers) (λ c. c .before .loop .inv .0 .same)
+    Inv-loop μ-loop (λ c κs. search needs) loop-holds reread-line-requires convert-row-requires add-number loop-less loop-again
+    (λ c. c .before .loop .inv .0 .same-numbers) (λ c. c .before .loop .inv .0 .same)
     (λ c. converting-end _ _ _ _ _ _ _ (c .before .loop .inv .0) (c .loop-test .left)))

@@ -1,6 +1,7 @@
 -- `listing_parse::first_line` meets its contract. Assumes nothing.
 use Rattle.listing_spec.specs.Listings.{headLetter, headWidth}
-use borrow.Author.Needs.{needs}
+use Rattle.listing_parse.proofs.Prelude.{arith, needs}
+use Rattle.listing_parse.proofs.Digits.{ends-some}
 use Rattle.listing_parse.proofs.first_line.Statement.{statement}
 use Rattle.listing_parse.proofs.first_line.Tie as tie
 
@@ -9,6 +10,7 @@ unfolding headLetter headWidth
 first-line-spec =
     tie.close
     (tie.spec
-    (λ c κs. search needs) (λ c. search needs)
-    (λ c. rw (c .before .before .before .before .if1 .taken) (c .before .before .line-at .ensures)) (λ c κs. search needs)
-    (λ c. search needs) (λ c. rw (c .before .before .before .before .if1 .left) (c .before .before .line-at2 .ensures)))
+    (λ c κs. let p = c .before .before .before .before .pre in (ends-some _ (p .0), (p .0, ((omega arith, omega arith), omega (arith, p .1))))) (λ c. search needs)
+    (λ c. rw (c .before .before .before .before .if1 .taken) (c .before .before .line-at .ensures))
+    (λ c κs. let p = c .before .before .before .before .pre in (ends-some _ (p .0), (p .0, ((omega arith, omega arith), omega (arith, p .1))))) (λ c. search needs)
+    (λ c. rw (c .before .before .before .before .if1 .left) (c .before .before .line-at2 .ensures)))

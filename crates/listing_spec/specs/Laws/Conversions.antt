@@ -1,5 +1,5 @@
 -- Conversion from one form to the other and back loses nothing. Assumes nothing.
-use Rattle.listing_spec.specs.Laws.Prelude.{ℕ, suc, _+_, _-_, _≤_, _<_, _≡_, refl, sym, ap, ap₂, _∙_, inl, inr, Bool, true, false, false≢true, List, [], _∷_, _++_, map, zero-add, arith, ltb, length, take, drop, getD, length-append, take-suc, take-all, take-at, ltb-true, all-head, all-tail, split, all-getD, all-of, bool-ext, within-of, within-high, length-iota, getD-iota, rising-iota, elem-at, elem-of, elem-iota, rising-ext, rising-gap, field, textLine, fields-more, length-line}
+use Rattle.listing_spec.specs.Laws.Prelude.{ℕ, suc, _+_, _-_, _≤_, _<_, _≡_, refl, sym, ap, ap₂, _∙_, inl, inr, Bool, true, false, false≢true, List, [], _∷_, _++_, map, zero-add, arith, ltb, length, take, drop, getD, length-append, length-map, take-suc, take-all, take-at, ltb-true, all-head, all-tail, split, all-getD, all-of, bool-ext, within-of, within-high, length-iota, getD-iota, rising-iota, elem-at, elem-of, elem-iota, rising-ext, rising-gap, field, textLine, fields-more, length-line}
 use Rattle.lists.specs.Lists.{all, flatten, iota, rising, elem}
 use Rattle.listing_spec.specs.Listings.{Listing, headLetter, headWidth, listingText, prefixWidth, isRow, rowNumbers, isListing, numberedFrom, toNumbered, fromNumbered, lacksRow}
 use Rattle.listing_spec.specs.Laws.Texts.{rising-from, Bounded, listing-parts, head-wide, row-parts}
@@ -50,10 +50,6 @@ module _ (numbers : List ℕ) (count : ℕ) (rises : rising numbers ≡ true) (b
           rw here at there
 
 -- ---- rows with and without their numbers
-
-length-map : {A B : Type 0} (f : A → B) (l : List A) → length (map f l) ≡ length l
-length-map f [] = refl
-length-map f (x ∷ l) = ap suc (length-map f l)
 
 pub length-numberedFrom : (n : ℕ) (rows : List (List ℕ)) → length (numberedFrom n rows) ≡ length rows
 unfolding numberedFrom
@@ -106,7 +102,7 @@ module _ (l : Listing) (e : isListing true l ≡ true) where
 
   length-numbers : length (rowNumbers (l .rows)) ≡ length (l .rows)
   unfolding rowNumbers
-  length-numbers = length-map (λ ns. getD ns 0 0) (l .rows)
+  length-numbers = length-map (l .rows) (λ ns. getD ns 0 0)
 
   there : Bool
   there = all (λ n. elem n (rowNumbers (l .rows))) (iota 0 count)
@@ -131,7 +127,7 @@ module _ (l : Listing) (e : isListing true l ≡ true) where
   to-from none =
       let wide : length (l .head) ≡ 6 = head-wide true (l .head) (parts .head-good) ∙ (unfold headWidth in refl) in
       let full = lacks-no-row none in
-      let last : length (map (drop 1) (l .rows)) ≡ getD (l .head) 5 0 = length-map (drop 1) (l .rows) ∙ full in
+      let last : length (map (drop 1) (l .rows)) ≡ getD (l .head) 5 0 = length-map (l .rows) (drop 1) ∙ full in
       let head : take 5 (l .head) ++ (length (map (drop 1) (l .rows)) ∷ []) ≡ l .head =
       rw last (sym (take-suc (l .head) 5 0 (omega (arith, wide)))) ∙ take-all 6 (l .head) (omega (arith, wide)) in
       let counted : rowNumbers (l .rows) ≡ iota 0 (length (l .rows)) = all-rows none ∙ ap (iota 0) (sym full) in
@@ -172,4 +168,4 @@ pub plain-shorter : (l : Listing) → isListing true l ≡ true → lacksRow l �
 plain-shorter l e none =
     ap (λ (k : Listing). length (listingText true k)) (sym (to-from l e none))
     ∙ numbered-longer (fromNumbered l)
-    ∙ ap (λ (n : ℕ). length (listingText false (fromNumbered l)) + fieldsLength n) (unfold fromNumbered in length-map (drop 1) (l .rows))
+    ∙ ap (λ (n : ℕ). length (listingText false (fromNumbered l)) + fieldsLength n) (unfold fromNumbered in length-map (l .rows) (drop 1))

@@ -1,6 +1,6 @@
 -- A line that `levels` reads is the written form of its letter and numbers, and a line that is written is read back. Assumes
 -- nothing.
-use Rattle.listing_spec.specs.Laws.Prelude.{ℕ, suc, _+_, _≤_, _≡_, refl, sym, ap, _∙_, inl, inr, true, false, _&&_, false≢true, List, [], _∷_, _++_, map, append-nil, arith, leb, eqb, length, getD, drop, eqb-true, eqb-false, ne-eqb, le-leb, leb-true, all-head, all-tail, elem-append, split, and-left, and-right, length-fields, decimal-value, decimal-read}
+use Rattle.listing_spec.specs.Laws.Prelude.{ℕ, suc, _+_, _*_, _≤_, _≡_, refl, sym, ap, _∙_, inl, inr, true, false, _&&_, false≢true, List, [], _∷_, _++_, map, append-nil, arith, leb, eqb, length, length-append, length-map, getD, drop, eqb-true, eqb-false, ne-eqb, le-leb, leb-true, all-head, all-tail, elem-append, split, and-left, and-right, length-fields, decimal-value, decimal-read}
 use Rattle.lists.specs.Lists.{all, flatten, elem}
 use Rattle.levels_text.specs.Lines.{valueFrom, isDecimal, isLine, letter, numbers, fields}
 use Rattle.levels_text.specs.Written.{decimal, field, textLine}
@@ -25,17 +25,25 @@ unfolding field
 fields-back [] e = refl
 fields-back (f ∷ fs) e = rw (decimal-back f (all-head isDecimal f fs e), fields-back fs (all-tail isDecimal f fs e))
 
+-- decimals, each after a comma
+pub fields-length : (bytes : List ℕ) → length (first bytes) ≡ 0 → all isDecimal (others bytes) ≡ true → length bytes ≤ 11 * length (others bytes)
+fields-length bytes none e =
+    let joined : flatten (map field (map (valueFrom 0) (others bytes))) ≡ flatten (map (λ (f : List ℕ). 44 ∷ f) (others bytes)) = ap flatten (fields-back (others bytes) e) in
+    let parts = ap length (fields-joined bytes) in
+    let sum = length-append (first bytes) (flatten (map (λ (f : List ℕ). 44 ∷ f) (others bytes))) in
+    omega (arith, parts, sum, ap length joined, length-fields (map (valueFrom 0) (others bytes)), length-map (others bytes) (valueFrom 0))
+
 fields-fit : (fs : List (List ℕ)) → all isDecimal fs ≡ true → areNumbers (map (valueFrom 0) fs) ≡ true
 unfolding areNumbers all
 fields-fit [] e = refl
 fields-fit (f ∷ fs) e = rw (le-leb (valueFrom 0 f) 4294967295 (decimal-parts f (all-head isDecimal f fs e) .fits)) (fields-fit fs (all-tail isDecimal f fs e))
 
 module _ (line : List ℕ) (e : isLine line ≡ true) where
-  line-decimals : all isDecimal (others line) ≡ true
+  pub line-decimals : all isDecimal (others line) ≡ true
   unfolding isLine others
   line-decimals = and-right (leb (length line) 120 && eqb (length (getD (fields line) 0 [])) 1) (all isDecimal (drop 1 (fields line))) e
 
-  line-letter : length (first line) ≡ 1
+  pub line-letter : length (first line) ≡ 1
   unfolding isLine first
   line-letter =
       eqb-true (length (first line)) 1

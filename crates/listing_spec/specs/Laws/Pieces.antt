@@ -53,8 +53,3 @@ pub pieces-line : (line more : List ℕ) → elem 10 line ≡ false → pieces (
 unfolding pieces longer
 pieces-line [] more e = refl
 pieces-line (byte ∷ line) more e = let t = has-tail 10 byte line e in rw (t .0, pieces-line line more (t .1))
-
-pub pieces-last : (line : List ℕ) → elem 10 line ≡ false → pieces line ≡ line ∷ []
-unfolding pieces longer
-pieces-last [] e = refl
-pieces-last (byte ∷ line) e = let t = has-tail 10 byte line e in rw (t .0, pieces-last line (t .1))

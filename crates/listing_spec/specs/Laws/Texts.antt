@@ -25,12 +25,12 @@ rising-from (x ∷ xs) = rw (le-leb 0 x (omega arith)) (above-from x xs)
 
 -- ---- the checks of a line
 
-record LineMatches (first width : ℕ) (line : List ℕ) : Type 0 where
+pub record LineMatches (first width : ℕ) (line : List ℕ) : Type 0 where
   pub is-line : isLine line ≡ true
   pub lettered : letter line ≡ first
   pub wide : length (numbers line) ≡ width
 
-line-matches : (first width : ℕ) (line : List ℕ) (rest : List (List ℕ)) → begins first width (line ∷ rest) ≡ true → LineMatches first width line
+pub line-matches : (first width : ℕ) (line : List ℕ) (rest : List (List ℕ)) → begins first width (line ∷ rest) ≡ true → LineMatches first width line
 unfolding begins
 line-matches first width line rest e =
     let a = isLine line in
@@ -43,7 +43,7 @@ line-matches first width line rest e =
       wide = eqb-true (length (numbers line)) width (and-right (a && b) d tests);
     }
 
-begins-more : (first width : ℕ) (line : List ℕ) (rest : List (List ℕ)) → begins first width (line ∷ rest) ≡ true → isNil rest ≡ false
+pub begins-more : (first width : ℕ) (line : List ℕ) (rest : List (List ℕ)) → begins first width (line ∷ rest) ≡ true → isNil rest ≡ false
 unfolding begins
 begins-more first width line rest e =
     let tests = isLine line && eqb (letter line) first && eqb (length (numbers line)) width in
