@@ -5,7 +5,8 @@ use Rattle.levels_text.specs.Lines.{valueFrom, isDecimal, isLine, letter
 use Rattle.levels_text.specs.declared.Field.the-variants.{Wrong as NoField, Decimal}
 use Rattle.levels_text.specs.declared.Parsed.the-variants.{Wrong, Line}
 use Rattle.levels_text.specs.inner.Reading.{fieldAt, FieldIs, LineIs, read-wrong, read-right}
-use Rattle.levels_text.specs.Laws.Lines.{first, others, first-end, others-end, first-at-comma, first-at-more, others-at-comma, others-at-more, next-first, next-others, next-inside, decimal-some, no-letter, no-decimal, is-line}
+use Rattle.levels_text.specs.Laws.Digits.{decimal-some}
+use Rattle.levels_text.specs.Laws.Lines.{first, others, first-end, others-end, first-at-comma, first-at-more, others-at-comma, others-at-more, next-first, next-others, next-inside, no-letter, no-decimal, is-line}
 
 -- `count` numbers are read from the bytes before `at`, and stored; the letter is a whole field if a comma or the end follows it
 pub record Numbers (line lent stored : List ℕ) (at count : ℕ) : Type 0 where

@@ -11,11 +11,12 @@ pub use Rattle.levels_text.specs.inner.Appending.{Numbering, Putting, ap
 pub use mathlib.Core.Bool.{_&&_, and-false, false, true}
 pub use native.Mathlib.Numerals.{add-one}
 pub use Rattle.levels_text.specs.Laws.Lines.{bare-last, comma-first, first-at-comma, first-end, no-bytes, too-long}
-pub use borrow.Author.Tests.{eq-eqb, le-leb, le-ltb, lt-leb, lt-ltb, ne-eqb}
-pub use lib.Dec.{eqb, leb, ltb}
+pub use borrow.Author.Tests.{eqb-false, eqb-true, leb-false, leb-true, ne-eqb}
+pub use lib.Dec.{eqb, leb}
 pub use Rattle.levels_text.specs.Laws.Decimals.{few-digits, field-length, field-some, length-line, length-numbered, length-written}
 pub use Rattle.levels_text.specs.inner.Reading.{parsed-no-line, parsed-right, parsed-wrong, read-no-room, read-wrong}
 pub use Rattle.lists.specs.Laws.Search.{put-more}
 pub use Rattle.lists.specs.Laws.Parts.{splice-nil}
 pub use lib.Seq.{take-suc-set}
-pub use mathlib.Core.Logic.{⊎-elim}
+pub use mathlib.Core.Logic.{inl, inr, ⊎-elim}
+pub use Rattle.lists.specs.Laws.Filter.{split}

@@ -1,5 +1,6 @@
 -- What follows from the definitions.
 mod Prelude
 pub mod Lines
+pub mod Digits
 pub mod Decimals
 pub mod Reads

@@ -40,11 +40,6 @@ fn read_field(line: &[u8], start: usize) -> Field
         if b'9' < byte {
             return Field::Wrong;
         }
-        if start < at {
-            if value == 0 {
-                return Field::Wrong;
-            }
-        }
         value = 10 * value + (byte - b'0') as u64;
         if 0xffff_ffff < value {
             return Field::Wrong;
@@ -53,6 +48,11 @@ fn read_field(line: &[u8], start: usize) -> Field
     }
     if at == start {
         return Field::Wrong;
+    }
+    if line[start] == b'0' {
+        if start + 1 < at {
+            return Field::Wrong;
+        }
     }
     Field::Decimal(value as u32, at)
 }
@@ -106,7 +106,7 @@ fn is_form(letter: u8, count: usize) -> bool
 
 // Reads a letter and decimals: a line without its newline. The lent numbers must have room for the most that a line can have. Their
 // content is unspecified if the line is wrong.
-pub fn read_line(line: &[u8], numbers: &mut [u32]) -> Parsed
+fn read_line(line: &[u8], numbers: &mut [u32]) -> Parsed
     ensures { λ r. ⌜ LineIs (now (line .entry)) (now (numbers .entry)) r (now (numbers .exit)) ⌝ }
 {
     if LONGEST < line.len() {

@@ -5,7 +5,7 @@ ghost use mathlib.Core.Bool.{true, false, cond};
 ghost use Prim.Native.Nat.{_+_, _≤_, _<_};
 ghost use lib.ListN.{length, drop};
 ghost use Rattle.levels_text.specs.Lines.{isDecimal};
-ghost use Rattle.levels_text.specs.Laws.Lines.{digit};
+ghost use Rattle.levels_text.specs.Laws.Digits.{digit};
 ghost use Rattle.listing_spec.specs.Listings.{headLetter, headWidth, prefixWidth, keepsBounds};
 ghost use Rattle.listing_spec.specs.inner.Checking.{pieces, begins, rowFits};
 ghost use Rattle.listing_parse.specs.inner.Lines.{endsLine, fieldFrom, DecimalAt, Reread, LineAt, LineReread, RowAt};

@@ -1,8 +1,8 @@
 -- Laws of fields and decimals in the order in which a reader needs them: byte by byte up to a comma or the end, and field by field.
 -- Assumes nothing.
-use Rattle.levels_text.specs.Laws.Prelude.{ℕ, zero, suc, _+_, _-_, _*_, _≤_, _<_, _≡_, refl, sym, ap, _∙_, inl, inr, Bool, true, false, not, _&&_, _||_, and-true, and-false, false≢true, List, [], _∷_, add-one, arith, leb, ltb, eqb, length, drop, getD, length-drop, drop-of-length-le, drop-cons, drop-drop, eq-eqb, ne-eqb, le-leb, lt-leb, lt-ltb, eqb-true, eqb-false, leb-true, leb-false, split, and-left, and-right}
+use Rattle.levels_text.specs.Laws.Prelude.{ℕ, _+_, _-_, _≤_, _<_, _≡_, refl, ap, inl, inr, true, false, _&&_, and-false, List, [], _∷_, add-one, arith, leb, eqb, length, drop, getD, length-drop, drop-of-length-le, drop-cons, drop-drop, eq-eqb, ne-eqb, le-leb, lt-leb, eqb-true, eqb-false, leb-true, split}
 use Rattle.lists.specs.Lists.{all}
-use Rattle.levels_text.specs.Lines.{prependToFirst, fields, valueFrom, isDecimal, isLine, letter, numbers, isBare, isForm, ofForms}
+use Rattle.levels_text.specs.Lines.{prependToFirst, fields, isDecimal, isLine, letter, numbers, isBare, isForm, ofForms}
 
 -- ---- the first field, and the others
 
@@ -97,108 +97,6 @@ module _ (line : List ℕ) (at : ℕ) where
 
   pub next-inside : at ≤ length line → at + length (first (drop at line)) ≤ length line
   next-inside inside = omega (arith, length-first (drop at line), length-drop at line)
-
--- ---- a decimal, digit by digit
-
-abbrev pub digit : ℕ → Bool
-digit byte = leb 48 byte && leb byte 57
-
--- the field is a decimal, given that n digits with value v come before these bytes
-unfoldable pub decimalFrom : ℕ → ℕ → List ℕ → Bool
-decimalFrom n v [] = ltb 0 n
-decimalFrom n v (byte ∷ bytes) =
-    digit byte
-    && not (ltb 0 n && eqb v 0)
-    && leb (10 * v + (byte - 48)) 4294967295
-    && decimalFrom (suc n) (10 * v + (byte - 48)) bytes
-
--- more digits do not make the value smaller
-pub value-least : (v : ℕ) (bytes : List ℕ) → v ≤ valueFrom v bytes
-unfolding valueFrom
-value-least v [] = omega arith
-value-least v (byte ∷ bytes) = let h = value-least (10 * v + (byte - 48)) bytes in omega arith
-
--- after a digit that is not a leading zero
-pub decimal-more : (n v : ℕ) (bytes : List ℕ) → 0 < n → 0 < v → v ≤ 4294967295
-    → decimalFrom n v bytes ≡ (all digit bytes && leb (valueFrom v bytes) 4294967295)
-unfolding decimalFrom all valueFrom
-decimal-more n v [] some big small = rw (lt-ltb _ _ some, le-leb _ _ small)
-decimal-more n v (byte ∷ bytes) some big small =
-    let v′ = 10 * v + (byte - 48) in
-    let nz : v ≡ 0 → ⊥ = λ e. omega arith in
-    elim (split (digit byte)) [
-      | inr e ↦ rw e
-      | inl e ↦ elim (split (leb v′ 4294967295)) [
-        | inl f ↦ rw (e, ne-eqb v 0 nz, lt-ltb 0 n some, f) (decimal-more (suc n) v′ bytes (omega arith) (omega arith) (leb-true v′ 4294967295 f))
-        | inr f ↦
-            let over : 4294967295 < valueFrom v′ bytes = omega (arith, leb-false v′ 4294967295 f, value-least v′ bytes) in
-            rw (e, ne-eqb v 0 nz, lt-ltb 0 n some, f, lt-leb (valueFrom v′ bytes) 4294967295 over) (sym (and-false (all digit bytes)))
-      ]
-    ]
-
--- one digit
-decimal-one : (byte : ℕ) → isDecimal (byte ∷ []) ≡ decimalFrom 0 0 (byte ∷ [])
-unfolding isDecimal decimalFrom all valueFrom
-decimal-one byte = shorter (digit byte) (leb (10 * 0 + (byte - 48)) 4294967295)
-  where
-    shorter : (a d : Bool) → (a && true && true && true && d) ≡ (a && true && d && true)
-    shorter true d = sym (and-true d)
-    shorter false d = refl
-
--- two digits or more
-decimal-long : (byte : ℕ) (bytes : List ℕ) → 0 < length bytes
-    → isDecimal (byte ∷ bytes)
-    ≡ (digit byte && not (eqb byte 48) && (all digit bytes && leb (valueFrom (10 * 0 + (byte - 48)) bytes) 4294967295))
-unfolding isDecimal all valueFrom
-decimal-long byte bytes some =
-    let one : length (byte ∷ bytes) ≡ 1 → ⊥ = λ e. omega arith in
-    let none : 0 < length (byte ∷ bytes) = omega arith in
-    shorter (digit byte) (all digit bytes) (ltb 0 (length (byte ∷ bytes))) (eqb (length (byte ∷ bytes)) 1) (not (eqb byte 48)) (leb (valueFrom (10 * 0 + (byte - 48)) bytes) 4294967295)
-    (lt-ltb 0 (length (byte ∷ bytes)) none) (ne-eqb (length (byte ∷ bytes)) 1 one)
-  where
-    shorter : (a b t f c d : Bool) → t ≡ true → f ≡ false → (a && b && t && (f || c) && d) ≡ (a && c && (b && d))
-    shorter true true true false c d p q = refl
-    shorter true false true false true d p q = refl
-    shorter true false true false false d p q = refl
-    shorter false b true false c d p q = refl
-    shorter a b false f c d p q = absurd (false≢true p)
-    shorter a b true true c d p q = absurd (false≢true (sym q))
-
--- after a leading zero
-decimal-zero : (bytes : List ℕ) → 0 < length bytes → decimalFrom 1 0 bytes ≡ false
-unfolding decimalFrom
-decimal-zero [] some = absurd (omega arith)
-decimal-zero (byte ∷ bytes) some = rw (and-false (digit byte))
-
--- a whole field
-pub decimal-start : (field : List ℕ) → isDecimal field ≡ decimalFrom 0 0 field
-unfolding isDecimal decimalFrom all
-decimal-start [] = refl
-decimal-start (byte ∷ []) = decimal-one byte
-decimal-start (byte ∷ next ∷ bytes) =
-    let v = 10 * 0 + (byte - 48) in
-    let some : 0 < length (next ∷ bytes) = omega arith in
-    decimal-long byte (next ∷ bytes) some
-    ∙ elim (split (digit byte)) [
-      | inr e ↦ rw e
-      | inl e ↦
-          let low : 48 ≤ byte = leb-true 48 byte (and-left (leb 48 byte) (leb byte 57) e) in
-          let high : byte ≤ 57 = leb-true byte 57 (and-right (leb 48 byte) (leb byte 57) e) in
-          let fits : v ≤ 4294967295 = omega arith in
-          elim (split (eqb byte 48)) [
-            | inl f ↦
-                let zero : v ≡ 0 = omega (arith, eqb-true byte 48 f) in
-                rw (e, f, zero) (sym (decimal-zero (next ∷ bytes) some))
-            | inr f ↦
-                let big : 0 < v = omega (arith, eqb-false byte 48 f) in
-                rw (e, f, le-leb v 4294967295 fits) (sym (decimal-more 1 v (next ∷ bytes) (omega arith) big fits))
-          ]
-    ]
-
--- a decimal has a digit
-pub decimal-some : (field : List ℕ) → isDecimal field ≡ true → 0 < length field
-decimal-some [] e = absurd (false≢true (unfold isDecimal all in e))
-decimal-some (byte ∷ bytes) e = omega arith
 
 -- ---- which lines are a letter and decimals
 

@@ -1,22 +1,14 @@
 -- A decimal that `levels` reads is the written form of its value. Assumes nothing.
-use Rattle.listing_spec.specs.Laws.Prelude.{ℕ, zero, suc, _+_, _-_, _*_, _/_, _%_, _^_, _≤_, _<_, _≡_, refl, sym, ap, _∙_, true, not, _&&_, _||_, false≢true, List, [], _∷_, _++_, append-nil, append-assoc, zero-add, pow-succ', arith, leb, ltb, eqb, length, getD, ne-eqb, le-ltb, lt-ltb, leb-true, all-head, all-tail, and-left, and-right, digit}
+use Rattle.listing_spec.specs.Laws.Prelude.{ℕ, zero, suc, _+_, _-_, _*_, _/_, _%_, _^_, _≤_, _<_, _≡_, refl, sym, ap, _∙_, true, not, _&&_, _||_, false≢true, List, [], _∷_, _++_, append-nil, append-assoc, zero-add, pow-succ', arith, leb, ltb, eqb, length, getD, ne-eqb, le-ltb, lt-ltb, leb-true, all-head, all-tail, and-left, and-right, digit, digit-byte}
 use Rattle.lists.specs.Lists.{all}
 use Rattle.levels_text.specs.Lines.{valueFrom, isDecimal}
 use Rattle.levels_text.specs.Written.{digitsIn, decimal}
-
-module _ (d : ℕ) (h : digit d ≡ true) where
-  digit-low : 48 ≤ d
-  digit-low = leb-true 48 d (and-left (leb 48 d) (leb d 57) h)
-
-  digit-high : d ≤ 57
-  digit-high = leb-true d 57 (and-right (leb 48 d) (leb d 57) h)
 
 -- one more digit after a number that is not 0
 digits-more : (places v d : ℕ) → digit d ≡ true → 0 < v → digitsIn (suc places) (10 * v + (d - 48)) ≡ digitsIn places v ++ (d ∷ [])
 unfolding digitsIn
 digits-more places v d h some =
-    let low = digit-low d h in
-    let high = digit-high d h in
+    let byte = digit-byte d h in
     let big : 10 ≤ 10 * v + (d - 48) = omega arith in
     let front : (10 * v + (d - 48)) / 10 ≡ v = omega arith in
     let last : 48 + (10 * v + (d - 48)) % 10 ≡ d = omega arith in
@@ -44,7 +36,7 @@ value-below : (places v : ℕ) (ds : List ℕ) → all digit ds ≡ true → v <
 unfolding valueFrom
 value-below places v [] h below = rw (zero-add places) below
 value-below places v (d ∷ ds) h below =
-    let high = digit-high d (digit-first d ds h) in
+    let byte = digit-byte d (digit-first d ds h) in
     let more : suc (length ds) + places ≡ length ds + suc places = omega arith in
     let next : 10 * v + (d - 48) < 10 ^ suc places = rw (pow-succ' 10 places) (omega arith) in
     rw more (value-below (suc places) (10 * v + (d - 48)) ds (digits-rest d ds h) next)
@@ -63,8 +55,7 @@ places-enough (suc p) (suc q) n a b =
 one-digit : (places d : ℕ) → digit d ≡ true → digitsIn (suc places) (d - 48) ≡ d ∷ []
 unfolding digitsIn
 one-digit places d h =
-    let low = digit-low d h in
-    let high = digit-high d h in
+    let byte = digit-byte d h in
     let small : d - 48 < 10 = omega arith in
     let back : 48 + (d - 48) ≡ d = omega arith in
     rw (lt-ltb (d - 48) 10 small, back)
@@ -103,8 +94,7 @@ decimal-back (d ∷ []) e = rw (value-first d [], value-none (d - 48)) (one-digi
 decimal-back (d ∷ x ∷ ds) e =
     let p = decimal-parts (d ∷ x ∷ ds) e in
     let first = digit-first d (x ∷ ds) (p .digits) in
-    let low = digit-low d first in
-    let high = digit-high d first in
+    let byte = digit-byte d first in
     let leads : d ≡ 48 → ⊥ = λ z. false≢true (rw (ne-eqb (length (d ∷ x ∷ ds)) 1 (λ e. omega arith), z) at (p .no-zero)) in
     let many : length (x ∷ ds) + 1 ≡ suc (suc (length ds)) = omega arith in
     let below : valueFrom (d - 48) (x ∷ ds) < 10 ^ suc (suc (length ds)) = rw many at (value-below 1 (d - 48) (x ∷ ds) (digits-rest d (x ∷ ds) (p .digits)) (omega arith)) in

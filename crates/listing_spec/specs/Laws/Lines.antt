@@ -4,7 +4,8 @@ use Rattle.listing_spec.specs.Laws.Prelude.{ℕ, suc, _+_, _*_, _≤_, _
 use Rattle.lists.specs.Lists.{all, flatten, elem}
 use Rattle.levels_text.specs.Lines.{valueFrom, isDecimal, isLine, letter, numbers, fields}
 use Rattle.levels_text.specs.Written.{decimal, field, textLine}
-use Rattle.levels_text.specs.Laws.Lines.{first, others, first-comma, first-more, others-comma, others-more, digit, is-line}
+use Rattle.levels_text.specs.Laws.Lines.{first, others, first-comma, first-more, others-comma, others-more, is-line}
+use Rattle.levels_text.specs.Laws.Digits.{digit}
 use Rattle.listing_spec.specs.Listings.{areNumbers}
 use Rattle.listing_spec.specs.Laws.Decimals.{decimal-back, decimal-parts}
 

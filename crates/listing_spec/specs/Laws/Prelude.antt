@@ -13,7 +13,7 @@ pub use lib.ListN.{List·getD-append, drop, getD, length, length-append, length-
 pub use lib.Seq.{getD-at, getD-take, length-take-le, take-all, take-at, take-suc}
 pub use borrow.Author.Tests.{eq-eqb, eqb-false, eqb-true, le-leb, le-ltb, leb-true, lt-ltb, ltb-true, ne-eqb}
 pub use Rattle.levels_text.specs.Laws.Decimals.{fields-more, length-fields, length-line}
-pub use Rattle.levels_text.specs.Laws.Lines.{digit}
+pub use Rattle.levels_text.specs.Laws.Digits.{digit, digit-byte}
 pub use Rattle.levels_text.specs.Laws.Reads.{decimal-read, decimal-value}
 pub use Rattle.levels_text.specs.Lines.{isLine, letter, numbers}
 pub use Rattle.levels_text.specs.Written.{field, textLine}
