@@ -25,7 +25,7 @@ keyAt t rows i = take (t .keys) (rowAt (t .columns) i rows)
 
 -- the number of rows that the slots in use are sized for: a size class, at most the capacity. There are two slots for each
 unfoldable pub sizeClass : ℕ → ℕ
-sizeClass rows = cond (leb rows 128) 128 (cond (leb rows 512) 512 (cond (leb rows 2048) 2048 (cond (leb rows 8192) 8192 (cond (leb rows 32768) 32768 65536))))
+sizeClass rows = cond (leb rows 128) 128 (cond (leb rows 512) 512 (cond (leb rows 2048) 2048 (cond (leb rows 8192) 8192 65536)))
 
 unfoldable pub sizeClassFor : ℕ → ℕ → ℕ
 sizeClassFor capacity rows = min capacity (sizeClass rows)

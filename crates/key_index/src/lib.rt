@@ -35,7 +35,7 @@ const HASH_RANGE: u32 = 0x8000;
 // The most rows that a table has.
 pub const MOST_ROWS: u32 = 65536;
 
-// The size classes below the largest, which is `MOST_ROWS`: each is four times the one before.
+// The size classes below the largest, which is `MOST_ROWS`.
 const FIRST_CLASS: u32 = 128;
 
 const SECOND_CLASS: u32 = 512;
@@ -44,17 +44,12 @@ const THIRD_CLASS: u32 = 2048;
 
 const FOURTH_CLASS: u32 = 8192;
 
-const FIFTH_CLASS: u32 = 32768;
-
 // The size class for this many rows, regardless of the capacity. The largest class is tested first.
 fn size_class(rows: u32) -> u32
     ensures { λ r. ⌜ r ≡ sizeClass rows ⌝ }
 {
-    if FIFTH_CLASS < rows {
-        return MOST_ROWS;
-    }
     if FOURTH_CLASS < rows {
-        return FIFTH_CLASS;
+        return MOST_ROWS;
     }
     if THIRD_CLASS < rows {
         return FOURTH_CLASS;

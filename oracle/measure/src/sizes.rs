@@ -190,7 +190,7 @@ fn is_found(rows: &[u32], slots: &[u32], key: &[u32], row: u32) -> bool {
 fn is_sound(both: &Both) -> bool {
     let s = both.ours.stores();
     let h = &s.header;
-    let class = [128, 512, 2_048, 8_192, 32_768, LARGE]
+    let class = [128, 512, 2_048, 8_192, LARGE]
         .into_iter()
         .find(|&class| h.rows <= class);
     let slots = &s.keys[..2 * class.unwrap_or(LARGE).min(h.capacity) as usize];

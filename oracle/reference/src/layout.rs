@@ -25,10 +25,10 @@ pub fn row_of(word: u32) -> Option<u32> {
     (word % (1 << 17)).checked_sub(1)
 }
 
-/// "The first 2 × room are in use. The room is the least of 128, 512, 2,048, 8,192, 32,768 and 65,536 that is not below the row
-/// count, but at most the capacity."
+/// "The first 2 × room are in use. The room is the least of 128, 512, 2,048, 8,192 and 65,536 that is not below the row count, but
+/// at most the capacity."
 pub fn slots_in_use(capacity: u32, rows: u32) -> usize {
-    let steps = [128, 512, 2_048, 8_192, 32_768, 65_536];
+    let steps = [128, 512, 2_048, 8_192, 65_536];
     let step = steps.into_iter().find(|&step| rows <= step);
     2 * step.map_or(capacity, |step| step.min(capacity)) as usize
 }

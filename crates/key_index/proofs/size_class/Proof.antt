@@ -9,9 +9,8 @@ unfolding sizeClass
 size-class-spec =
     tie.close
     (tie.spec
-    (λ c. let r = c .before .args .rows in rw (lt-leb r 128 (omega arith), lt-leb r 512 (omega arith), lt-leb r 2048 (omega arith), lt-leb r 8192 (omega arith), lt-leb r 32768 (omega arith)))
-    (λ c. let r = c .before .before .args .rows in rw (lt-leb r 128 (omega arith), lt-leb r 512 (omega arith), lt-leb r 2048 (omega arith), lt-leb r 8192 (omega arith), le-leb r 32768 (omega arith)))
-    (λ c. let r = c .before .before .before .args .rows in rw (lt-leb r 128 (omega arith), lt-leb r 512 (omega arith), lt-leb r 2048 (omega arith), le-leb r 8192 (omega arith)))
-    (λ c. let r = c .before .before .before .before .args .rows in rw (lt-leb r 128 (omega arith), lt-leb r 512 (omega arith), le-leb r 2048 (omega arith)))
-    (λ c. let r = c .before .before .before .before .before .args .rows in rw (lt-leb r 128 (omega arith), le-leb r 512 (omega arith)))
-    (λ c. let r = c .before .before .before .before .before .args .rows in rw (le-leb r 128 (omega arith))))
+    (λ c. let r = c .before .args .rows in rw (lt-leb r 128 (omega arith), lt-leb r 512 (omega arith), lt-leb r 2048 (omega arith), lt-leb r 8192 (omega arith)))
+    (λ c. let r = c .before .before .args .rows in rw (lt-leb r 128 (omega arith), lt-leb r 512 (omega arith), lt-leb r 2048 (omega arith), le-leb r 8192 (omega arith)))
+    (λ c. let r = c .before .before .before .args .rows in rw (lt-leb r 128 (omega arith), lt-leb r 512 (omega arith), le-leb r 2048 (omega arith)))
+    (λ c. let r = c .before .before .before .before .args .rows in rw (lt-leb r 128 (omega arith), le-leb r 512 (omega arith)))
+    (λ c. let r = c .before .before .before .before .args .rows in rw (le-leb r 128 (omega arith))))

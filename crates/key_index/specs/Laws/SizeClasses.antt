@@ -13,8 +13,7 @@ step-is : (rows : ℕ) → Step rows (sizeClass rows)
 unfolding sizeClass
 step-is rows =
     let largest : Step rows 65536 = record { some = omega arith; enough = λ e. e } in
-    step-or rows 128 _ (omega arith)
-    (step-or rows 512 _ (omega arith) (step-or rows 2048 _ (omega arith) (step-or rows 8192 _ (omega arith) (step-or rows 32768 _ (omega arith) largest))))
+    step-or rows 128 _ (omega arith) (step-or rows 512 _ (omega arith) (step-or rows 2048 _ (omega arith) (step-or rows 8192 _ (omega arith) largest)))
 
 module _ (capacity rows : ℕ) where
   pub sizeClass-most : sizeClassFor capacity rows ≤ capacity
