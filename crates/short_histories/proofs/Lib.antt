@@ -1,2 +1,3 @@
 mod Prelude
 pub mod LoopSteps
+pub mod RaisingSteps

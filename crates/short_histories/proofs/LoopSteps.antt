@@ -32,7 +32,7 @@ module _ (s : List ℕ) where
 
 -- ---- a position counted up
 
-every-take : (s : List ℕ) (i : ℕ) → Steps s → Steps (take i s)
+pub every-take : (s : List ℕ) (i : ℕ) → Steps s → Steps (take i s)
 every-take s i e =
     all-of (λ step. ltb step 7) 0 (take i s)
     (λ j h.

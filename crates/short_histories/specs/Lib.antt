@@ -1,2 +1,3 @@
 pub mod Sequences
 pub mod Laws
+pub mod inner

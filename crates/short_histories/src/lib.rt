@@ -4,9 +4,10 @@
 ghost use mathlib.Core.Path.{_≡_};
 ghost use mathlib.Core.Bool.{true};
 ghost use Prim.Native.Nat.{_≤_, _<_};
-ghost use lib.ListN.{length};
+ghost use lib.ListN.{length, getD};
 ghost use Rattle.lists.specs.Lists.{splice};
 ghost use Rattle.short_histories.specs.Sequences.{sequenceAt, positionOf, known, StepAnswered, PositionAnswered, SequenceFound, NextFound};
+ghost use Rattle.short_histories.specs.inner.Raised.{RaisedEnd, raised, ToRaise};
 use refusals::PAST_THE_LAST;
 use refusals::TOO_SHORT;
 use refusals::UNKNOWN_SEQUENCE;
@@ -15,6 +16,8 @@ use refusals::UNKNOWN_SEQUENCE;
 const SEQUENCES: u32 = 137257;
 
 const STEPS: u32 = 7;
+
+const LAST_STEP: u32 = STEPS - 1;
 
 const LONGEST: usize = 6;
 
@@ -138,6 +141,60 @@ pub fn sequence_at(position: u32, output: &mut [u32]) -> SequenceAnswer
     SequenceAnswer::Written(steps as u32)
 }
 
+// ---- the next sequence, as an odometer counts
+
+// The number of steps up to the last one that can be raised. All steps behind it are 6; 0 if all steps are.
+fn raised_end(sequence: &[u32]) -> usize
+    ensures { λ r. ⌜ RaisedEnd (now (sequence .entry)) r ⌝ }
+{
+    let mut end = sequence.len();
+    while 0 < end {
+        if sequence[end - 1] != LAST_STEP {
+            return end;
+        }
+        end -= 1;
+    }
+    end
+}
+
+// The number of steps of the next sequence.
+fn raised_length(sequence: &[u32], end: usize) -> usize
+    requires { ⌜ ToRaise (now sequence) end ⌝ }
+    ensures { λ r. ⌜ r ≡ length (raised (now (sequence .entry)) end) ⌝ }
+{
+    if end == 0 {
+        return sequence.len() + 1;
+    }
+    sequence.len()
+}
+
+// A step of the next sequence.
+fn raised_step(sequence: &[u32], end: usize, at: usize) -> u32
+    requires { ⌜ ToRaise (now sequence) end ⌝ }
+    ensures { λ r. ⌜ r ≡ getD (raised (now (sequence .entry)) end) at 0 ⌝ }
+{
+    if end <= at {
+        return 0;
+    }
+    let step = sequence[at];
+    if at + 1 < end {
+        return step;
+    }
+    step + 1
+}
+
+// Writes the next sequence to the start of the output.
+fn write_raised(sequence: &[u32], end: usize, steps: usize, output: &mut [u32])
+    requires { ⌜ ToRaise (now sequence) end × (steps ≡ length (raised (now sequence) end)) × (steps ≤ length (now output)) ⌝ }
+    ensures { λ _. ⌜ now (output .exit) ≡ splice (now (output .entry)) 0 (raised (now (sequence .entry)) end) ⌝ }
+{
+    let mut at = 0;
+    while at < steps {
+        output[at] = raised_step(sequence, end, at);
+        at += 1;
+    }
+}
+
 // Writes the sequence after this one to the start of the output, and returns its number of steps; none after the last. From the
 // empty sequence on it generates all others.
 pub fn next_sequence(sequence: &[u32], output: &mut [u32]) -> SequenceAnswer
@@ -146,9 +203,14 @@ pub fn next_sequence(sequence: &[u32], output: &mut [u32]) -> SequenceAnswer
     if !is_known(sequence) {
         return SequenceAnswer::Refused(UNKNOWN_SEQUENCE);
     }
-    let position = known_position(sequence) + 1;
-    if position >= SEQUENCES {
+    let end = raised_end(sequence);
+    let steps = raised_length(sequence, end);
+    if LONGEST < steps {
         return SequenceAnswer::None;
     }
-    sequence_at(position, output)
+    if output.len() < steps {
+        return SequenceAnswer::Refused(TOO_SHORT);
+    }
+    write_raised(sequence, end, steps, output);
+    SequenceAnswer::Written(steps as u32)
 }

@@ -1,18 +1,27 @@
 -- `short_histories::next_sequence` meets its contract. Assumes nothing.
-use Rattle.short_histories.proofs.Prelude.{sym, _∙_, not-true, not-false, needs, next-unknown, next-none, next-written}
+use Rattle.short_histories.proofs.Prelude.{sym, _∙_, not-true, needs, next-unknown}
+use Rattle.short_histories.proofs.RaisingSteps.{to-raise, raised-none, raised-no-room, raised-written}
 use Rattle.short_histories.proofs.next_sequence.Statement.{statement}
 use Rattle.short_histories.proofs.next_sequence.Tie as tie
 
 returns-2 : tie.Need-returns-2
-returns-2 c = next-none _ _ (sym (c .before .before .before .is-known .ensures) ∙ not-false _ (c .before .before .if1 .left)) _ (c .before .known-position .ensures .0) (c .if2 .taken)
+returns-2 c = raised-none _ _ (to-raise (c .before .before .before .before .is-known .ensures) (c .before .before .before .if1 .left) (c .before .before .raised-end .ensures)) _ _ (c .before .raised-length .ensures) (c .if2 .taken)
 
 returns-3 : tie.Need-returns-3
-returns-3 c = next-written _ _ (sym (c .before .before .before .before .before .before .before .is-known .ensures) ∙ not-false _ (c .before .before .before .before .before .before .if1 .left)) _ (c .before .before .before .before .before .known-position .ensures .0) (c .before .before .before .before .if2 .left) _ _ (c .before .before .sequence-at .ensures)
+returns-3 c =
+    raised-no-room _ _ (to-raise (c .before .before .before .before .before .is-known .ensures) (c .before .before .before .before .if1 .left) (c .before .before .before .raised-end .ensures)) _ _ (c .before .before .raised-length .ensures) (c .before .if2 .left) (c .if3 .taken)
+
+write-raised-requires : tie.Need-write-raised-requires
+write-raised-requires c κs = ((to-raise (c .before .before .before .before .before .before .is-known .ensures) (c .before .before .before .before .before .if1 .left) (c .before .before .before .before .raised-end .ensures)), c .before .before .before .raised-length .ensures, c .before .if3 .left)
+
+returns-4 : tie.Need-returns-4
+returns-4 c =
+    raised-written _ _ (to-raise (c .before .before .before .before .before .before .before .before .before .is-known .ensures) (c .before .before .before .before .before .before .before .before .if1 .left) (c .before .before .before .before .before .before .before .raised-end .ensures)) _ _ (c .before .before .before .before .before .before .raised-length .ensures) (c .before .before .before .before .before .if2 .left) (c .before .before .before .before .if3 .left) _ (c .before .before .write-raised .ensures)
 
 pub next-sequence-spec : {M : Type 1} → statement M
 next-sequence-spec =
     tie.close
     (tie.spec
     (λ c κs. search needs) (λ c. next-unknown _ _ (sym (c .before .is-known .ensures) ∙ not-true _ (c .if1 .taken)))
-    (λ c κs. sym (c .before .is-known .ensures) ∙ not-false _ (c .if1 .left)) (λ c. search needs) returns-2
-    (λ c κs. search needs) (λ c. search needs) returns-3)
+    (λ c κs. search needs) (λ c κs. to-raise (c .before .before .is-known .ensures) (c .before .if1 .left) (c .raised-end .ensures)) returns-2 returns-3 write-raised-requires (λ c. search needs)
+    (λ c. search needs) returns-4)

@@ -1,0 +1,2 @@
+-- Contracts of functions that no user calls.
+pub mod Raised
