@@ -1,5 +1,6 @@
 mod Prelude
 pub mod FindSteps
+pub mod NewPutSteps
 pub mod PutSteps
 pub mod ScanSteps
 pub mod ShiftSteps

@@ -12,7 +12,7 @@ pub use Rattle.key_index.specs.Laws.BackwardShift.{backwardShift-length,
 pub use Rattle.key_index.specs.inner.BackwardShift.{RowRemoved, Shifted, backwardShift}
 pub use Rattle.key_index.specs.inner.Window.{Ahead, hasBits, isFree}
 pub use Rattle.key_index.specs.declared.Found.the-variants.{At, None}
-pub use Rattle.key_index.specs.inner.Index.{EmptyIs, FoundAt, FoundIs, HitIs, Leads, PutIs, RowsIn, zeros}
+pub use Rattle.key_index.specs.inner.Index.{EmptyIs, FoundAt, FoundIs, HitIs, Leads, NewPutIs, PutIs, RowsFit, RowsIn, zeros}
 pub use Rattle.key_index.specs.declared.IndexShape.{IndexShape}
 pub use Rattle.key_index.specs.Laws.Places.{Inside, key-part, row-inside}
 pub use Rattle.key_index.specs.Slots.{KeysSound, LiveAt, ReachableAt, home, keyAt, slotFrom, slots, word}
@@ -26,7 +26,8 @@ pub use mathlib.Core.Logic.{inl, inr}
 pub use Rattle.row_buffer.specs.Laws.Rows.{key-row}
 pub use lib.Dec.{leb}
 pub use Rattle.lists.specs.Laws.All.{or-no-left, or-no-right, or-second}
-pub use Rattle.key_index.specs.Laws.Index.{rows-in}
+pub use Rattle.key_index.specs.Laws.Index.{free-slot, rows-in}
+pub use Rattle.key_index.specs.Laws.Longer.{keys-longer, roomy, roomy-fits}
 pub use Rattle.lists.specs.Lists.{same, splice}
 pub use Rattle.lists.specs.Laws.Rising.{same-eq, same-refl}
 pub use Rattle.lists.specs.Laws.Filter.{split}

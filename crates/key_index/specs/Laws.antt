@@ -2,6 +2,7 @@
 mod Prelude
 pub mod Index
 pub mod Lines
+pub mod Longer
 pub mod Pigeonhole
 pub mod Places
 pub mod Rows

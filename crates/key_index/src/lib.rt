@@ -8,7 +8,7 @@ ghost use lib.ListN.{length, getD, set};
 ghost use Rattle.cells.specs.Cells.{compactHash, keyHash};
 ghost use Rattle.key_index.specs.Slots.{keyAt, sizeClass, sizeClassFor, slots, slotFrom};
 ghost use Rattle.key_index.specs.inner.Ring.{spread, tagged, namesRow};
-ghost use Rattle.key_index.specs.inner.Index.{SlotsFit, RowsIn, Fits, HitIs, FoundIs, PutIs, EmptyIs};
+ghost use Rattle.key_index.specs.inner.Index.{SlotsFit, RowsIn, Fits, RowsFit, HitIs, FoundIs, PutIs, NewPutIs, EmptyIs};
 ghost use Rattle.key_index.specs.inner.Window.{isFree, hasBits, someOf, Ahead, FreeSoon, TakenRun};
 
 pub mod remove; // remove.rt: a row removed by backward-shift deletion
@@ -329,6 +329,37 @@ pub fn put(t: IndexShape, store: &mut [u32], hash: u32, row: u32) -> bool
         }
         place = next_slot(slots, place);
         taken += 1;
+    }
+    false
+}
+
+// Writes a new row to the first free slot from its key's home on, unless a slot before it leads to a row with the key. Returns false,
+// and writes nothing, in that case, and if no slot is free.
+pub fn put_new(
+    t: IndexShape,
+    rows: &[u32],
+    store: &mut [u32],
+    key: &[u32],
+    hash: u32,
+    row: u32,
+) -> bool
+    requires { ⌜ (RowsFit t (now rows) (now store)) × (length (now key) ≡ t .keys) × (row < 65536) ⌝ }
+    ensures { λ r. ⌜ NewPutIs t (now (rows .entry)) (now (store .entry)) (now (key .entry)) hash row r (now (store .exit)) ⌝ }
+{
+    let slots = 2 * t.room;
+    let mut at = home_slot(slots, hash);
+    let mut passed: u32 = 0;
+    while passed < slots {
+        let word = store[at as usize];
+        if word == 0 {
+            store[at as usize] = slot_word(hash, row);
+            return true;
+        }
+        if is_hit(t, rows, key, hash, word) {
+            return false;
+        }
+        at = next_slot(slots, at);
+        passed += 1;
     }
     false
 }

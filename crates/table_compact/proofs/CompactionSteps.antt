@@ -252,7 +252,7 @@ module _ {h : Header} {rows₀ sorts₀ live₀ base₀ : List ℕ} (c : Closabl
 
     pub spaced : Spaced rows (first * h .columns) (h .columns) count
     spaced =
-        let a : (first + count) * h .columns ≤ h .capacity * h .columns = mul-le-mul-right (h .columns) (omega (arith, c .movable .within .count)) in
+        let a : (first + count) * h .columns ≤ h .rows * h .columns = mul-le-mul-right (h .columns) (omega arith) in
         let d : (first + count) * h .columns ≡ first * h .columns + count * h .columns = add-mul first count (h .columns) in
         record {
           few = omega arith;

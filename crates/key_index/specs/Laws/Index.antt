@@ -1,6 +1,6 @@
 -- Laws of a sound key store: a slot is free, the functions preserve soundness, and a lookup finds what a scan of the rows finds.
 -- Assumes nothing.
-use Rattle.key_index.specs.Laws.Prelude.{ℕ, zero, suc, _+_, _*_, _≤_, _<_, _≡_, refl, sym, ap, _∙_, _⊎_, inl, inr, Bool, true, List, zero-add, decLt, ℕ-discrete, arith, length, drop, getD, set, length-replicate, getD-replicate, drop-set-lt, getD-set-same, getD-set-other, splice, same, split, getD-splice-in, IndexShape, LiveAt, keyAt, slots, word, home, slotFrom, ReachableAt, KeysSound, RowsIn, Fits, FirstFree, FoundAt, FirstHit, PutIs, zeros, EmptyIs}
+use Rattle.key_index.specs.Laws.Prelude.{ℕ, zero, suc, _+_, _*_, _≤_, _<_, _≡_, refl, sym, ap, _∙_, _⊎_, inl, inr, Bool, true, List, zero-add, mul-le-mul-right, decLt, ℕ-discrete, arith, length, drop, getD, set, length-replicate, getD-replicate, drop-set-lt, getD-set-same, getD-set-other, splice, same, split, getD-splice-in, IndexShape, LiveAt, keyAt, slots, word, home, slotFrom, ReachableAt, KeysSound, RowsIn, Fits, FirstFree, FoundAt, FirstHit, PutIs, zeros, EmptyIs}
 use Rattle.cells.specs.Cells.{compactHash, keyHash}
 use Rattle.key_index.specs.inner.Ring.{tagged, rowNamed}
 use Rattle.key_index.specs.Laws.Ring.{home-spread, word-tagged, word-some, word-row, word-same, slot-below}
@@ -8,7 +8,13 @@ use Rattle.key_index.specs.Laws.Pigeonhole.{pigeonhole}
 
 pub rows-in : (t : IndexShape) (rows store : List ℕ) → Fits t rows store → RowsIn t rows
 rows-in t rows store f =
-    record { most-columns = f .most-columns; most-keys = f .most-keys; most = f .most; count = f .count; cells = f .cells }
+    record {
+      most-columns = f .most-columns;
+      most-keys = f .most-keys;
+      most = f .most;
+      count = f .count;
+      cells = omega (arith, f .cells, mul-le-mul-right (t .columns) (f .count));
+    }
 
 -- ---- a slot is free
 

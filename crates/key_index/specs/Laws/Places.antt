@@ -13,7 +13,7 @@ inside rows columns count row few narrow long h =
     record { in-store = omega arith; small = omega arith }
 
 pub row-inside : (t : IndexShape) (rows : List ℕ) (row : ℕ) → RowsIn t rows → row < t .rows → Inside rows (t .columns) row
-row-inside t rows row f h = inside rows (t .columns) (t .room) row (f .most) (f .most-columns) (f .cells) (omega (arith, f .count))
+row-inside t rows row f h = inside rows (t .columns) (t .rows) row (omega (arith, f .most, f .count)) (f .most-columns) (f .cells) h
 
 -- the borrowed part of a row is its key
 pub key-part : (t : IndexShape) (rows : List ℕ) (row : ℕ) → t .keys ≤ t .columns → let from = row * t .columns in

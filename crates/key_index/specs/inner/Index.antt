@@ -24,7 +24,7 @@ pub record RowsIn (t : IndexShape) (rows : List ℕ) : Type 0 where
   pub most-keys : t .keys ≤ t .columns
   pub most : t .room ≤ 65536
   pub count : t .rows ≤ t .room
-  pub cells : t .room * t .columns ≤ length rows
+  pub cells : t .rows * t .columns ≤ length rows
 
 -- a table's numbers are within their bounds, and its stores are long enough
 pub record Fits (t : IndexShape) (rows store : List ℕ) : Type 0 where
@@ -37,6 +37,13 @@ pub record Fits (t : IndexShape) (rows store : List ℕ) : Type 0 where
   pub count : t .rows ≤ t .room
   pub cells : t .room * t .columns ≤ length rows
   pub long : 2 * t .room ≤ length store
+
+-- the same for a row store without room for more rows
+pub record RowsFit (t : IndexShape) (rows store : List ℕ) : Type 0 where
+  pub some-columns : 1 ≤ t .columns
+  pub some-keys : 1 ≤ t .keys
+  pub within : RowsIn t rows
+  pub slots-fit : SlotsFit (t .room) store
 
 -- live rows have different keys
 abbrev pub KeysDiffer : IndexShape → List ℕ → Type 0
@@ -90,6 +97,12 @@ pub record PutIs (n : ℕ) (store : List ℕ) (hash row : ℕ) (r : Bool) (store
   pub full : r ≡ false → (slot : ℕ) → slot < n → getD store slot 0 ≡ 0 → ⊥
   pub kept : r ≡ false → store′ ≡ store
   pub tail : drop n store′ ≡ drop n store
+
+-- the word is written as by `put` if no live row has the key; this and the converse hold for a sound store and the key's own hash
+pub record NewPutIs (t : IndexShape) (rows store key : List ℕ) (hash row : ℕ) (r : Bool) (store′ : List ℕ) : Type 0 where
+  pub put : r ≡ true → PutIs (slots t) store hash row true store′
+  pub new : r ≡ true → hash ≡ compactHash (keyHash key) → KeysSound t rows store → (i : ℕ) → LiveAt t rows i → keyAt t rows i ≡ key → ⊥
+  pub known : r ≡ false → hash ≡ compactHash (keyHash key) → KeysSound t rows store → (i : ℕ) × LiveAt t rows i × (keyAt t rows i ≡ key)
 
 -- n free slots
 abbrev pub zeros : ℕ → List ℕ
