@@ -1,3 +1,4 @@
 mod Prelude
 pub mod RebuildSteps
 pub mod RenumberSteps
+pub mod UniqueSteps

@@ -2,23 +2,25 @@
 use Rattle.key_rebuild.proofs.Prelude.{ℕ, _+_, _*_, _≤_, _<_, _≡_, refl, ap, sym, _∙_, Bool, true, false, not, false≢true, List, arith, length, getD, drop, rowAt, isLive, live-first, IndexShape, keyAt, slots, KeysSound, Fits, PutIs, EmptyIs, keys-same, empty-sound, emptied, put-sound, fits-fewer, grown-rows, firstRows, RowPut, Rebuilt}
 use Rattle.cells.specs.Cells.{isDead, compactHash, keyHash}
 
+-- slots that lead to the rows before a dead row lead to the rows up to it
+pub dead-sound : (t : IndexShape) (rows store : List ℕ) (row : ℕ) → isLive (rowAt (t .columns) row rows) ≡ false
+    → KeysSound (firstRows t row) rows store → KeysSound (firstRows t (row + 1)) rows store
+dead-sound t rows store row dead s =
+    keys-same (firstRows t row) (firstRows t (row + 1)) rows rows store s
+    (record {
+      room = refl;
+      keeps = λ i l. (omega (arith, l .0), l .1);
+      only = λ i l. let ne : i ≡ row → ⊥ = λ q. false≢true (sym dead ∙ rw q at (l .1)) in (omega (arith, l .0), l .1);
+      key = λ i l. refl;
+    })
+
 module _ (t : IndexShape) (rows store : List ℕ) (row : ℕ) (f : Fits t rows store) (h : row < t .rows) where
   by-first : isLive (rowAt (t .columns) row rows) ≡ not (isDead (getD rows (row * t .columns) 0))
   by-first = live-first (t .columns) row rows (f .some-columns)
 
   -- a dead row
   pub row-dead : isDead (getD rows (row * t .columns) 0) ≡ true → RowPut t rows store row store
-  row-dead e =
-      let dead : isLive (rowAt (t .columns) row rows) ≡ false = by-first ∙ ap not e in
-      record {
-        sound = λ s. keys-same (firstRows t row) (firstRows t (row + 1)) rows rows store s (record {
-          room = refl;
-          keeps = λ i l. (omega (arith, l .0), l .1);
-          only = λ i l. let ne : i ≡ row → ⊥ = λ q. false≢true (sym dead ∙ rw q at (l .1)) in (omega (arith, l .0), l .1);
-          key = λ i l. refl;
-        });
-        rest = refl;
-      }
+  row-dead e = record { sound = dead-sound t rows store row (by-first ∙ ap not e); rest = refl }
 
   -- a live one
   pub row-live : (hash : ℕ) (r : Bool) (store′ : List ℕ) → isDead (getD rows (row * t .columns) 0) ≡ false → hash ≡ compactHash (keyHash (keyAt t rows row))

@@ -1,0 +1,32 @@
+-- `key_rebuild::put_new_row` meets its contract. Assumes nothing.
+use Rattle.key_rebuild.proofs.Prelude.{sym, _∙_, arith, needs, Inside, row-inside, key-part}
+use Rattle.key_rebuild.proofs.UniqueSteps.{earlier-fit, new-row-dead, new-row-live}
+use Rattle.key_rebuild.proofs.put_new_row.Statement.{statement}
+use Rattle.key_rebuild.proofs.put_new_row.Tie as tie
+
+lies : (s : tie.Start) → Inside (s .args .rows .now) (s .args .t .columns) (s .args .row)
+lies s = row-inside _ _ _ (s .pre .0 .within) (s .pre .1)
+
+returns : tie.Need-returns
+returns c = let s = c .before .before .before .before .before in new-row-dead _ _ _ (s .args .row) (s .pre .0) (s .pre .1) (sym (c .before .is-dead .ensures) ∙ c .if1 .taken)
+
+put-new-requires : tie.Need-put-new-requires
+put-new-requires c κs =
+    let s = c .before .before .before .before .before .before .before .before .before in
+    (earlier-fit _ _ _ (s .pre .0) (s .args .row) (omega (arith, s .pre .1)), search needs, omega (arith, s .pre .1, s .pre .0 .within))
+
+returns-2 : tie.Need-returns-2
+returns-2 c =
+    let s = c .before .before .before .before .before .before .before .before .before .before .before .before in
+    let t = s .args .t in
+    new-row-live t (s .args .rows .now) (s .args .store .now) (s .args .row) (s .pre .0) (s .pre .1) (sym (c .before .before .before .before .before .before .before .before .is-dead .ensures) ∙ c .before .before .before .before .before .before .before .if1 .left) _ (c .before .before .before .before .before .row-hash .ensures) _ _
+    (rw (key-part t (s .args .rows .now) (s .args .row) (s .pre .0 .within .most-keys)) at (c .before .before .put-new .ensures))
+
+pub put-new-row-spec : {M : Type 1} → statement M
+put-new-row-spec =
+    tie.close
+    (tie.spec
+    (λ c. omega (arith, lies (c .before .before .before))) (λ c. omega (arith, lies (c .before .before .before))) (λ c κs. omega (arith, lies (c .before .before .before), c .before .before .before .pre .0 .some-columns)) returns
+    (λ c. search needs) (λ c. omega (arith, lies (c .before .before .before .before .before .before), c .before .before .before .before .before .before .pre .0 .within)) (λ c κs. let p = c .before .before .before .before .before .before .pre in (p .0 .within, p .1))
+    (λ c. omega (arith, lies (c .before .before .before .before .before .before .before .before), c .before .before .before .before .before .before .before .before .pre .0 .within)) (λ c. search needs) (λ c. search needs) (λ c. omega (arith, lies (c .before .before .before .before .before .before .before .before), c .before .before .before .before .before .before .before .before .pre .0 .within))
+    put-new-requires (λ c. search needs) returns-2)
