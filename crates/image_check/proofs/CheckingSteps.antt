@@ -1,5 +1,5 @@
 -- The steps of the check of an image: one law for each way that a function returns. Assumes nothing.
-use Prim.Native.Nat.{ℕ, _*_, _≤_}
+use Prim.Native.Nat.{ℕ, _≤_}
 use mathlib.Core.Path.{_≡_, refl, sym}
 use mathlib.Core.Bool.{Bool, true, false, true≢false, false≢true}
 use mathlib.Core.List.{List}
@@ -8,16 +8,14 @@ use native.Mathlib.Omega.{arith}
 use lib.ListN.{length}
 use Rattle.refusals.specs.Refusals.{firstRefusal, reply}
 use Rattle.key_index.specs.declared.IndexShape.{IndexShape}
-use Rattle.key_index.specs.Slots.{KeysSound}
-use Rattle.key_index.specs.inner.Index.{Fits}
-use Rattle.key_check.specs.inner.Check.{KeyStoreSound}
+use Rattle.key_index.specs.inner.Index.{RowsFit}
+use Rattle.key_index.specs.Laws.SizeClasses.{sizeClass-most, sizeClass-some, sizeClass-enough}
+use Rattle.key_rebuild.specs.inner.Rebuilding.{UniqueBuilt}
 use Rattle.sort_entries.specs.inner.Search.{EntriesFit}
 use Rattle.sort_entries.specs.inner.Checks.{Decides, decides-no, Cells}
-use Rattle.table.specs.declared.Header.{Header}
 use Rattle.table.specs.declared.TableAnswer.the-variants.{Refused as TableRefused, Table}
 use Rattle.table.specs.Numbers.{tableView}
-use Rattle.table.specs.Refusing.{outside}
-use Rattle.table.specs.Sound.{KeysDiffer}
+use Rattle.table.specs.Sound.{indexShapeOf}
 use Rattle.table.specs.Laws.Refusals.{outside-inside}
 use Rattle.table_check.specs.inner.Checks.{RowsSound, PendingIn, PendingWhole}
 use Rattle.image_spec.specs.Image.{Image, Reads, SoundImage}
@@ -27,32 +25,7 @@ use Rattle.image_check.specs.inner.Parsed.{part, imageIn, IsAt}
 use Rattle.image_check.specs.Laws.Images.{Proper, image-in-proper}
 use Rattle.image_check.specs.declared.Decoding.{Decoding}
 use Rattle.image_check.specs.declared.Decoding.the-variants.{Refused, Sound}
-use Rattle.image_check.specs.inner.Decoding.{DecodingIs}
-
--- ---- `is_key_unique`
-
--- as many slots as rows call for, and no more room
-abbrev rowsAlone : Header → IndexShape
-rowsAlone h = record { columns = h .columns; keys = h .keys; room = h .rows; rows = h .rows }
-
-pub no-row-differs : (h : Header) (rows : List ℕ) → h .rows ≡ 0 → KeysDiffer h rows
-no-row-differs h rows e i j a b k = absurd (omega (arith, a .0))
-
-pub rows-fit : (h : Header) (rows store : List ℕ) → outside h ≡ false → h .rows * h .columns ≤ length rows → (h .rows ≡ 0 → ⊥) → 131072 ≤ length store → Fits (rowsAlone h) rows store
-rows-fit h rows store e long any slots =
-    let i = outside-inside h e in
-    let b = i .bounds in
-    record {
-      some-columns = b .columns-some;
-      most-columns = b .columns-few;
-      some-keys = b .keys-some;
-      most-keys = b .keys-few;
-      some = omega arith;
-      most = omega (arith, i .rows-fit, b .capacity-few);
-      count = omega arith;
-      cells = long;
-      long = omega (arith, i .rows-fit, b .capacity-few);
-    }
+use Rattle.image_check.specs.inner.Decoding.{SlotsBuilt, ContentsChecked, DecodingIs}
 
 -- in a sound key store, the check of the whole decides that keys differ
 pub differ-decided : (h : Header) (rows store : List ℕ) → KeysSound (rowsAlone h) rows store → (r : Bool) → Decides (KeyStoreSound (rowsAlone h) rows store) r
@@ -82,9 +55,26 @@ module _ (words : List ℕ) (l : Layout) (t : IsAt words l) where
       let i = outside-inside (l .header) (t .placed .inside) in
       record { few = omega (arith, i .entries-fit, i .rows-fit, i .bounds .capacity-few); words = omega (arith, proper .sorts-are) }
 
-  pub contents-long : l .header .rows * l .header .columns ≤ length (part words (l .rows) (l .sorts))
+  pub contents-fit : (t′ : IndexShape) → t′ ≡ indexShapeOf (l .header) → (slots : List ℕ) → 131072 ≤ length slots → RowsFit t′ (part words (l .rows) (l .sorts)) slots
   unfolding imageIn
-  contents-long = omega (arith, proper .rows-are)
+  contents-fit t′ is slots long =
+      let h = l .header in
+      let i = outside-inside h (t .placed .inside) in
+      let b = i .bounds in
+      let most = sizeClass-most (h .capacity) (h .rows) in
+      rw is
+      (record {
+        some-columns = b .columns-some;
+        some-keys = b .keys-some;
+        within = record {
+          most-columns = b .columns-few;
+          most-keys = b .keys-few;
+          most = omega (arith, most, b .capacity-few);
+          count = sizeClass-enough (h .capacity) (h .rows) (i .rows-fit) (b .capacity-few);
+          cells = omega (arith, proper .rows-are);
+        };
+        slots-fit = record { some = sizeClass-some (h .capacity) (h .rows) (b .capacity-some); most = omega (arith, most, b .capacity-few); long = omega (arith, most, b .capacity-few) };
+      })
 
   pub contents-pending : PendingIn (l .header) (part words (l .pending) (l .end))
   unfolding imageIn
@@ -92,42 +82,54 @@ module _ (words : List ℕ) (l : Layout) (t : IsAt words l) where
       let i = outside-inside (l .header) (t .placed .inside) in
       record { most-columns = i .bounds .columns-few; most-keys = i .bounds .keys-few; fits = omega (arith, proper .pending-are) }
 
-  pub unsound-rows : (RowsSound (l .header) (part words (l .rows) (l .sorts)) (part words (l .sorts) (l .pending)) → ⊥) → Decides (SoundImage (imageIn words l)) false
+  pub unsound-rows : (RowsSound (l .header) (part words (l .rows) (l .sorts)) (part words (l .sorts) (l .pending)) → ⊥)
+      → (slots : List ℕ) → ContentsChecked words l false slots
   unfolding imageIn
-  unsound-rows f =
-      decides-no (λ s. let c = s .1 in f (record { dead-counted = c .dead-counted; entries-rise = c .entries-rise; sorted = c .sorted; largest-kept = c .largest-kept }))
-
-  pub unsound-keys : (KeysDiffer (l .header) (part words (l .rows) (l .sorts)) → ⊥) → Decides (SoundImage (imageIn words l)) false
-  unfolding imageIn
-  unsound-keys f = decides-no (λ s. f (s .1 .keys-differ))
-
-  pub sound-by-pending : RowsSound (l .header) (part words (l .rows) (l .sorts)) (part words (l .sorts) (l .pending)) → KeysDiffer (l .header) (part words (l .rows) (l .sorts))
-      → (r : Bool) → Decides (PendingWhole (l .header) (part words (l .pending) (l .end))) r → Decides (SoundImage (imageIn words l)) r
-  unfolding imageIn
-  sound-by-pending a k r d =
+  unsound-rows f slots =
       record {
-        yes = λ q.
-            let w = d .yes q in (
-              w .0,
-              record {
-                dead-counted = a .dead-counted;
-                keys-differ = k;
-                entries-rise = a .entries-rise;
-                sorted = a .sorted;
-                largest-kept = a .largest-kept;
-                pending-counted = w .1 .pending-counted;
-                pending-whole = w .1 .pending-whole;
-              },
-            );
-        no = λ q s. d .no q (s .0, record { pending-counted = s .1 .pending-counted; pending-whole = s .1 .pending-whole });
+        decided = decides-no (λ s. let c = s .1 in f (record { dead-counted = c .dead-counted; entries-rise = c .entries-rise; sorted = c .sorted; largest-kept = c .largest-kept }));
+        built = λ e. absurd (false≢true e);
       }
+
+  module _ (t′ : IndexShape) (is : t′ ≡ indexShapeOf (l .header)) (r : Bool) (slots : List ℕ) (u : UniqueBuilt t′ (part words (l .rows) (l .sorts)) r slots) where
+    unique : UniqueBuilt (indexShapeOf (l .header)) (part words (l .rows) (l .sorts)) r slots
+    unique = rw is at u
+
+    pub unsound-keys : r ≡ false → ContentsChecked words l false slots
+    unfolding imageIn
+    unsound-keys e = record { decided = decides-no (λ s. unique .repeat e (s .1 .keys-differ)); built = λ q. absurd (false≢true q) }
+
+    pub sound-by-pending : r ≡ true → RowsSound (l .header) (part words (l .rows) (l .sorts)) (part words (l .sorts) (l .pending))
+        → (whole : Bool) → Decides (PendingWhole (l .header) (part words (l .pending) (l .end))) whole → ContentsChecked words l whole slots
+    unfolding imageIn
+    sound-by-pending e a whole d =
+        record {
+          decided =
+              record {
+                yes = λ q.
+                    let w = d .yes q in (
+                      w .0,
+                      record {
+                        dead-counted = a .dead-counted;
+                        keys-differ = unique .differ e;
+                        entries-rise = a .entries-rise;
+                        sorted = a .sorted;
+                        largest-kept = a .largest-kept;
+                        pending-counted = w .1 .pending-counted;
+                        pending-whole = w .1 .pending-whole;
+                      },
+                    );
+                no = λ q s. d .no q (s .0, record { pending-counted = s .1 .pending-counted; pending-whole = s .1 .pending-whole });
+              };
+          built = λ _. unique .sound e;
+        }
 
 -- ---- `decode`
 
 module _ (words : List ℕ) where
-  pub decoding-none : Reads words none → DecodingIs words (Refused 19)
+  pub decoding-none : Reads words none → (slots : List ℕ) → DecodingIs words (Refused 19) slots
   unfolding checkReply
-  decoding-none n =
+  decoding-none n slots =
       record {
         decoded =
             record {
@@ -139,12 +141,13 @@ module _ (words : List ℕ) where
             };
         refusal = λ m e. cc;
         sound-at = λ l e. absurd (let z : _≡_ {A = ℕ} 0 1 = cc in omega arith);
+        built = λ l e. absurd (let z : _≡_ {A = ℕ} 0 1 = cc in omega arith);
       }
 
   module _ (l : Layout) (t : IsAt words l) where
-    pub decoding-unsound : (SoundImage (imageIn words l) → ⊥) → DecodingIs words (Refused 20)
+    pub decoding-unsound : (SoundImage (imageIn words l) → ⊥) → (slots : List ℕ) → DecodingIs words (Refused 20) slots
     unfolding checkReply reply firstRefusal
-    decoding-unsound f =
+    decoding-unsound f slots =
         record {
           decoded =
               record {
@@ -156,6 +159,7 @@ module _ (words : List ℕ) where
               };
           refusal = λ m e. cc;
           sound-at = λ m e. absurd (let z : _≡_ {A = ℕ} 0 1 = cc in omega arith);
+          built = λ m e. absurd (let z : _≡_ {A = ℕ} 0 1 = cc in omega arith);
         }
 
     that-one : SoundImage (imageIn words l) → (i : Image) → _≡_ {A = Option Image} (some (imageIn words l)) (some i) → SoundImage i
@@ -171,17 +175,18 @@ module _ (words : List ℕ) where
           if-unsound = λ e. absurd (true≢false e);
         }
 
-    pub decoding-sound : SoundImage (imageIn words l) → DecodingIs words (Sound l)
-    decoding-sound s =
+    pub decoding-sound : SoundImage (imageIn words l) → (slots : List ℕ) → SlotsBuilt words l slots → DecodingIs words (Sound l) slots
+    decoding-sound s slots b =
         record {
           decoded = sound-one s;
           refusal = λ m e. absurd (let z : _≡_ {A = ℕ} 0 1 = cc in omega arith);
           sound-at = λ m e. let k : l ≡ m = cc in rw (← k) (record { there = t; image-is = refl; sound-is = refl });
+          built = λ m e. let k : l ≡ m = cc in rw (← k) b;
         }
 
 -- ---- `check_image`
 
-module _ (words : List ℕ) (r : Decoding) (d : DecodingIs words r) where
+module _ (words : List ℕ) (r : Decoding) (slots : List ℕ) (d : DecodingIs words r slots) where
   pub checked-refused : (n : ℕ) → r ≡ Refused n → ImageChecked words (TableRefused n)
   unfolding tableView
   checked-refused n e = record { decoded = d .decoded; answers = sym (d .refusal n e) }

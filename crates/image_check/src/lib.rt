@@ -1,27 +1,19 @@
 // Whether words are an image of a sound table. Is safe on any words: a word is tested before it is a length or a row.
-ghost use mathlib.Core.Path.{_≡_};
-ghost use mathlib.Core.Bool.{false};
-ghost use Prim.Native.Nat.{_*_, _≤_};
+ghost use Prim.Native.Nat.{_≤_};
 ghost use lib.ListN.{length};
-ghost use Rattle.sort_entries.specs.inner.Checks.{Decides};
-ghost use Rattle.table.specs.Refusing.{outside};
-ghost use Rattle.table.specs.Sound.{KeysDiffer};
-ghost use Rattle.image_spec.specs.Image.{SoundImage};
 ghost use Rattle.image_spec.specs.Contracts.{ImageChecked};
-ghost use Rattle.image_check.specs.inner.Parsed.{imageIn, IsAt};
-ghost use Rattle.image_check.specs.inner.Decoding.{DecodingIs};
-use key_index::IndexShape;
+ghost use Rattle.image_check.specs.inner.Parsed.{IsAt};
+ghost use Rattle.image_check.specs.inner.Decoding.{ContentsChecked, DecodingIs};
 use parse::Layout;
 use parse::Parsed;
 use refusals::NO_IMAGE;
 use refusals::UNSOUND_IMAGE;
-use table::Header;
 use table::TableAnswer;
 
 pub mod parse; // parse.rt: whether words are an image, and where its parts are
 
 // Two slots for each row of the largest table.
-const MOST_SLOTS: usize = 131072;
+pub const MOST_SLOTS: usize = 131072;
 
 // The layout of an image of a sound table, or the number that refuses the words.
 pub enum Decoding {
@@ -29,29 +21,10 @@ pub enum Decoding {
     Sound(Layout),
 }
 
-// Whether the keys of live rows differ. An image has no key store, so one is built here, with two slots for each row.
-fn is_key_unique(h: Header, rows: &[u32]) -> bool
-    requires { ⌜ (outside h ≡ false) × (h .rows * h .columns ≤ length (now rows)) ⌝ }
-    ensures { λ r. ⌜ Decides (KeysDiffer h (now (rows .entry))) r ⌝ }
-{
-    if h.rows == 0 {
-        return true;
-    }
-    let t = IndexShape {
-        columns: h.columns,
-        keys: h.keys,
-        room: h.rows,
-        rows: h.rows,
-    };
-    let mut slots = [0u32; MOST_SLOTS];
-    key_rebuild::rebuild(t, rows, &mut slots);
-    key_check::key_store_sound(t, rows, &slots)
-}
-
-// Whether the table of an image is sound.
-fn is_contents_sound(words: &[u32], l: Layout) -> bool
-    requires { ⌜ IsAt (now words) l ⌝ }
-    ensures { λ r. ⌜ Decides (SoundImage (imageIn (now (words .entry)) l)) r ⌝ }
+// Whether the table of an image is sound. An image has no key store, so one is built in the slots; of a sound table it is sound.
+fn is_contents_sound(words: &[u32], l: Layout, slots: &mut [u32]) -> bool
+    requires { ⌜ IsAt (now words) l × (131072 ≤ length (now slots)) ⌝ }
+    ensures { λ r. ⌜ ContentsChecked (now (words .entry)) l r (now (slots .exit)) ⌝ }
 {
     let h = l.header;
     let rows = l.rows;
@@ -61,21 +34,23 @@ fn is_contents_sound(words: &[u32], l: Layout) -> bool
     if !table_check::rows_sound(h, &words[rows..sorts], &words[sorts..pending]) {
         return false;
     }
-    if !is_key_unique(h, &words[rows..sorts]) {
+    if !key_rebuild::build_unique(table::index_shape(h), &words[rows..sorts], slots) {
         return false;
     }
     table_check::pending_whole(h, &words[pending..end])
 }
 
-// The layout of the image that words are: refuses with 19 if they are none, with 20 if its table is not sound.
-pub fn decode(words: &[u32]) -> Decoding
-    ensures { λ r. ⌜ DecodingIs (now (words .entry)) r ⌝ }
+// The layout of the image that words are: refuses with 19 if they are none, with 20 if its table is not sound. Builds the table's key
+// store in the slots.
+pub fn decode(words: &[u32], slots: &mut [u32]) -> Decoding
+    requires { ⌜ 131072 ≤ length (now slots) ⌝ }
+    ensures { λ r. ⌜ DecodingIs (now (words .entry)) r (now (slots .exit)) ⌝ }
 {
     let parsed = parse::parse(words);
     let Parsed::Image(l) = parsed else {
         return Decoding::Refused(NO_IMAGE);
     };
-    if !is_contents_sound(words, l) {
+    if !is_contents_sound(words, l, slots) {
         return Decoding::Refused(UNSOUND_IMAGE);
     }
     Decoding::Sound(l)
@@ -85,7 +60,8 @@ pub fn decode(words: &[u32]) -> Decoding
 pub fn check_image(words: &[u32]) -> TableAnswer
     ensures { λ r. ⌜ ImageChecked (now (words .entry)) r ⌝ }
 {
-    let decoding = decode(words);
+    let mut slots = [0u32; MOST_SLOTS];
+    let decoding = decode(words, &mut slots);
     match decoding {
         Decoding::Refused(number) => TableAnswer::Refused(number),
         Decoding::Sound(l) => {

@@ -1,13 +1,15 @@
 -- The steps of loading an image's table: one law for each way that a function returns. Assumes nothing.
-use Rattle.image_read.proofs.Prelude.{ℕ, _*_, _≤_, _<_, _≡_, refl, sym, ap, _∙_, Bool, true, false, _||_, List, [], Option, none, some, mul-le-mul-right, arith, ltb, length, ltb-false, lt-ltb, le-ltb, eq-eqb, ne-eqb, or-no-left, or-no-right, length-splice, outcome-refused, outcome-accepted, IndexShape, Fits, past-sizeClass, Rebuilt, firstRefusal-no, firstRefusal-rest, Header, TableAnswer, Refused, Table, indexShapeOf, Body, body, lengths, LongEnough, stores-long, Inside, outside-inside, inside-fits, Image, Layout, image-in-proper, Decoding, DecodingIs}
+use Rattle.image_read.proofs.Prelude.{ℕ, _+_, _*_, _-_, _≤_, _<_, _≡_, refl, sym, ap, _∙_, Bool, true, false, _||_, List, [], Option, none, some, mul-le-mul-right, arith, ltb, length, take, drop, getD, getD-take, length-take-le, ltb-false, lt-ltb, le-ltb, eq-eqb, ne-eqb, or-no-left, or-no-right, length-splice, drop-splice, getD-splice-in, slots-alike, outcome-refused, outcome-accepted, IndexShape, KeysSound, sizeClassFor, sizeClass-most, sizeClass-enough, keys-longer, Fits, RowsIn, past-sizeClass, Rebuilt, firstRefusal-no, firstRefusal-rest, Header, TableAnswer, Refused, Table, indexShapeOf, Body, body, lengths, LongEnough, stores-long, Inside, outside-inside, inside-fits, Image, Layout, image-in-proper, Decoding, DecodingIs}
+use Rattle.lists.specs.Lists.{splice}
 use Rattle.refusals.specs.Refusals.{refused, accepted, firstRefusal, reply}
 use Rattle.plain_table.specs.Refusing.{Lengths, storesShort}
 use Rattle.table.specs.Numbers.{openingOf, tableView}
 use Rattle.table.specs.Refusing.{outside, rowsShort}
 use Rattle.image_spec.specs.Contracts.{withCapacity, checkReply, readRefusal, ImageRead}
 use Rattle.image_check.specs.inner.Parsed.{part, imageIn, IsAt}
+use Rattle.image_check.specs.inner.Decoding.{SlotsBuilt}
 use Rattle.image_check.specs.declared.Decoding.the-variants.{Refused as NotDecoded, Sound}
-use Rattle.image_read.specs.inner.Loading.{loadRefusal, storesRefusal, PartsFit, PartsWritten, Loading}
+use Rattle.image_read.specs.inner.Loading.{loadRefusal, storesRefusal, PartsFit, PartsWritten, Built, Loading}
 
 -- ---- `with_capacity`
 
@@ -67,6 +69,30 @@ load-accepted h l e =
       pending-fits = ltb-false _ _ (or-no-right (storesShort (openingOf h) l) _ b);
     }
 
+-- ---- `write_keys`
+
+module _ (t : IndexShape) (capacity : ℕ) (rows slots : List ℕ) (b : Built t capacity rows slots) where
+  pub keys-copied : (room : ℕ) → room ≡ sizeClassFor capacity (t .rows) → t .room ≡ room → (keys keys′ : List ℕ) → Fits t rows keys
+      → keys′ ≡ splice keys 0 (part slots 0 (2 * room)) → Rebuilt t rows keys keys′
+  keys-copied room is same keys keys′ f w =
+      let n = 2 * t .room in
+      let copy = take n slots in
+      let copied : length copy ≡ n = length-take-le n slots (omega (arith, f .most, b .long)) in
+      let fits : 0 + length copy ≤ length keys = omega (arith, f .long) in
+      let width : 2 * room - 0 ≡ n = omega arith in
+      let after : keys′ ≡ splice keys 0 copy = rw width at w in
+      let sound : KeysSound t rows slots = rw (← is, ← same) at (b .sound) in
+      let alike : (slot : ℕ) → slot < n → getD keys′ slot 0 ≡ getD slots slot 0 = λ slot h.
+      let z : 0 + slot ≡ slot = omega arith in
+      ap (λ (l : List ℕ). getD l slot 0) after
+      ∙ ap (λ (i : ℕ). getD (splice keys 0 copy) i 0) (sym z)
+      ∙ getD-splice-in keys copy 0 fits slot 0 (omega arith)
+      ∙ getD-take n slots slot 0 h in
+      record {
+        sound = slots-alike alike sound;
+        rest = ap (drop n) after ∙ drop-splice keys copy 0 fits n (omega arith);
+      }
+
 -- ---- `load`
 
 module _ (words : List ℕ) (l : Layout) (capacity : ℕ) (b : Body) (pending : List ℕ) (n : Header) (header : n ≡ withCapacity (l .header) capacity)
@@ -109,6 +135,23 @@ module _ (words : List ℕ) (l : Layout) (capacity : ℕ) (b : Body) (pending : 
           let g = loadable in
           rw (is, header) (inside-fits (withCapacity (l .header) capacity) rows′ (b .keys) (g .inside) (omega (arith, g .long .rows-long, rows-length)) (g .long .keys-long))
 
+      pub keys-built : (slots : List ℕ) → SlotsBuilt words l slots → 131072 ≤ length slots → (k : IndexShape) → k ≡ indexShapeOf n → Built k (l .header .capacity) rows′ slots
+      unfolding splice imageIn
+      keys-built slots sound long k is =
+          let i = outside-inside (l .header) (t .placed .inside) in
+          let p = image-in-proper words l (t .placed) (t .counted) in
+          let h = l .header in
+          let within : RowsIn (indexShapeOf h) (part words (l .rows) (l .sorts)) =
+          record {
+            most-columns = i .bounds .columns-few;
+            most-keys = i .bounds .keys-few;
+            most = omega (arith, sizeClass-most (h .capacity) (h .rows), i .bounds .capacity-few);
+            count = sizeClass-enough (h .capacity) (h .rows) (i .rows-fit) (i .bounds .capacity-few);
+            cells = omega (arith, p .rows-are);
+          } in
+          rw (is, header, w .rows-after)
+          (record { long = long; sound = keys-longer (indexShapeOf h) (part words (l .rows) (l .sorts)) _ within slots sound })
+
       pub loading-done : (k : IndexShape) → k ≡ indexShapeOf n → (keys′ : List ℕ) → Rebuilt k rows′ (b .keys) keys′ → length keys′ ≡ length (b .keys) → Loading words l capacity b pending (Table n) (body rows′ keys′ sorts′) pending′
       unfolding tableView imageIn
       loading-done k is keys′ s kept =
@@ -139,7 +182,7 @@ refusal-same none sound number capacity b pending e = let k : 19 ≡ number = cc
 refusal-same (some i) true number capacity b pending e = absurd (let z : _≡_ {A = ℕ} 0 1 = cc in omega arith)
 refusal-same (some i) false number capacity b pending e = let k : 20 ≡ number = cc in (k, omega arith)
 
-module _ (words : List ℕ) (capacity : ℕ) (b : Body) (pending : List ℕ) (r : Decoding) (d : DecodingIs words r) where
+module _ (words : List ℕ) (capacity : ℕ) (b : Body) (pending : List ℕ) (r : Decoding) (slots : List ℕ) (d : DecodingIs words r slots) where
   pub read-refused : (number : ℕ) → r ≡ NotDecoded number → ImageRead words capacity b pending (Refused number) b pending
   unfolding tableView
   read-refused number e =

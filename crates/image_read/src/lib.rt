@@ -4,12 +4,16 @@ ghost use Prim.Native.Nat.{_+_, _≤_, _<_};
 ghost use lib.ListN.{length, take, drop, getD};
 ghost use Rattle.lists.specs.Lists.{splice};
 ghost use Rattle.crc32.specs.Crc.{bytesOf};
+ghost use Rattle.key_index.specs.inner.Index.{Fits};
+ghost use Rattle.key_rebuild.specs.inner.Rebuilding.{Rebuilt};
 ghost use Rattle.table.specs.inner.Lent.{lengthsOf};
 ghost use Rattle.table.specs.Contracts.{body};
 ghost use Rattle.image_spec.specs.Contracts.{withCapacity, ImageRead, TextRead};
 ghost use Rattle.image_check.specs.inner.Parsed.{part, IsAt};
-ghost use Rattle.image_read.specs.inner.Loading.{loadRefusal, PartsFit, PartsWritten, Loading, TextIn};
+ghost use Rattle.image_check.specs.inner.Decoding.{SlotsBuilt};
+ghost use Rattle.image_read.specs.inner.Loading.{loadRefusal, PartsFit, PartsWritten, Built, Loading, TextIn};
 use image_check::Decoding;
+use image_check::MOST_SLOTS;
 use image_check::parse::Layout;
 use image_check::parse::Parsed;
 use image_spec::BYTE_RANGE;
@@ -17,6 +21,7 @@ use image_spec::LengthAnswer;
 use image_spec::TEXT_AT;
 use image_spec::THREE_BYTE_RANGE;
 use image_spec::TWO_BYTE_RANGE;
+use key_index::IndexShape;
 use refusals::NO_IMAGE;
 use refusals::OUT_OF_BOUNDS;
 use refusals::TOO_SHORT;
@@ -80,17 +85,32 @@ fn write_parts(words: &[u32], l: Layout, rows: &mut [u32], sorts: &mut [u32], pe
     write_part(words, l.pending, l.end, pending);
 }
 
-// Loads an image's table, with a key store that is built anew.
+// Writes a key store for the rows. The slots were built for the same rows and this capacity: they are copied if as many are in use.
+fn write_keys(t: IndexShape, capacity: u32, slots: &[u32], rows: &[u32], keys: &mut [u32])
+    requires { ⌜ Fits t (now rows) (now keys) × Built t capacity (now rows) (now slots) ⌝ }
+    ensures { λ _. ⌜ Rebuilt t (now (rows .entry)) (now (keys .entry)) (now (keys .exit)) ⌝ }
+{
+    let room = key_index::size_class_for(capacity, t.rows);
+    if t.room != room {
+        key_rebuild::rebuild(t, rows, keys);
+        return;
+    }
+    let count = (2 * room) as usize;
+    write_part(slots, 0, count, keys);
+}
+
+// Loads an image's table, whose key store is in the slots.
 fn load(
     words: &[u32],
     l: Layout,
+    slots: &[u32],
     capacity: u32,
     rows: &mut [u32],
     keys: &mut [u32],
     sorts: &mut [u32],
     pending: &mut [u32],
 ) -> TableAnswer
-    requires { ⌜ IsAt (now words) l ⌝ }
+    requires { ⌜ IsAt (now words) l × SlotsBuilt (now words) l (now slots) × (131072 ≤ length (now slots)) ⌝ }
     ensures { λ r. ⌜ Loading (now (words .entry)) l capacity (body (now (rows .entry)) (now (keys .entry)) (now (sorts .entry))) (now (pending .entry)) r (body (now (rows .exit)) (now (keys .exit)) (now (sorts .exit))) (now (pending .exit)) ⌝ }
 {
     let h = l.header;
@@ -108,7 +128,7 @@ fn load(
         return TableAnswer::Refused(refusal);
     }
     write_parts(words, l, rows, sorts, pending);
-    key_rebuild::rebuild(table::index_shape(n), rows, keys);
+    write_keys(table::index_shape(n), h.capacity, slots, rows, keys);
     TableAnswer::Table(n)
 }
 
@@ -123,10 +143,11 @@ pub fn read_image(
 ) -> TableAnswer
     ensures { λ r. ⌜ ImageRead (now (words .entry)) capacity (body (now (rows .entry)) (now (keys .entry)) (now (sorts .entry))) (now (pending .entry)) r (body (now (rows .exit)) (now (keys .exit)) (now (sorts .exit))) (now (pending .exit)) ⌝ }
 {
-    let decoding = image_check::decode(words);
+    let mut slots = [0u32; MOST_SLOTS];
+    let decoding = image_check::decode(words, &mut slots);
     match decoding {
         Decoding::Refused(number) => TableAnswer::Refused(number),
-        Decoding::Sound(l) => load(words, l, capacity, rows, keys, sorts, pending),
+        Decoding::Sound(l) => load(words, l, &slots, capacity, rows, keys, sorts, pending),
     }
 }
 

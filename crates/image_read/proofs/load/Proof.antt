@@ -1,36 +1,39 @@
 -- `image_read::load` meets its contract. Assumes nothing.
-use Rattle.image_read.proofs.LoadingSteps.{loading-refused, parts-fit, keys-fit, loading-done}
+use Rattle.image_read.proofs.LoadingSteps.{loading-refused, parts-fit, keys-fit, keys-built, loading-done}
 use Rattle.image_read.proofs.Prelude.{body, needs}
 use Rattle.image_read.proofs.load.Statement.{statement}
 use Rattle.image_read.proofs.load.Tie as tie
 
 returns : tie.Need-returns
 returns c =
-    let a = c .before .before .before .before .before .before .before .before .before .args in
+    let a = c .before .before .before .before .before .before .before .before .before .before .args in
     loading-refused _ (a .l) (a .capacity) (body (a .rows .now) (a .keys .now) (a .sorts .now)) (a .pending .now) _ (c .before .before .with-capacity .ensures) _ (c .before .load-refusal .ensures) (c .if1 .taken)
 
 write-parts-requires : tie.Need-write-parts-requires
 write-parts-requires c κs =
-    let s = c .before .before .before .before .before .before .before .before .before .before .before .before in
+    let s = c .before .before .before .before .before .before .before .before .before .before .before .before .before in
     let a = s .args in
-    parts-fit _ (a .l) (a .capacity) (body (a .rows .now) (a .keys .now) (a .sorts .now)) (a .pending .now) _ (c .before .before .before .before .before .with-capacity .ensures) _ (c .before .before .before .before .load-refusal .ensures) (c .before .before .before .if1 .left) (s .pre)
+    parts-fit _ (a .l) (a .capacity) (body (a .rows .now) (a .keys .now) (a .sorts .now)) (a .pending .now) _ (c .before .before .before .before .before .with-capacity .ensures) _ (c .before .before .before .before .load-refusal .ensures) (c .before .before .before .if1 .left) (s .pre .0)
 
-rebuild-requires : tie.Need-rebuild-requires
-rebuild-requires c κs =
-    let s = c .before .before .before .before .before .before .before .before .before .before .before .before .before .before .before .before .before .before .before .before .before .before in
-    let a = s .args in
-    keys-fit _ (a .l) (a .capacity) (body (a .rows .now) (a .keys .now) (a .sorts .now)) (a .pending .now) _ (c .before .before .before .before .before .before .before .before .before .before .before .before .before .before .before .with-capacity .ensures) _ (c .before .before .before .before .before .before .before .before .before .before .before .before .before .before .load-refusal .ensures) (c .before .before .before .before .before .before .before .before .before .before .before .before .before .if1 .left) (s .pre)
-    _ _ _ (c .before .before .before .before .before .before .before .before .before .write-parts .ensures) _ (c .before .before .index-shape .ensures)
+write-keys-requires : tie.Need-write-keys-requires
+write-keys-requires c κs =
+    let s = c .before .before .before .before .before .before .before .before .before .before .before .before .before .before .before .before .before .before .before .before .before .before .before in
+    let a = s .args in (
+      keys-fit _ (a .l) (a .capacity) (body (a .rows .now) (a .keys .now) (a .sorts .now)) (a .pending .now) _ (c .before .before .before .before .before .before .before .before .before .before .before .before .before .before .before .with-capacity .ensures) _ (c .before .before .before .before .before .before .before .before .before .before .before .before .before .before .load-refusal .ensures) (c .before .before .before .before .before .before .before .before .before .before .before .before .before .if1 .left) (s .pre .0)
+          _ _ _ (c .before .before .before .before .before .before .before .before .before .write-parts .ensures) _ (c .before .before .index-shape .ensures),
+      keys-built _ (a .l) (a .capacity) (body (a .rows .now) (a .keys .now) (a .sorts .now)) (a .pending .now) _ (c .before .before .before .before .before .before .before .before .before .before .before .before .before .before .before .with-capacity .ensures) _ (c .before .before .before .before .before .before .before .before .before .before .before .before .before .before .load-refusal .ensures) (c .before .before .before .before .before .before .before .before .before .before .before .before .before .if1 .left) (s .pre .0)
+          _ _ _ (c .before .before .before .before .before .before .before .before .before .write-parts .ensures) _ (s .pre .1) (s .pre .2) _ (c .before .before .index-shape .ensures),
+    )
 
 returns-2 : tie.Need-returns-2
 returns-2 c =
-    let s = c .before .before .before .before .before .before .before .before .before .before .before .before .before .before .before .before .before .before .before .before .before .before .before .before .before in
+    let s = c .before .before .before .before .before .before .before .before .before .before .before .before .before .before .before .before .before .before .before .before .before .before .before .before .before .before in
     let a = s .args in
-    loading-done _ (a .l) (a .capacity) (body (a .rows .now) (a .keys .now) (a .sorts .now)) (a .pending .now) _ (c .before .before .before .before .before .before .before .before .before .before .before .before .before .before .before .before .before .before .with-capacity .ensures) _ (c .before .before .before .before .before .before .before .before .before .before .before .before .before .before .before .before .before .load-refusal .ensures) (c .before .before .before .before .before .before .before .before .before .before .before .before .before .before .before .before .if1 .left) (s .pre)
-    _ _ _ (c .before .before .before .before .before .before .before .before .before .before .before .before .write-parts .ensures) _ (c .before .before .before .before .before .index-shape .ensures) _ (c .before .before .rebuild .ensures) (c .before .before .rebuild .kept .1 .1 .0)
+    loading-done _ (a .l) (a .capacity) (body (a .rows .now) (a .keys .now) (a .sorts .now)) (a .pending .now) _ (c .before .before .before .before .before .before .before .before .before .before .before .before .before .before .before .before .before .before .with-capacity .ensures) _ (c .before .before .before .before .before .before .before .before .before .before .before .before .before .before .before .before .before .load-refusal .ensures) (c .before .before .before .before .before .before .before .before .before .before .before .before .before .before .before .before .if1 .left) (s .pre .0)
+    _ _ _ (c .before .before .before .before .before .before .before .before .before .before .before .before .write-parts .ensures) _ (c .before .before .before .before .before .index-shape .ensures) _ (c .before .before .write-keys .ensures) (c .before .keys .given)
 
 pub load-spec : {M : Type 1} → statement M
 load-spec =
     tie.close
     (tie.spec
-    (λ c κs. search needs) (λ c κs. search needs) returns write-parts-requires (λ c κs. search needs) rebuild-requires (λ c. search needs) (λ c. search needs) (λ c. search needs) (λ c. search needs) returns-2)
+    (λ c κs. search needs) (λ c κs. search needs) returns write-parts-requires (λ c κs. search needs) write-keys-requires (λ c. search needs) (λ c. search needs) (λ c. search needs) (λ c. search needs) returns-2)

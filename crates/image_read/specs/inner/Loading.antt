@@ -7,6 +7,8 @@ use lib.Dec.{ltb}
 use lib.ListN.{length}
 use Rattle.lists.specs.Lists.{splice}
 use Rattle.refusals.specs.Refusals.{check, firstRefusal, reply, outcome}
+use Rattle.key_index.specs.declared.IndexShape.{IndexShape}
+use Rattle.key_index.specs.Slots.{sizeClassFor, KeysSound}
 use Rattle.plain_table.specs.Refusing.{Lengths, storesShort}
 use Rattle.table.specs.declared.Header.{Header}
 use Rattle.table.specs.declared.TableAnswer.{TableAnswer}
@@ -39,6 +41,11 @@ pub record PartsWritten (words : List ℕ) (l : Layout) (rows sorts pending rows
   pub rows-after : rows′ ≡ splice rows 0 (part words (l .rows) (l .sorts))
   pub sorts-after : sorts′ ≡ splice sorts 0 (part words (l .sorts) (l .pending))
   pub pending-after : pending′ ≡ splice pending 0 (part words (l .pending) (l .end))
+
+-- the slots that a table of this capacity uses lead to exactly the live rows
+pub record Built (t : IndexShape) (capacity : ℕ) (rows slots : List ℕ) : Type 0 where
+  pub long : 131072 ≤ length slots
+  pub sound : KeysSound (record { columns = t .columns; keys = t .keys; room = sizeClassFor capacity (t .rows); rows = t .rows }) rows slots
 
 -- the image at these places is loaded, or its capacity or the stores refused
 pub record Loading (words : List ℕ) (l : Layout) (capacity : ℕ) (b : Body) (pending : List ℕ) (answer : TableAnswer) (b′ : Body) (pending′ : List ℕ) : Type 0 where

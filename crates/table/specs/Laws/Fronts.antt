@@ -17,7 +17,7 @@ one-alike l m n e i h =
     sym (getD-take n l i 0 h) ∙ ap (λ (x : List ℕ). getD x i 0) e ∙ getD-take n m i 0 h
 
 -- a key store with the same slots is sound too
-slots-alike : {t : IndexShape} {rows store store′ : List ℕ} → ((slot : ℕ) → slot < slots t → getD store′ slot 0 ≡ getD store slot 0)
+pub slots-alike : {t : IndexShape} {rows store store′ : List ℕ} → ((slot : ℕ) → slot < slots t → getD store′ slot 0 ≡ getD store slot 0)
     → KeysSound t rows store → KeysSound t rows store′
 slots-alike {t} {rows} {store} {store′} same sound =
     record {
