@@ -1,40 +1,18 @@
--- The ways through `keeps_bounds`, `head_at` and `scan_text`. Assumes nothing.
-use Rattle.listing_parse.proofs.Prelude.{ℕ, _-_, _≤_, _<_, _≡_, refl, sym, ap, _∙_, Bool, true, false, cond, not, _&&_, and-false, false≢true, inl, inr, split, List, [], _∷_, _++_, map, append-nil, append-assoc, arith, length-append, getD-at, lineOf, line-ended, shown-text, text-shown, length, take, drop, getD, List·getD-eq-default, eq-eqb, ne-eqb, le-leb, lt-leb, lt-ltb, le-ltb, leb, eqb, getD-take, length-take-le, take-suc, ℕ-discrete, bounds-columns, Survey, lineFrom, Found, LineAt}
+-- The ways through `head_at` and `scan_text`. Assumes nothing.
+use Rattle.listing_parse.proofs.Prelude.{ℕ, _-_, _≤_, _<_, _≡_, refl, sym, ap, _∙_, Bool, true, false, cond, not, _&&_, and-false, false≢true, inl, inr, split, List, [], _∷_, _++_, map, append-nil, append-assoc, arith, length-append, getD-at, lineOf, line-ended, shown-text, text-shown, length, take, drop, getD, List·getD-eq-default, eq-eqb, ne-eqb, le-leb, lt-leb, lt-ltb, le-ltb, leb, eqb, getD-take, length-take-le, take-suc, ℕ-discrete, bounds-columns, Survey, lineFrom, Found, LineAt, and-true, lineIn}
 use Rattle.lists.specs.Lists.{flatten}
 use Rattle.levels_text.specs.Written.{textLine}
 use Rattle.listing_spec.specs.Listings.{listingText, headLetter, headWidth, keepsBounds, isHead}
+use Rattle.plain_table.specs.Staged.{openable}
+use Rattle.table.specs.inner.Bounds.{boundsKept}
 use Rattle.listing_spec.specs.inner.Checking.{pieces, begins, rowsGood, linesToRows, piecesGood, listingOf, textGood, listingIn}
 use Rattle.listing_parse.specs.inner.Lines.{endsLine}
 use Rattle.listing_parse.specs.inner.Surveys.{Counted, HeadFound, HeadAt, headOf, Surveyed}
 
-module _ (columns keys sort rule : ℕ) where
-  pub no-column : columns < 1 → false ≡ keepsBounds columns keys sort rule
-  unfolding keepsBounds
-  no-column h = rw (lt-leb 1 columns h)
-
-  module _ (some : 1 ≤ columns) where
-    pub too-many : 8 < columns → false ≡ keepsBounds columns keys sort rule
-    unfolding keepsBounds
-    too-many h = rw (le-leb 1 columns some, lt-leb columns 8 h)
-
-    module _ (narrow : columns ≤ 8) where
-      pub no-key : keys < 1 → false ≡ keepsBounds columns keys sort rule
-      unfolding keepsBounds
-      no-key h = rw (le-leb 1 columns some, le-leb columns 8 narrow, lt-leb 1 keys h)
-
-      module _ (keyed : 1 ≤ keys) where
-        pub keys-above : columns < keys → false ≡ keepsBounds columns keys sort rule
-        unfolding keepsBounds
-        keys-above h = rw (le-leb 1 columns some, le-leb columns 8 narrow, le-leb 1 keys keyed, lt-leb keys columns h)
-
-        module _ (fewer : keys ≤ columns) where
-          pub no-sort : columns ≤ sort → false ≡ keepsBounds columns keys sort rule
-          unfolding keepsBounds
-          no-sort h = rw (le-leb 1 columns some, le-leb columns 8 narrow, le-leb 1 keys keyed, le-leb keys columns fewer, le-ltb sort columns h)
-
-          pub by-rule : sort < columns → leb rule 3 ≡ keepsBounds columns keys sort rule
-          unfolding keepsBounds
-          by-rule h = rw (le-leb 1 columns some, le-leb columns 8 narrow, le-leb 1 keys keyed, le-leb keys columns fewer, lt-ltb sort columns h)
+-- the bounds of an opening are those of a head
+bounds-kept : (columns keys sort rule : ℕ) → boundsKept columns keys sort rule ≡ keepsBounds columns keys sort rule
+unfolding keepsBounds openable
+bounds-kept columns keys sort rule = and-true _ ∙ and-true _
 
 -- ---- the head line
 
@@ -90,19 +68,22 @@ module _ (numbered : Bool) (text : List ℕ) {next : ℕ} {stored : List ℕ} (f
   pub head-large : {stored′ : List ℕ} → 65536 < count → HeadAt numbered text 0 stored′
   head-large h = record { wrong = λ z. text-tests ∙ rw (lt-leb count 65536 h, and-false in-bounds); found = λ some. absurd (omega (arith, some)) }
 
-  module _ (few : count ≤ 65536) {b : Bool} (e : b ≡ keepsBounds (getD stored 0 0) (getD stored 1 0) (getD stored 2 0) (getD stored 3 0)) where
+  module _ (few : count ≤ 65536) {b : Bool} (kept : b ≡ boundsKept (getD stored 0 0) (getD stored 1 0) (getD stored 2 0) (getD stored 3 0)) where
+    e : b ≡ keepsBounds (getD stored 0 0) (getD stored 1 0) (getD stored 2 0) (getD stored 3 0)
+    e = kept ∙ bounds-kept (getD stored 0 0) (getD stored 1 0) (getD stored 2 0) (getD stored 3 0)
+
     pub head-unbound : {stored′ : List ℕ} → b ≡ false → HeadAt numbered text 0 stored′
     unfolding in-bounds
     head-unbound no-bounds = record { wrong = λ z. text-tests ∙ rw (← e, no-bounds); found = λ some. absurd (omega (arith, some)) }
 
     pub head-found : b ≡ true → HeadAt numbered text next stored
     unfolding in-bounds
-    head-found kept = record {
+    head-found all-kept = record {
       wrong = λ z. absurd (omega (arith, z, f .forward));
       found = λ some. record {
         inside = f .inside;
-        narrow = bounds-columns (getD stored 0 0) (getD stored 1 0) (getD stored 2 0) (getD stored 3 0) (sym e ∙ kept);
-        good = text-tests ∙ rw (← e, kept, le-leb count 65536 few, counted);
+        narrow = bounds-columns (getD stored 0 0) (getD stored 1 0) (getD stored 2 0) (getD stored 3 0) (sym e ∙ all-kept);
+        good = text-tests ∙ rw (← e, all-kept, le-leb count 65536 few, counted);
         head = head-same;
         rows = rows-same;
       };

@@ -6,10 +6,11 @@ ghost use Prim.Native.Nat.{_+_, _≤_, _<_};
 ghost use lib.ListN.{length, drop};
 ghost use Rattle.levels_text.specs.Lines.{isDecimal};
 ghost use Rattle.levels_text.specs.Laws.Digits.{digit};
-ghost use Rattle.listing_spec.specs.Listings.{headLetter, headWidth, prefixWidth, keepsBounds};
+ghost use Rattle.listing_spec.specs.Listings.{headLetter, headWidth, prefixWidth};
 ghost use Rattle.listing_spec.specs.inner.Checking.{pieces, begins, rowFits};
 ghost use Rattle.listing_parse.specs.inner.Lines.{endsLine, fieldFrom, DecimalAt, Reread, LineAt, LineReread, RowAt};
 ghost use Rattle.listing_parse.specs.inner.Surveys.{Counted, HeadAt, Surveyed};
+use table::refusing::keeps_bounds;
 
 pub const MOST_ROWS: usize = 65536;
 
@@ -233,28 +234,6 @@ fn count_rows(
         rows += 1;
     }
     rows
-}
-
-// Checks the bounds of check 1 on the first numbers of a head.
-fn keeps_bounds(columns: u32, keys: u32, sort: u32, rule: u32) -> bool
-    ensures { λ r. ⌜ r ≡ keepsBounds columns keys sort rule ⌝ }
-{
-    if columns < 1 {
-        return false;
-    }
-    if 8 < columns {
-        return false;
-    }
-    if keys < 1 {
-        return false;
-    }
-    if columns < keys {
-        return false;
-    }
-    if columns <= sort {
-        return false;
-    }
-    rule <= 3
 }
 
 // The row count of a head; 0 in the old form, which has none.

@@ -1,6 +1,6 @@
 -- The names that the proofs of this crate take from elsewhere, re-exported. It defines nothing of its own.
 pub use Prim.Native.Nat.{_*_, _+_, _/_, _<_, _≤_, ℕ}
-pub use mathlib.Core.Bool.{Bool, _||_, false, not, true}
+pub use mathlib.Core.Bool.{Bool, _&&_, _||_, and-true, false, not, true}
 pub use mathlib.Core.List.{List, [], _∷_}
 pub use mathlib.Core.Logic.{inl, inr}
 pub use mathlib.Core.Path.{_∙_, _≡_, refl, sym}
@@ -19,3 +19,4 @@ pub use Rattle.table.specs.Laws.Refusals.{Inside, outside-inside}
 pub use Rattle.table.specs.Numbers.{openingOf}
 pub use Rattle.table.specs.declared.Header.{Header}
 pub use Rattle.table.specs.inner.Lent.{lengthsOf}
+pub use Rattle.table.specs.inner.Bounds.{boundsKept}

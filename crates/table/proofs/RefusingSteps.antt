@@ -1,5 +1,5 @@
 -- The tests of refusing.rt one by one: what each exit of a function proves of its refusal. Assumes nothing.
-use Rattle.table.proofs.Prelude.{ℕ, _+_, _*_, _/_, _≤_, _<_, _≡_, refl, sym, _∙_, inl, inr, Bool, true, false, not, _||_, List, [], _∷_, mul-le-mul, arith, leb, ltb, leb-true, leb-false, lt-ltb, le-ltb, le-leb, lt-leb, eq-eqb, ne-eqb, split, or-no-left, Constraint, known, firstRefusal-no, firstRefusal-rest, Bounds, openable-bounds, Header, openingOf, Inside, outside-inside}
+use Rattle.table.proofs.Prelude.{ℕ, _+_, _*_, _/_, _≤_, _<_, _≡_, refl, sym, _∙_, inl, inr, Bool, true, false, not, _||_, List, [], _∷_, mul-le-mul, arith, leb, ltb, leb-true, leb-false, lt-ltb, le-ltb, le-leb, lt-leb, eq-eqb, ne-eqb, split, or-no-left, Constraint, known, firstRefusal-no, firstRefusal-rest, Bounds, openable-bounds, Header, openingOf, Inside, outside-inside, boundsKept, _&&_, and-true}
 use Rattle.refusals.specs.Refusals.{Check, check, firstRefusal}
 use Rattle.plain_table.specs.Staged.{Opening, openable}
 use Rattle.plain_table.specs.Refusing.{Lengths, storesShort, wordsShort, openRefusal, compactChecks, mergeChecks, clearChecks}
@@ -39,12 +39,23 @@ module _ (o : Opening) where
   pub unopenable : (Bounds o → ⊥) → false ≡ openable o
   unopenable wrong = elim (split (openable o)) [ inl e ↦ absurd (wrong (openable-bounds o e)) | inr e ↦ sym e ]
 
-  -- all but the last are within them
-  pub openable-last : 1 ≤ o .columns → o .columns ≤ 8 → 1 ≤ o .keys → o .keys ≤ o .columns → o .sort < o .columns → o .rule ≤ 3 → 1 ≤ o .capacity
-      → leb (o .capacity) 65536 ≡ openable o
+  -- the bounds of the capacity come last
+  openable-kept : openable o ≡ (boundsKept (o .columns) (o .keys) (o .sort) (o .rule) && leb 1 (o .capacity) && leb (o .capacity) 65536)
   unfolding openable
-  openable-last a b c d e f g =
-      rw (le-leb _ _ a, le-leb _ _ b, le-leb _ _ c, le-leb _ _ d, lt-ltb _ _ e, le-leb _ _ f, le-leb _ _ g)
+  openable-kept = rw (and-true, and-true)
+
+  -- another number is out of its bounds
+  pub unkept : boundsKept (o .columns) (o .keys) (o .sort) (o .rule) ≡ false → false ≡ openable o
+  unkept e = rw (openable-kept, e)
+
+  -- all but the last are within them
+  pub openable-last : boundsKept (o .columns) (o .keys) (o .sort) (o .rule) ≡ true → 1 ≤ o .capacity → leb (o .capacity) 65536 ≡ openable o
+  openable-last e g = rw (openable-kept, e, le-leb _ _ g)
+
+-- all but the rule are within them
+pub kept-last : (columns keys sort rule : ℕ) → 1 ≤ columns → columns ≤ 8 → 1 ≤ keys → keys ≤ columns → sort < columns → leb rule 3 ≡ boundsKept columns keys sort rule
+unfolding openable
+kept-last columns keys sort rule a b c d e = rw (le-leb _ _ a, le-leb _ _ b, le-leb _ _ c, le-leb _ _ d, lt-ltb _ _ e, and-true, and-true)
 
 -- the compaction words of a capacity
 module _ (o : Opening) (l : Lengths) where

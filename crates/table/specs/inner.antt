@@ -1,3 +1,4 @@
 -- Contracts of functions that no user calls.
 pub mod Lent
 pub mod FullIndexShape
+pub mod Bounds

@@ -7,6 +7,7 @@ ghost use Rattle.plain_table.specs.Plain.{below};
 ghost use Rattle.plain_table.specs.Refusing.{storesShort, wordsShort, openRefusal};
 ghost use Rattle.table.specs.Numbers.{openingOf, largestView};
 ghost use Rattle.table.specs.Refusing as rules;
+ghost use Rattle.table.specs.inner.Bounds.{boundsKept};
 ghost use Rattle.table.specs.inner.Lent.{lengthsOf};
 use super::Header;
 use super::LAST_RULE;
@@ -25,26 +26,33 @@ use refusals::WRONG_WIDTH;
 
 pub const LAST_GENERATION: u32 = 0xffff_ffff;
 
+// The numbers of an opening other than the capacity are within their bounds.
+pub fn keeps_bounds(columns: u32, keys: u32, sort: u32, rule: u32) -> bool
+    ensures { λ r. ⌜ r ≡ boundsKept columns keys sort rule ⌝ }
+{
+    if columns < 1 {
+        return false;
+    }
+    if MOST_COLUMNS < columns {
+        return false;
+    }
+    if keys < 1 {
+        return false;
+    }
+    if columns < keys {
+        return false;
+    }
+    if columns <= sort {
+        return false;
+    }
+    rule <= LAST_RULE
+}
+
 // The numbers of an opening are within their bounds.
 fn is_openable(h: Header) -> bool
     ensures { λ r. ⌜ r ≡ openable (openingOf h) ⌝ }
 {
-    if h.columns < 1 {
-        return false;
-    }
-    if MOST_COLUMNS < h.columns {
-        return false;
-    }
-    if h.keys < 1 {
-        return false;
-    }
-    if h.columns < h.keys {
-        return false;
-    }
-    if h.columns <= h.sort {
-        return false;
-    }
-    if LAST_RULE < h.rule {
+    if !keeps_bounds(h.columns, h.keys, h.sort, h.rule) {
         return false;
     }
     if h.capacity < 1 {
