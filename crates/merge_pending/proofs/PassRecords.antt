@@ -1,7 +1,7 @@
 -- The words of the record at a place of the pending store, one law for each way that `record_length` returns. Assumes
 -- nothing.
 use Prim.Native.Nat.{ℕ, zero, suc, _+_, _-_, _≤_, _<_}
-use mathlib.Core.Path.{_≡_, refl, sym, _∙_}
+use mathlib.Core.Path.{_≡_, refl, sym, ap, _∙_}
 use mathlib.Core.Bool.{false}
 use mathlib.Core.List.{List, [], _∷_}
 use native.Mathlib.Omega.{arith}
@@ -11,6 +11,7 @@ use Rattle.lists.specs.Lists.{filter}
 use Rattle.plain_table.specs.Staged.{Staged, insert, removeKey, removeRow, wordsOf, wordsAll}
 use Rattle.table.specs.declared.Header.{Header}
 use Rattle.table.specs.Numbers.{openingOf}
+use Rattle.table.specs.inner.Records.{kindWords}
 use Rattle.merge_pending.specs.inner.Becoming.{Waiting, kindOf, RecordLength, ofKind, Remaining, RunSkipped, CanSkip, NextRecord}
 use Rattle.merge_pending.specs.Laws.Steps.{words-some, waiting-inside, waiting-kind, waiting-next}
 
@@ -19,17 +20,6 @@ unfolding kindOf
 most-kind (insert cells) = omega arith
 most-kind (removeKey key) = omega arith
 most-kind (removeRow row key) = omega arith
-
--- how many words a record of a kind has
-pub record WordsFor (h : Header) (kind words : ℕ) : Type 0 where
-  pub of-insert : kind ≡ 0 → words ≡ h .columns + 2
-  pub of-removal : (kind ≡ 0 → ⊥) → words ≡ h .keys + 1 + kind
-
-pub words-insert : (h : Header) (kind words : ℕ) → kind ≡ 0 → words ≡ h .columns + 2 → WordsFor h kind words
-words-insert h kind words k e = record { of-insert = λ z. e; of-removal = λ z. absurd (z k) }
-
-pub words-removal : (h : Header) (kind words : ℕ) → (kind ≡ 0 → ⊥) → words ≡ h .keys + 1 + kind → WordsFor h kind words
-words-removal h kind words k e = record { of-insert = λ z. absurd (k z); of-removal = λ z. e }
 
 module _ (h : Header) (pending : List ℕ) (at : ℕ) where
   -- the record at the place, and those after it
@@ -57,12 +47,15 @@ module _ (h : Header) (pending : List ℕ) (at : ℕ) where
   pub length-unknown : at ≤ 4294967295 → 2 < getD pending at 0 → RecordLength h pending at 0
   length-unknown fits k = none-whole fits (λ r rest w. omega (arith, waiting-kind w, most-kind r))
 
-  module _ (words : ℕ) (n : WordsFor h (getD pending at 0) words) where
+  module _ (words : ℕ) (n : words ≡ kindWords (openingOf h) (getD pending at 0)) where
+    words-of : (kind : ℕ) → getD pending at 0 ≡ kind → words ≡ kindWords (openingOf h) kind
+    words-of kind e = n ∙ ap (kindWords (openingOf h)) e
+
     words-are : (r : Staged) (rest : List Staged) → Next r rest → words ≡ wordsOf (openingOf h) r
-    unfolding wordsOf kindOf
-    words-are (insert cells) rest w = n .of-insert (waiting-kind w)
-    words-are (removeKey key) rest w = let k = waiting-kind w in omega (arith, n .of-removal (λ z. omega arith))
-    words-are (removeRow row key) rest w = let k = waiting-kind w in omega (arith, n .of-removal (λ z. omega arith))
+    unfolding wordsOf kindOf kindWords
+    words-are (insert cells) rest w = words-of 0 (waiting-kind w)
+    words-are (removeKey key) rest w = words-of 1 (waiting-kind w)
+    words-are (removeRow row key) rest w = words-of 2 (waiting-kind w)
 
     -- fewer words are left than it has
     pub length-short : at ≤ 4294967295 → h .pending - at < words → RecordLength h pending at 0
@@ -70,13 +63,14 @@ module _ (h : Header) (pending : List ℕ) (at : ℕ) where
 
     -- it is whole
     pub length-whole : h .pending ≤ 4294967295 → at < h .pending → getD pending at 0 ≤ 2 → words ≤ h .pending - at → RecordLength h pending at words
+    unfolding kindWords
     length-whole fits i k m =
         record {
           inside = λ z. omega arith;
           fits = omega arith;
-          of-insert = λ z. n .of-insert;
-          of-key = λ z e. omega (arith, n .of-removal (λ q. omega arith));
-          of-row = λ z e. omega (arith, n .of-removal (λ q. omega arith));
+          of-insert = λ z e. words-of 0 e;
+          of-key = λ z e. words-of 1 e;
+          of-row = λ z e. words-of 2 e;
           kind = λ z. k;
           none = λ w. let e : at + 0 ≡ h .pending = unfold wordsAll in w .counted in absurd (omega arith);
           next = words-are;

@@ -4,7 +4,6 @@ ghost use Prim.Native.Nat.{_≤_, _<_};
 ghost use lib.ListN.{length};
 ghost use Rattle.merge_pending.specs.inner.Becoming.{RecordLength, RunSkipped, CanSkip, NextRecord};
 use table::Header;
-use table::INSERT;
 use table::REMOVE_ROW;
 
 // The number of words of the record at a place of the pending store; 0 if no complete record starts there.
@@ -19,10 +18,7 @@ pub fn record_length(h: Header, pending: &[u32], at: u32) -> u32
     if REMOVE_ROW < kind {
         return 0;
     }
-    let mut words = h.columns + 2;
-    if kind != INSERT {
-        words = h.keys + 1 + kind;
-    }
+    let words = table::kind_words(h, kind);
     if h.pending - at < words {
         return 0;
     }

@@ -20,3 +20,4 @@ pub use Rattle.table.specs.Numbers.{openingOf}
 pub use Rattle.table.specs.declared.Header.{Header}
 pub use Rattle.table.specs.inner.Lent.{lengthsOf}
 pub use Rattle.table.specs.inner.Bounds.{boundsKept}
+pub use Rattle.plain_table.specs.Staged.{Opening}

@@ -2,3 +2,4 @@
 pub mod Lent
 pub mod FullIndexShape
 pub mod Bounds
+pub mod Records

@@ -1,7 +1,10 @@
 // The table: `SortedWritesTable` of table/mod.rs, over lent stores. This crate has the types that its definitions use, and the
 // refusals of each operation; the operations are in crates above.
 ghost use mathlib.Core.Path.{_≡_};
+ghost use Prim.Native.Nat.{_≤_};
+ghost use Rattle.table.specs.Numbers.{openingOf};
 ghost use Rattle.table.specs.Sound.{indexShapeOf};
+ghost use Rattle.table.specs.inner.Records.{kindWords};
 use key_index::IndexShape;
 
 pub mod refusing; // refusing.rt: the refusals of each operation
@@ -39,6 +42,11 @@ pub const INSERT: u32 = 0;
 pub const REMOVE_KEY: u32 = 1;
 
 pub const REMOVE_ROW: u32 = 2;
+
+// The words of a pending record before its cells: the kind and the hash; in a removal by row also the row.
+pub const RECORD_HEAD: u32 = 2;
+
+pub const ROW_RECORD_HEAD: u32 = 3;
 
 // The lengths of the stores that an operation is lent; 0 for a store that it is not lent.
 pub struct Lent {
@@ -119,4 +127,15 @@ pub fn index_shape(h: Header) -> IndexShape
         room: key_index::size_class_for(h.capacity, h.rows),
         rows: h.rows,
     }
+}
+
+// The number of words of a pending record of a known kind. A removal has one word and as many more as its kind before its key.
+pub fn kind_words(h: Header, kind: u32) -> u32
+    requires { ⌜ (h .columns ≤ 8) × (h .keys ≤ 8) × (kind ≤ 2) ⌝ }
+    ensures { λ r. ⌜ r ≡ kindWords (openingOf h) kind ⌝ }
+{
+    if kind == INSERT {
+        return h.columns + RECORD_HEAD;
+    }
+    h.keys + 1 + kind
 }

@@ -1,17 +1,18 @@
 -- The steps of checking.rt, by the laws of specs/Laws/Checks.antt: one law for each way that a function answers, and what
 -- holds at the head of the loop over the pending words. Assumes nothing.
-use Rattle.table_check.proofs.Prelude.{ℕ, _+_, _-_, _*_, _≤_, _<_, _≡_, refl, sym, ap, _∙_, Bool, true, false, not, false≢true, List, [], _∷_, add-zero, ℕ-discrete, arith, leb, length, take, drop, getD, length-drop, getD-drop, drop-drop, ne-eqb, le-leb, leb-true, outcome-refused, count-append, count-le, length-rowsOf, rowsOf-snoc, isLive, live-first, IndexShape, entriesOf, entriesSound, Decides, decides-yes, decides-no, cellsSound, cells-live, cells-of, last-entriesOf, last-none, sound-climb, last-all, Header, soundRefusal, indexShapeOf, Checked, parts-sound, sound-rows, sound-index, sound-whole, begins-words, begins-hash, words-begin, holds-cons, holds-head, holds-tail, holds-none, holds-some, holds-pending, pending-holds}
+use Rattle.table_check.proofs.Prelude.{ℕ, _+_, _-_, _*_, _≤_, _<_, _≡_, refl, sym, ap, _∙_, Bool, true, false, not, false≢true, List, [], _∷_, add-zero, ℕ-discrete, arith, leb, length, take, drop, getD, length-drop, getD-drop, drop-drop, le-leb, leb-true, outcome-refused, count-append, count-le, length-rowsOf, rowsOf-snoc, isLive, live-first, IndexShape, entriesOf, entriesSound, Decides, decides-yes, decides-no, cellsSound, cells-live, cells-of, last-entriesOf, last-none, sound-climb, last-all, Header, soundRefusal, indexShapeOf, Checked, parts-sound, sound-rows, sound-index, sound-whole, begins-words, begins-hash, words-begin, holds-cons, holds-head, holds-tail, holds-none, holds-some, holds-pending, pending-holds, begins-kind}
 use mathlib.Core.Option.{Option, none as no-value, some as a-value}
 use Rattle.refusals.specs.Refusals.{reply, outcome}
 use Rattle.lists.specs.Lists.{all, count, rowAt, rowsOf}
 use Rattle.cells.specs.Cells.{isDead, compactHash, keyHash}
 use Rattle.plain_table.specs.Proper.{atMost}
-use Rattle.plain_table.specs.Staged.{Opening, Staged, insert, removeKey, removeRow, wordsOf}
+use Rattle.plain_table.specs.Staged.{Opening, Staged, wordsOf}
 use Rattle.table.specs.declared.Largest.the-variants.{None as NoLargest, Value}
 use Rattle.table.specs.declared.SoundAnswer.the-variants.{Refused, Sound as IsSound}
 use Rattle.table.specs.Numbers.{openingOf, largestView, soundView}
 use Rattle.key_check.specs.inner.Check.{KeyStoreSound}
-use Rattle.table_check.specs.inner.Checks.{deadRows, lastKept, RowsSound, kindWords, keyPlace, keyWords, Begins, RecordRead, HoldsFrom, PendingWhole, SoundStores}
+use Rattle.table_check.specs.inner.Checks.{deadRows, lastKept, RowsSound, keyPlace, keyWords, Begins, RecordRead, HoldsFrom, PendingWhole, SoundStores}
+use Rattle.table.specs.inner.Records.{kindWords}
 
 -- ---- rows
 
@@ -96,43 +97,37 @@ module _ (h : Header) (rows sorts : List ℕ) where
 
 -- ---- pending records
 
--- a record takes words
-words-some : (o : Opening) (r : Staged) → 0 < wordsOf o r
-unfolding wordsOf
-words-some o (insert cells) = omega arith
-words-some o (removeKey key) = omega arith
-words-some o (removeRow row key) = omega arith
-
 -- a record has a hash and a key
 pub record KeyInside (o : Opening) (kind words : ℕ) : Type 0 where
   pub some : 2 ≤ words
   pub end : keyPlace kind + o .keys ≤ words
 
-pub key-inside : (o : Opening) (kind : ℕ) {words : ℕ} → words ≡ kindWords o kind → (words ≡ 0 → ⊥) → o .keys ≤ o .columns → KeyInside o kind words
+pub key-inside : (o : Opening) (kind : ℕ) {words : ℕ} → words ≡ kindWords o kind → kind ≤ 2 → o .keys ≤ o .columns → KeyInside o kind words
 unfolding kindWords keyPlace
-key-inside o kind {words} e some narrow =
+key-inside o kind {words} e known narrow =
     elim (ℕ-discrete kind 0) [
       | yes a ↦ let f : words ≡ o .columns + 2 = rw a at e in rw a (record { some = omega arith; end = omega arith })
       | no a ↦ elim (ℕ-discrete kind 1) [
         | yes b ↦ let f : words ≡ o .keys + 2 = rw b at e in rw b (record { some = omega arith; end = omega arith })
-        | no b ↦ elim (ℕ-discrete kind 2) [
-          | yes d ↦ let f : words ≡ o .keys + 3 = rw d at e in rw d (record { some = omega arith; end = omega arith })
-          | no d ↦ absurd (some (e ∙ rw (ne-eqb _ _ a, ne-eqb _ _ b, ne-eqb _ _ d)))
-        ]
+        | no b ↦
+            let d : kind ≡ 2 = omega arith in
+            let f : words ≡ o .keys + 3 = rw d at e in
+            rw d (record { some = omega arith; end = omega arith })
       ]
     ]
 
 -- the answers of `record_words`
+
+first-word : (pending : List ℕ) (at : ℕ) → getD (drop at pending) 0 0 ≡ getD pending at 0
+first-word pending at = getD-drop at pending 0 0 ∙ rw add-zero
+
+pub read-no-kind : (o : Opening) (pending : List ℕ) (end at : ℕ) → 2 < getD pending at 0 → RecordRead o pending end at 0
+read-no-kind o pending end at h =
+    record { yes = λ k. absurd (omega arith); no = λ _ r b k. omega (arith, begins-kind o (drop at pending) r b, first-word pending at) }
+
 module _ (o : Opening) (pending : List ℕ) (end at words : ℕ) (kind : words ≡ kindWords o (getD pending at 0)) where
-  first-word : getD (drop at pending) 0 0 ≡ getD pending at 0
-  first-word = getD-drop at pending 0 0 ∙ rw add-zero
-
   words-are : (r : Staged) → Begins o (drop at pending) r → wordsOf o r ≡ words
-  words-are r b = begins-words o (drop at pending) r b ∙ ap (kindWords o) first-word ∙ sym kind
-
-  pub read-no-kind : words ≡ 0 → RecordRead o pending end at 0
-  read-no-kind z =
-      record { yes = λ h. absurd (omega arith); no = λ _ r b k. let n = words-are r b in let m = words-some o r in omega arith }
+  words-are r b = begins-words o (drop at pending) r b ∙ ap (kindWords o) (first-word pending at) ∙ sym kind
 
   pub read-short : end - at < words → RecordRead o pending end at 0
   read-short h =
@@ -144,7 +139,7 @@ module _ (o : Opening) (pending : List ℕ) (end at words : ℕ) (kind : words �
     unfolding keyWords
     key-hash =
         let n : at + place + o .keys - (at + place) ≡ o .keys = omega arith in
-        h ∙ rw (n, first-word, ← p, drop-drop place at pending)
+        h ∙ rw (n, first-word pending at, ← p, drop-drop place at pending)
 
     pub read-other-hash : (getD pending (at + 1) 0 ≡ hash → ⊥) → RecordRead o pending end at 0
     read-other-hash f =
@@ -153,11 +148,12 @@ module _ (o : Opening) (pending : List ℕ) (end at words : ℕ) (kind : words �
           no = λ _ r b k. f (sym (getD-drop at pending 1 0) ∙ begins-hash o (drop at pending) narrow r b ∙ sym key-hash);
         }
 
-    pub read-whole : getD pending (at + 1) 0 ≡ hash → (words ≡ 0 → ⊥) → words ≤ end - at → at < end → end ≤ length pending → RecordRead o pending end at words
-    read-whole e some fit inside long =
-        let n : words ≡ kindWords o (getD (drop at pending) 0 0) = kind ∙ ap (kindWords o) (sym first-word) in
-        let b = words-begin o (drop at pending) (getD-drop at pending 1 0 ∙ e ∙ key-hash) narrow (omega arith) (simp length-drop (omega arith)) in
-        record { yes = λ k. (b .0, b .1, words-are (b .0) (b .1), omega arith); no = λ z. absurd (some z) }
+    pub read-whole : getD pending (at + 1) 0 ≡ hash → getD pending at 0 ≤ 2 → words ≤ end - at → at < end → end ≤ length pending → RecordRead o pending end at words
+    read-whole e known fit inside long =
+        let w = key-inside o (getD pending at 0) kind known narrow in
+        let n : words ≡ kindWords o (getD (drop at pending) 0 0) = kind ∙ ap (kindWords o) (sym (first-word pending at)) in
+        let b = words-begin o (drop at pending) (getD-drop at pending 1 0 ∙ e ∙ key-hash) narrow (omega (arith, first-word pending at)) (simp length-drop (omega arith)) in
+        record { yes = λ k. (b .0, b .1, words-are (b .0) (b .1), omega arith); no = λ z. absurd (omega (arith, w)) }
 
 -- what holds at the loop's head of `pending_whole`: records fill the words from here on exactly if they fill all words
 pub record Reached (o : Opening) (pending : List ℕ) (end at : ℕ) : Type 0 where

@@ -29,4 +29,4 @@ pub use Rattle.table.specs.Numbers.{openingOf}
 pub use Rattle.table.specs.Refusing.{soundRefusal}
 pub use Rattle.table.specs.Sound.{indexShapeOf}
 pub use Rattle.table.specs.declared.Header.{Header}
-pub use Rattle.table_check.specs.Laws.Checks.{begins-hash, begins-words, holds-cons, holds-head, holds-none, holds-pending, holds-some, holds-tail, parts-sound, pending-holds, sound-cells, sound-fits, sound-held, sound-index, sound-pending, sound-rows, sound-whole, words-begin}
+pub use Rattle.table_check.specs.Laws.Checks.{begins-hash, begins-words, holds-cons, holds-head, holds-none, holds-pending, holds-some, holds-tail, parts-sound, pending-holds, sound-cells, sound-fits, sound-held, sound-index, sound-pending, sound-rows, sound-whole, words-begin, begins-kind}

@@ -9,13 +9,13 @@ ghost use Rattle.sort_entries.specs.inner.Checks.{Decides, Cells};
 ghost use Rattle.table.specs.Numbers.{openingOf};
 ghost use Rattle.table.specs.Refusing.{soundRefusal};
 ghost use Rattle.table.specs.Contracts.{Checked};
-ghost use Rattle.table_check.specs.inner.Checks.{deadRows, lastKept, RowsSound, PendingIn, kindWords, keyPlace, RecordRead, PendingWhole, SoundStores};
+ghost use Rattle.table_check.specs.inner.Checks.{deadRows, lastKept, RowsSound, PendingIn, keyPlace, RecordRead, PendingWhole, SoundStores};
 use table::Header;
-use table::INSERT;
 use table::Largest;
 use table::Lent;
-use table::REMOVE_KEY;
+use table::RECORD_HEAD;
 use table::REMOVE_ROW;
+use table::ROW_RECORD_HEAD;
 use table::SoundAnswer;
 use table::refusing;
 
@@ -73,31 +73,14 @@ pub fn rows_sound(h: Header, rows: &[u32], sorts: &[u32]) -> bool
     sort_entries::sort_cells_sound(rows, h.columns, h.sort, h.rows, sorts, h.entries)
 }
 
-// The number of words of a record of this kind; 0 for an unknown kind.
-fn kind_words(h: Header, kind: u32) -> u32
-    requires { ⌜ (h .columns ≤ 8) × (h .keys ≤ h .columns) ⌝ }
-    ensures { λ r. ⌜ r ≡ kindWords (openingOf h) kind ⌝ }
-{
-    if kind == INSERT {
-        return h.columns + 2;
-    }
-    if kind == REMOVE_KEY {
-        return h.keys + 2;
-    }
-    if kind == REMOVE_ROW {
-        return h.keys + 3;
-    }
-    0
-}
-
 // The offset of the key in a record.
 fn key_place(kind: u32) -> u32
     ensures { λ r. ⌜ r ≡ keyPlace kind ⌝ }
 {
     if kind == REMOVE_ROW {
-        return 3;
+        return ROW_RECORD_HEAD;
     }
-    2
+    RECORD_HEAD
 }
 
 // The number of words of the record at a place; 0 if there is no complete record.
@@ -107,10 +90,10 @@ fn record_words(h: Header, pending: &[u32], at: u32) -> u32
 {
     let start = at as usize;
     let kind = pending[start];
-    let words = kind_words(h, kind);
-    if words == 0 {
+    if REMOVE_ROW < kind {
         return 0;
     }
+    let words = table::kind_words(h, kind);
     if h.pending - at < words {
         return 0;
     }

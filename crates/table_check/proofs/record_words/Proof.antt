@@ -5,8 +5,8 @@ use Rattle.table_check.proofs.record_words.Statement.{statement}
 use Rattle.table_check.proofs.record_words.Tie as tie
 
 -- the hash and the key are within the record
-key-in : (c : tie.After-shared-slice-known3) → KeyInside (openingOf (c .before .before .before .before .before .before .before .before .before .args .h)) (getD (c .before .before .before .before .before .before .before .before .before .args .pending .now) (c .before .before .before .before .before .before .before .before .before .args .at) 0) (c .before .before .before .before .before .before .kind-words .result)
-key-in c = key-inside _ _ (c .before .before .before .before .before .before .kind-words .ensures) (c .before .before .before .before .before .if1 .left) (c .before .before .before .before .before .before .before .before .before .pre .0 .most-keys)
+key-in : (c : tie.After-shared-slice-known3) → KeyInside (openingOf (c .before .before .before .before .before .before .before .before .before .args .h)) (getD (c .before .before .before .before .before .before .before .before .before .args .pending .now) (c .before .before .before .before .before .before .before .before .before .args .at) 0) (c .before .before .before .before .before .kind-words .result)
+key-in c = key-inside _ _ (c .before .before .before .before .before .kind-words .ensures) (c .before .before .before .before .before .before .if1 .left) (c .before .before .before .before .before .before .before .before .before .pre .0 .most-keys)
 
 shared-slice-read-if3 : tie.Need-shared-slice-read-if3
 shared-slice-read-if3 c = omega (arith, key-in c, c .before .before .before .if2 .left, c .before .before .before .before .before .before .before .before .before .pre)
@@ -17,19 +17,19 @@ part-compact-hash-end c = omega (arith, key-in c, c .before .before .key-place .
 returns-3 : tie.Need-returns-3
 returns-3 c =
     let s = c .before .before .before .before .before .before .before .before .before .before .before .before in
-    read-other-hash _ _ _ _ _ (c .before .before .before .before .before .before .before .before .before .kind-words .ensures) (s .pre .0 .most-keys) _ _ (c .before .before .before .before .before .key-place .ensures) (c .before .compact-hash .ensures) (c .if3 .taken)
+    read-other-hash _ _ _ _ _ (c .before .before .before .before .before .before .before .before .kind-words .ensures) (s .pre .0 .most-keys) _ _ (c .before .before .before .before .before .key-place .ensures) (c .before .compact-hash .ensures) (c .if3 .taken)
 
 returns-4 : tie.Need-returns-4
 returns-4 c =
     let s = c .before .before .before .before .before .before .before .before .before .before .before .before in
-    read-whole _ _ _ _ _ (c .before .before .before .before .before .before .before .before .before .kind-words .ensures) (s .pre .0 .most-keys) _ _ (c .before .before .before .before .before .key-place .ensures) (c .before .compact-hash .ensures) (c .if3 .left)
-    (c .before .before .before .before .before .before .before .before .if1 .left) (c .before .before .before .before .before .before .if2 .left) (s .pre .1) (s .pre .0 .fits)
+    read-whole _ _ _ _ _ (c .before .before .before .before .before .before .before .before .kind-words .ensures) (s .pre .0 .most-keys) _ _ (c .before .before .before .before .before .key-place .ensures) (c .before .compact-hash .ensures) (c .if3 .left)
+    (c .before .before .before .before .before .before .before .before .before .if1 .left) (c .before .before .before .before .before .before .if2 .left) (s .pre .1) (s .pre .0 .fits)
 
 pub record-words-spec : {M : Type 1} → statement M
 record-words-spec =
     tie.close
     (tie.spec
-    (λ c. search needs) (λ c. search needs) (λ c κs. search needs) (λ c. read-no-kind _ _ _ _ _ (c .before .kind-words .ensures) (c .if1 .taken)) (λ c. search needs) (λ c. read-short _ _ _ _ _ (c .before .before .before .kind-words .ensures) (c .if2 .taken))
+    (λ c. search needs) (λ c. search needs) (λ c. read-no-kind _ _ _ _ (c .if1 .taken)) (λ c κs. search needs) (λ c. search needs) (λ c. read-short _ _ _ _ _ (c .before .before .kind-words .ensures) (c .if2 .taken))
     (λ c κs. search needs) (λ c. search needs) (λ c. search needs) (λ c. search needs) (λ c. search needs)
     (λ c. search needs) (λ c. search needs) shared-slice-read-if3 (λ c. search needs) (λ c. search needs)
     (λ c. search needs) part-compact-hash-end (λ c κs. search needs) returns-3 returns-4)

@@ -10,7 +10,7 @@ use native.Mathlib.Omega.{arith}
 use lib.Dec.{eqb}
 use lib.ListN.{length, take, drop, getD, length-take, length-drop}
 use lib.Seq.{take-take, take-add, take-at, drop-at, drop-drop, getD-take}
-use borrow.Author.Tests.{eq-eqb, ne-eqb, not-true}
+use borrow.Author.Tests.{eq-eqb, not-true}
 use Rattle.lists.specs.Lists.{all, flatten}
 use Rattle.lists.specs.Laws.Parts.{take-drop}
 use Rattle.lists.specs.Laws.All.{all-head, all-tail, all-cons}
@@ -26,7 +26,8 @@ use Rattle.table.specs.Numbers.{openingOf}
 use Rattle.table.specs.Refusing.{soundRefusal}
 use Rattle.table.specs.Stores.{recordWords}
 use Rattle.table.specs.Sound.{indexShapeOf, Sound}
-use Rattle.table_check.specs.inner.Checks.{RowsSound, PendingIn, kindWords, keyPlace, keyWords, Begins, HoldsFrom, Pending}
+use Rattle.table_check.specs.inner.Checks.{RowsSound, PendingIn, keyPlace, keyWords, Begins, HoldsFrom, Pending}
+use Rattle.table.specs.inner.Records.{kindWords}
 use Rattle.table.specs.Laws.Refusals.{Tested, sound-tested, inside-fits}
 use Rattle.table.specs.Laws.Pending.{length-recordWords}
 
@@ -112,6 +113,13 @@ module _ (o : Opening) (words : List ℕ) where
   begins-words (removeKey key) b = rw (begins-word (removeKey key) b 0 (omega arith))
   begins-words (removeRow row key) b = rw (begins-word (removeRow row key) b 0 (omega arith))
 
+  -- the first word is a kind
+  pub begins-kind : (r : Staged) → Begins o words r → getD words 0 0 ≤ 2
+  unfolding wordsOf recordWords
+  begins-kind (insert cells) b = omega (arith, begins-word (insert cells) b 0 (omega arith))
+  begins-kind (removeKey key) b = omega (arith, begins-word (removeKey key) b 0 (omega arith))
+  begins-kind (removeRow row key) b = omega (arith, begins-word (removeRow row key) b 0 (omega arith))
+
   -- the second is the hash of the key
   pub begins-hash : o .keys ≤ o .columns → (r : Staged) → Begins o words r → getD words 1 0 ≡ compactHash (keyHash (keyWords o words))
   unfolding wordsOf recordWords keyWords keyPlace
@@ -164,17 +172,16 @@ module _ (o : Opening) (words : List ℕ) (hash : getD words 1 0 ≡ compactHash
       record { right-width = right-length (o .keys) 3 words h; there = three-words (o .keys) words h ∙ rw (e, f) }
 
   -- words are the start of a record if the first is a kind, the second is the hash of the key, and there are enough of them
-  pub words-begin : o .keys ≤ o .columns → 0 < kindWords o (getD words 0 0) → kindWords o (getD words 0 0) ≤ length words → (r : Staged) × Begins o words r
+  pub words-begin : o .keys ≤ o .columns → getD words 0 0 ≤ 2 → kindWords o (getD words 0 0) ≤ length words → (r : Staged) × Begins o words r
   unfolding kindWords
-  words-begin narrow some long =
+  words-begin narrow known long =
       elim (ℕ-discrete (getD words 0 0) 0) [
         | yes e ↦ (insert (take (o .columns) (drop 2 words)), insert-begins narrow e (rw e at long))
         | no e ↦ elim (ℕ-discrete (getD words 0 0) 1) [
           | yes f ↦ (removeKey (take (o .keys) (drop 2 words)), removeKey-begins f (rw f at long))
-          | no f ↦ elim (ℕ-discrete (getD words 0 0) 2) [
-            | yes g ↦ (removeRow (getD words 2 0) (take (o .keys) (drop 3 words)), removeRow-begins g (rw g at long))
-            | no g ↦ absurd (let z : 0 < 0 = rw (ne-eqb _ _ e, ne-eqb _ _ f, ne-eqb _ _ g) at some in omega arith)
-          ]
+          | no f ↦
+              let g : getD words 0 0 ≡ 2 = omega arith in
+              (removeRow (getD words 2 0) (take (o .keys) (drop 3 words)), removeRow-begins g (rw g at long))
         ]
       ]
 

@@ -43,10 +43,6 @@ pub record PendingIn (h : Header) (pending : List ℕ) : Type 0 where
   pub most-keys : h .keys ≤ h .columns
   pub fits : h .pending ≤ length pending
 
--- the number of words of a record of this kind; 0 for an unknown kind
-unfoldable pub kindWords : Opening → ℕ → ℕ
-kindWords o kind = cond (eqb kind 0) (o .columns + 2) (cond (eqb kind 1) (o .keys + 2) (cond (eqb kind 2) (o .keys + 3) 0))
-
 -- the offset of the key in a record
 unfoldable pub keyPlace : ℕ → ℕ
 keyPlace kind = cond (eqb kind 2) 3 2
