@@ -5,7 +5,7 @@ ghost use mathlib.Core.Bool.{true};
 ghost use Prim.Native.Nat.{ℕ, _≤_, min, max};
 ghost use mathlib.Core.List.{List};
 ghost use lib.ListN.{length};
-ghost use Rattle.lists.specs.Lists.{splice, filter, within};
+ghost use Rattle.lists.specs.Lists.{filter, within};
 ghost use Rattle.refusals.specs.Refusals.{accepted};
 ghost use Rattle.offsets.specs.Subsets.{range, list, listOrNothing};
 ghost use Rattle.offsets.specs.Answers.{subsetOf, Answered, roomNeeded, intersectRefusal, intersectReply};
@@ -23,18 +23,6 @@ use refusals::TOO_SHORT;
 
 mod blocks; // blocks.rt: lists of similar length
 
-// Writes the ids to the start of the output.
-fn write_ids(output: &mut [u32], ids: &[u32])
-    requires { ⌜ length (now ids) ≤ length (now output) ⌝ }
-    ensures { λ _. ⌜ now (output .exit) ≡ splice (now (output .entry)) 0 (now (ids .entry)) ⌝ }
-{
-    let mut i = 0;
-    while i < ids.len() {
-        output[i] = ids[i];
-        i += 1;
-    }
-}
-
 // Writes the ids of a list that are in a range: the part between two positions.
 fn keep_within(ids: &[u32], start: u32, end: u32, output: &mut [u32]) -> usize
     requires { ⌜ Fitting (now ids) (now output) × (start ≤ end) ⌝ }
@@ -44,7 +32,7 @@ fn keep_within(ids: &[u32], start: u32, end: u32, output: &mut [u32]) -> usize
     let high = binary_search_from(ids, low, end);
     let from = low as usize;
     let upto = high as usize;
-    write_ids(output, &ids[from..upto]);
+    row_buffer::write_row(output, 0, &ids[from..upto]);
     upto - from
 }
 

@@ -9,7 +9,7 @@ returns c = let p = c .before .before .before .before .before .before .before .b
     let l = c .before .before .before .before .before .before .binary-search-by-id .ensures .first (p .0 .up) in
     let m = notBelow-mono _ _ _ (p .0 .up) (p .1) in
     let h = c .before .before .before .before .before .binary-search-from .ensures .first (p .0 .up) (omega arith) in
-    wrote-within _ _ _ _ _ _ _ (p .0 .up) (p .1) l h (c .before .before .write-ids .ensures)
+    wrote-within _ _ _ _ _ _ _ (p .0 .up) (p .1) l h (c .before .before .write-row .ensures)
 
 pub keep-within-spec : {M : Type 1} → statement M
 keep-within-spec =
