@@ -11,7 +11,7 @@ pub use lib.Seq.{take-all, length-take-le, drop-cons}
 pub use borrow.Author.Needs.{needs}
 pub use Rattle.listing_check.specs.Answers.{AnswersChecked, lowest, wrongNumbers}
 pub use Rattle.listing_check.specs.Laws.Numbers.{Apart, apart-one, differ, misplaced-at, misplaced-none, misplaced-rising, wrong-none, wrong-some}
-pub use Rattle.listing_check.specs.inner.Scanning.{Begun, Due, MisplacedAt, RowRead, Stepped, Underway, closed}
+pub use Rattle.listing_check.specs.inner.Scanning.{Begun, Due, RowRead, Stepped, Underway, closed}
 pub use Rattle.listing_check.specs.declared.CheckAnswer.{CheckAnswer}
 pub use Rattle.listing_check.specs.declared.CheckScan.{CheckScan}
 pub use Rattle.listing_check.specs.declared.CheckAnswer.the-variants.{Checked, Refused}

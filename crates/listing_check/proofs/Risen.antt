@@ -1,5 +1,9 @@
 -- Numbers that rise up to a place: the loop of `first_misplaced`. Assumes nothing.
-use Rattle.listing_check.proofs.Prelude.{ℕ, _+_, _-_, _≤_, _<_, _≡_, List, decLt, arith, length, getD, rising-of, MisplacedAt, misplaced-rising, misplaced-at}
+use Rattle.listing_check.proofs.Prelude.{ℕ, _+_, _-_, _≤_, _<_, _≡_, List, decLt, arith, length, getD, rising-of, misplaced-rising, misplaced-at, sym, ap, _∙_, none, some}
+use Rattle.listing_check.specs.declared.FirstMisplaced.{FirstMisplaced}
+use Rattle.listing_check.specs.declared.FirstMisplaced.the-variants.{None, At}
+use Rattle.listing_check.specs.Answers.{misplaced}
+use Rattle.listing_check.specs.inner.Scanning.{misplacedPlace}
 
 abbrev pub Risen : List ℕ → ℕ → Type 0
 Risen given at = (i : ℕ) → 0 < i → i < at → getD given (i - 1) 0 < getD given i 0
@@ -11,14 +15,22 @@ module _ (given : List ℕ) (at : ℕ) (risen : Risen given at) where
     | no l ↦ let e : i ≡ at = omega arith in rw e h
   ]
 
-  pub risen-not : 1 ≤ at → at < length given → getD given at 0 ≤ getD given (at - 1) 0 → MisplacedAt given at
-  risen-not p l h = record {
-    found = λ k. misplaced-at given (record { behind = p; inside = l; not-above = h; rises = risen });
-    rising = λ k. absurd (omega arith);
-  }
+  pub risen-not : 1 ≤ at → at < length given → getD given at 0 ≤ getD given (at - 1) 0 → misplacedPlace (At at) ≡ misplaced given
+  unfolding misplacedPlace
+  risen-not p l h = sym (misplaced-at given (record { behind = p; inside = l; not-above = h; rises = risen }))
 
-  pub risen-end : length given ≤ at → MisplacedAt given (length given)
-  risen-end h = record { found = λ k. absurd (omega arith); rising = λ k. misplaced-rising given (rising-of given step) }
+  pub risen-end : length given ≤ at → misplacedPlace None ≡ misplaced given
+  risen-end h = unfold misplacedPlace in sym (misplaced-rising given (rising-of given step))
     where
       step : (i : ℕ) → i + 1 < length given → getD given i 0 < getD given (i + 1) 0
       step i l = let e : i + 1 - 1 ≡ i = omega arith in rw e at (risen (i + 1) (omega arith) (omega arith))
+
+-- the result of `first_misplaced`
+module _ (given : List ℕ) (r : FirstMisplaced) (e : misplacedPlace r ≡ misplaced given) where
+  pub none-misplaced : r ≡ None → misplaced given ≡ none
+  unfolding misplacedPlace
+  none-misplaced q = sym e ∙ ap misplacedPlace q
+
+  pub one-misplaced : (place : ℕ) → r ≡ At place → misplaced given ≡ some place
+  unfolding misplacedPlace
+  one-misplaced place q = sym e ∙ ap misplacedPlace q

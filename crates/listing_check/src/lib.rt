@@ -5,8 +5,8 @@ ghost use Prim.Native.Nat.{_≤_};
 ghost use lib.ListN.{take, getD};
 ghost use Rattle.constraints.specs.Constraints.{meets};
 ghost use Rattle.listing_parse.specs.inner.Surveys.{Surveyed};
-ghost use Rattle.listing_check.specs.Answers.{AnswersChecked};
-ghost use Rattle.listing_check.specs.inner.Scanning.{MisplacedAt, Due, RowRead, finishedAs, Begun, Stepped, closed};
+ghost use Rattle.listing_check.specs.Answers.{misplaced, AnswersChecked};
+ghost use Rattle.listing_check.specs.inner.Scanning.{misplacedPlace, Due, RowRead, finishedAs, Begun, Stepped, closed};
 use constraints::Constraint;
 use listing_parse::MOST_FIELDS;
 use listing_parse::Survey;
@@ -68,18 +68,23 @@ fn header_of(s: Survey) -> Header
     }
 }
 
-// The place of the first number not above the one before, or the number of numbers if there is none.
-fn first_misplaced(given: &[u32]) -> usize
-    ensures { λ r. ⌜ MisplacedAt (now (given .entry)) r ⌝ }
+// The place of the first number not above the one before, if there is one.
+enum FirstMisplaced {
+    None,
+    At(usize),
+}
+
+fn first_misplaced(given: &[u32]) -> FirstMisplaced
+    ensures { λ r. ⌜ misplacedPlace r ≡ misplaced (now (given .entry)) ⌝ }
 {
     let mut at = 1;
     while at < given.len() {
         if given[at] <= given[at - 1] {
-            return at;
+            return FirstMisplaced::At(at);
         }
         at += 1;
     }
-    given.len()
+    FirstMisplaced::None
 }
 
 // The final state: no line or number is left that could change the answer.
@@ -105,15 +110,17 @@ fn begin(s: Survey, known: bool, text: &[u8], given: &[u32]) -> CheckScan
     if !known {
         return finished(CheckAnswer::Refused(NO_SUCH_COLUMN), given.len());
     }
-    let place = first_misplaced(given);
-    if place < given.len() {
-        return finished(CheckAnswer::Checked(Verdict::Misplaced(place)), given.len());
-    }
-    CheckScan {
-        answer: CheckAnswer::Checked(Verdict::Right),
-        start: s.start,
-        end: text.len(),
-        place: 0,
+    match first_misplaced(given) {
+        FirstMisplaced::None => CheckScan {
+            answer: CheckAnswer::Checked(Verdict::Right),
+            start: s.start,
+            end: text.len(),
+            place: 0,
+        },
+        FirstMisplaced::At(place) => finished(
+            CheckAnswer::Checked(Verdict::Misplaced(place)),
+            given.len(),
+        ),
     }
 }
 

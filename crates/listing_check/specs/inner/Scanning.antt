@@ -15,14 +15,16 @@ use Rattle.listing_parse.specs.Laws.Steps.{rowsFrom, ValidRows}
 use Rattle.listing_check.specs.declared.Verdict.the-variants.{Wrong}
 use Rattle.listing_check.specs.declared.CheckAnswer.{CheckAnswer}
 use Rattle.listing_check.specs.declared.CheckAnswer.the-variants.{Checked}
+use Rattle.listing_check.specs.declared.FirstMisplaced.{FirstMisplaced}
+use Rattle.listing_check.specs.declared.FirstMisplaced.the-variants.{None, At}
 use Rattle.listing_check.specs.declared.Row.{Row}
 use Rattle.listing_check.specs.declared.CheckScan.{CheckScan}
-use Rattle.listing_check.specs.Answers.{misplaced, AnswersChecked}
+use Rattle.listing_check.specs.Answers.{AnswersChecked}
 
--- the place of the first number not above the one before, or the length of the list if there is none
-pub record MisplacedAt (given : List ℕ) (place : ℕ) : Type 0 where
-  pub found : place < length given → misplaced given ≡ some place
-  pub rising : length given ≤ place → misplaced given ≡ none
+-- the place of the first number not above the one before, as an option
+unfoldable pub misplacedPlace : FirstMisplaced → Option ℕ
+misplacedPlace None = none
+misplacedPlace (At place) = some place
 
 -- the lowest number that exactly one of two rising lists has
 unfoldable pub firstApart : List ℕ → List ℕ → Option ℕ
