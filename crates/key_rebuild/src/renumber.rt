@@ -11,6 +11,7 @@ ghost use Rattle.key_rebuild.specs.inner.Renumbering.{renumbered, Ranked
 use bitmap::word::block;
 use bitmap::word::different_bits;
 use key_index::IndexShape;
+use key_index::MOST_ROWS;
 use key_index::ROW_RANGE;
 use key_index::names_row;
 
@@ -25,7 +26,7 @@ fn renumber_word(t: IndexShape, word: u32, live: &[u64], base: &[u32]) -> u32
     let row = word % ROW_RANGE - 1;
     let at = (row / 64) as usize;
     let first = base[at];
-    if first > 65536 {
+    if first > MOST_ROWS {
         return word;
     }
     word / ROW_RANGE * ROW_RANGE + (row_buffer::rank(live[at], first, row % 64) + 1)

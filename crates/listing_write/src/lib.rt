@@ -13,14 +13,11 @@ use levels_text::write::number_length;
 use levels_text::write::put_line;
 use levels_text::write::put_numbered;
 use listing_spec::TextAnswer;
+use refusals::OUT_OF_BOUNDS;
+use refusals::TOO_SHORT;
 use table::Header;
 use table::refusing::is_outside;
 use table::refusing::is_rows_short;
-
-// The refusals of `write_listing`.
-const OUTSIDE: u32 = 1;
-
-const TOO_SHORT: u32 = 2;
 
 // The bytes that numbers take, with a comma before each.
 fn numbers_length(numbers: &[u32]) -> usize
@@ -158,7 +155,7 @@ pub fn write_listing(h: Header, rows: &[u32], numbered: bool, output: &mut [u8])
     ensures { λ r. ⌜ ListingWritten numbered h (now (rows .entry)) (now (output .entry)) r (now (output .exit)) ⌝ }
 {
     if is_outside(h) {
-        return TextAnswer::Refused(OUTSIDE);
+        return TextAnswer::Refused(OUT_OF_BOUNDS);
     }
     if is_rows_short(h, rows.len()) {
         return TextAnswer::Refused(TOO_SHORT);

@@ -10,6 +10,7 @@ ghost use Rattle.merge.specs.inner.Parts.{Applying, Finishing};
 use merge_insert::MergeProgress;
 use merge_insert::insert_all;
 use merge_remove::remove_all;
+use refusals::ACCEPTED;
 use table::Header;
 use table::Lent;
 use table::Merge;
@@ -20,6 +21,9 @@ use table::refusing::LAST_GENERATION;
 use table::refusing::merge_refusal;
 use table_compact::compact_rows;
 
+// A compaction is due only if more rows than these are dead.
+const DEAD_ALLOWED: u32 = 16;
+
 // Whether there are enough dead rows for a compaction, and the generation can still rise.
 fn is_due(h: Header) -> bool
     ensures { λ r. ⌜ r ≡ compactionDue (h .dead) (h .rows) (h .generation) ⌝ }
@@ -27,7 +31,7 @@ fn is_due(h: Header) -> bool
     if h.generation == LAST_GENERATION {
         return false;
     }
-    if h.dead <= 16 {
+    if h.dead <= DEAD_ALLOWED {
         return false;
     }
     h.rows / 2 < h.dead
@@ -106,7 +110,7 @@ pub fn merge(
         base: base.len(),
     };
     let refusal = merge_refusal(h, l);
-    if refusal != 0 {
+    if refusal != ACCEPTED {
         return MergeAnswer::Refused(refusal);
     }
     let m = apply_pending(h, rows, keys, sorts, pending);

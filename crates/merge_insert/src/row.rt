@@ -11,6 +11,7 @@ use super::append::Insertion;
 use super::append::insert_new;
 use super::append::replace_row;
 use key_index::Found;
+use merge_rules::TAKE_NEW;
 use table::Header;
 use table::index_shape;
 
@@ -32,7 +33,7 @@ fn make_row<'a>(
     let old_at = (old * h.columns) as usize;
     let new_at = from as usize;
     let old_row = &rows[old_at..old_at + width];
-    if h.rule <= 1 {
+    if h.rule <= TAKE_NEW {
         let row = merge_rules::surviving_row(
             h.rule,
             h.keys,

@@ -9,6 +9,13 @@ ghost use lib.Signed.{ltZ};
 ghost use Rattle.lists.specs.Lists.{splice};
 ghost use Rattle.merge_rules.specs.Rules as rules;
 
+// The rules other than 0, which keeps the old cell.
+pub const TAKE_NEW: u32 = 1;
+
+const TAKE_SMALLER: u32 = 2;
+
+const TAKE_LARGER: u32 = 3;
+
 // Whether the rule decides the cell of this column: it is neither a key column nor the sort column.
 fn ruled_column(keys: u32, sort: u32, column: usize) -> bool
     ensures { λ r. ⌜ r ≡ rules.ruledColumn keys sort column ⌝ }
@@ -54,13 +61,13 @@ fn larger(a: u32, b: u32) -> u32
 fn taken(rule: u32, old: u32, new: u32) -> u32
     ensures { λ r. ⌜ r ≡ rules.taken rule old new ⌝ }
 {
-    if rule == 1 {
+    if rule == TAKE_NEW {
         return new;
     }
-    if rule == 2 {
+    if rule == TAKE_SMALLER {
         return smaller(old, new);
     }
-    if rule == 3 {
+    if rule == TAKE_LARGER {
         return larger(old, new);
     }
     old

@@ -18,6 +18,7 @@ use offsets::search::Scan;
 use offsets::search::binary_search_by_id;
 use offsets::search::binary_search_from;
 use offsets::search::scan_for_offset;
+use refusals::ACCEPTED;
 use refusals::MALFORMED_SUBSET;
 use refusals::TOO_SHORT;
 
@@ -66,12 +67,17 @@ fn gallop_along(ids: &[u32], others: &[u32], output: &mut [u32]) -> usize
     n as usize
 }
 
+// Two lists are of similar length if neither has more ids than this, or neither is more than `RATIO` times as long as the other.
+const FEW_IDS: usize = 16;
+
+const RATIO: usize = 4;
+
 // Whether two lists are of similar length.
 fn are_similar(a: usize, b: usize) -> bool
     requires { ⌜ a ≤ 65536 ⌝ }
     ensures { λ r. ⌜ r ≡ similar a b ⌝ }
 {
-    (a <= 16 && b <= 16) || (a / 4 <= b && b <= a * 4)
+    (a <= FEW_IDS && b <= FEW_IDS) || (a / RATIO <= b && b <= a * RATIO)
 }
 
 // Writes the ids that both lists have: by a linear merge, or by searching the longer list for the ids of the shorter one.
@@ -163,7 +169,7 @@ fn room_needed(
     first_ids.len()
 }
 
-// The number with which an intersection is refused, 0 if it is accepted.
+// The number with which an intersection is refused, or `ACCEPTED`.
 fn intersect_refusal(
     first: SubsetHead,
     first_ids: &[u32],
@@ -183,7 +189,7 @@ fn intersect_refusal(
     if output < room {
         return TOO_SHORT;
     }
-    0
+    ACCEPTED
 }
 
 // The ids that two subsets have in common, with the Rust's forms. Writes a list to the start of the output. Handles two ranges
@@ -202,7 +208,7 @@ pub fn intersect(
         return intersect_ranges(first.start, first.end, second.start, second.end);
     }
     let number = intersect_refusal(first, first_ids, second, second_ids, output.len());
-    if number != 0 {
+    if number != ACCEPTED {
         return SubsetAnswer::Refused(number);
     }
     if first.dense {

@@ -6,6 +6,7 @@ ghost use lib.ListN.{length};
 ghost use Rattle.precedence.specs.Precedence.{precedenceRefusal, PrecedenceChecked};
 ghost use Rattle.precedence.specs.inner.Checking.{Tested, OnTable, filedBy, rowFiled, rowMeets, rowFailing, PlaceIs};
 use key_index::Found;
+use refusals::ACCEPTED;
 use refusals::NO_SUCH_COLUMN;
 use refusals::PAIR_COUNT;
 use table::Header;
@@ -21,13 +22,13 @@ pub enum PrecedenceAnswer {
 
 const MOST_PAIRS: usize = 16;
 
-// The number of the first test that refuses a check, 0 if none does. Tests 1 and 2 are those of a lookup by a key of the right
+// The number of the first test that refuses a check, or `ACCEPTED`. Tests 1 and 2 are those of a lookup by a key of the right
 // width.
 fn precedence_refusal(h: Header, rows: usize, keys: usize, column: u32, words: usize) -> u32
     ensures { λ r. ⌜ r ≡ precedenceRefusal h rows keys column words ⌝ }
 {
     let lookup = lookup_refusal(h, rows, keys, h.keys as usize);
-    if lookup != 0 {
+    if lookup != ACCEPTED {
         return lookup;
     }
     if h.keys <= column {
@@ -42,7 +43,7 @@ fn precedence_refusal(h: Header, rows: usize, keys: usize, column: u32, words: u
     if MOST_PAIRS < words / 2 {
         return PAIR_COUNT;
     }
-    0
+    ACCEPTED
 }
 
 // Whether the sort cell of the key's live row is at most `latest`.
@@ -135,7 +136,7 @@ pub fn check_precedence(
     ensures { λ r. ⌜ PrecedenceChecked h (now (rows .entry)) (now (keys .entry)) column (now (pairs .entry)) r ⌝ }
 {
     let refusal = precedence_refusal(h, rows.len(), keys.len(), column, pairs.len());
-    if refusal != 0 {
+    if refusal != ACCEPTED {
         return PrecedenceAnswer::Refused(refusal);
     }
     let count = pairs.len() / 2;

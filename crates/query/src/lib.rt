@@ -13,6 +13,7 @@ use query_scan::scan_one;
 use query_scan::write_found;
 use query_spec::MatchAnswer;
 use query_spec::PageAnswer;
+use refusals::ACCEPTED;
 use table::Header;
 
 pub mod array; // array.rt: conditions that lie in an array
@@ -31,7 +32,7 @@ pub fn refine_one(
     ensures { λ r. ⌜ RefinedOne h (now (rows .entry)) (subsetOf head (now (ids .entry))) c (now (out .entry)) r (now (out .exit)) ⌝ }
 {
     let done = scan_one(h, rows, head, ids, c, out);
-    if done.refused != 0 {
+    if done.refused != ACCEPTED {
         return SubsetAnswer::Refused(done.refused);
     }
     if head.dense {

@@ -26,6 +26,7 @@ use query_spec::refusing::match_refusal;
 use query_spec::refusing::page_refusal;
 use query_spec::refusing::refine_refusal;
 use query_spec::refusing::smaller;
+use refusals::ACCEPTED;
 use table::Header;
 
 // The state of a scan. It continues at place `next`, whose id is `id`, up to `end` or until `most` ids are kept. `dead` is the
@@ -244,11 +245,11 @@ fn open_refine(
     ensures { λ r. ⌜ ScanStarts QueryKind.Refine h rows (subsetOf head (now (ids .entry))) known output r ⌝ }
 {
     let number = refine_refusal(h, rows, head, ids, known, output);
-    if number != 0 {
+    if number != ACCEPTED {
         return at_place(head, ids, number, 0, 0, 0);
     }
     let size = offsets::size(head, ids) as u32;
-    at_place(head, ids, 0, 0, size, size)
+    at_place(head, ids, ACCEPTED, 0, size, size)
 }
 
 // Starts a search for a match: refused, or over all places up to the first match.
@@ -256,11 +257,11 @@ fn open_match(h: Header, rows: usize, head: SubsetHead, ids: &[u32], known: bool
     ensures { λ r. ⌜ ((output : ℕ) → ScanStarts QueryKind.Match h rows (subsetOf head (now (ids .entry))) known output r) ⌝ }
 {
     let number = match_refusal(h, rows, head, ids, known);
-    if number != 0 {
+    if number != ACCEPTED {
         return at_place(head, ids, number, 0, 0, 0);
     }
     let size = offsets::size(head, ids) as u32;
-    at_place(head, ids, 0, 0, size, 1)
+    at_place(head, ids, ACCEPTED, 0, size, 1)
 }
 
 // Starts a page: refused, or over n places from the start place on, as far as they exist.
@@ -277,12 +278,12 @@ fn open_page(
     ensures { λ r. ⌜ ScanStarts (QueryKind.Page start n) h rows (subsetOf head (now (ids .entry))) known output r ⌝ }
 {
     let number = page_refusal(h, rows, head, ids, start, n, known, output);
-    if number != 0 {
+    if number != ACCEPTED {
         return at_place(head, ids, number, 0, 0, 0);
     }
     let left = offsets::size(head, ids) - start as usize;
     let places = smaller(n, left) as u32;
-    at_place(head, ids, 0, start, start + places, places)
+    at_place(head, ids, ACCEPTED, start, start + places, places)
 }
 
 // Starts a query: refused, or over its places.
@@ -349,7 +350,7 @@ pub fn close_refine(head: SubsetHead, s: Scan, out: &mut [u32]) -> SubsetAnswer
     requires { ⌜ (s .refused ≡ 0 → CanClose head s (now out)) ⌝ }
     ensures { λ r. ⌜ RefineClosed head s (now (out .entry)) r (now (out .exit)) ⌝ }
 {
-    if s.refused != 0 {
+    if s.refused != ACCEPTED {
         return SubsetAnswer::Refused(s.refused);
     }
     if is_whole(head, s.found) {
@@ -373,7 +374,7 @@ pub fn close_page(head: SubsetHead, ids: &[u32], s: Scan, out: &mut [u32]) -> Pa
     requires { ⌜ (s .refused ≡ 0 → CanWrite (now out) (s .found)) ⌝ }
     ensures { λ r. ⌜ PageClosed (subsetOf head (now (ids .entry))) s (now (out .entry)) r (now (out .exit)) ⌝ }
 {
-    if s.refused != 0 {
+    if s.refused != ACCEPTED {
         return PageAnswer::Refused(s.refused);
     }
     let next = next_place(head, ids, s.next);
@@ -389,7 +390,7 @@ pub fn close_page(head: SubsetHead, ids: &[u32], s: Scan, out: &mut [u32]) -> Pa
 pub fn close_match(s: Scan) -> MatchAnswer
     ensures { λ r. ⌜ MatchClosed s r ⌝ }
 {
-    if s.refused != 0 {
+    if s.refused != ACCEPTED {
         return MatchAnswer::Refused(s.refused);
     }
     MatchAnswer::Match(s.found.count != 0)

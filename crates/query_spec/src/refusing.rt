@@ -1,5 +1,5 @@
 // The refusals of the queries: the checks of specs/Queries.antt, over the header, lengths, the subset and whether the conditions
-// are known. Each function returns 0 if nothing is refused.
+// are known. Each function returns `ACCEPTED` if nothing is refused.
 ghost use mathlib.Core.Path.{_≡_};
 ghost use Rattle.offsets.specs.Answers.{subsetOf};
 ghost use Rattle.query_spec.specs.Queries.{pastRows};
@@ -7,6 +7,7 @@ ghost use Prim.Native.Nat.{min};
 ghost use Rattle.query_spec.specs.inner.Tests.{subsetRefusal, RefineRefused, MatchRefused, PageRefused};
 use offsets::BoundsAnswer;
 use offsets::SubsetHead;
+use refusals::ACCEPTED;
 use refusals::MALFORMED_SUBSET;
 use refusals::NO_SUCH_COLUMN;
 use refusals::OUT_OF_BOUNDS;
@@ -40,7 +41,7 @@ fn subset_refusal(h: Header, rows: usize, head: SubsetHead, ids: &[u32]) -> u32
     if is_past_rows(h, head, ids) {
         return PAST_THE_ROWS;
     }
-    0
+    ACCEPTED
 }
 
 // *Refine by one, by a list*
@@ -55,7 +56,7 @@ pub fn refine_refusal(
     ensures { λ r. ⌜ RefineRefused h rows (subsetOf head (now (ids .entry))) known output r ⌝ }
 {
     let number = subset_refusal(h, rows, head, ids);
-    if number != 0 {
+    if number != ACCEPTED {
         return number;
     }
     if !known {
@@ -64,7 +65,7 @@ pub fn refine_refusal(
     if output < offsets::size(head, ids) {
         return TOO_SHORT;
     }
-    0
+    ACCEPTED
 }
 
 // *Any match*
@@ -72,13 +73,13 @@ pub fn match_refusal(h: Header, rows: usize, head: SubsetHead, ids: &[u32], know
     ensures { λ r. ⌜ MatchRefused h rows (subsetOf head (now (ids .entry))) known r ⌝ }
 {
     let number = subset_refusal(h, rows, head, ids);
-    if number != 0 {
+    if number != ACCEPTED {
         return number;
     }
     if !known {
         return NO_SUCH_COLUMN;
     }
-    0
+    ACCEPTED
 }
 
 pub fn smaller(a: usize, b: usize) -> usize
@@ -101,7 +102,7 @@ pub fn page_refusal(
     ensures { λ r. ⌜ PageRefused h rows (subsetOf head (now (ids .entry))) start n known output r ⌝ }
 {
     let number = subset_refusal(h, rows, head, ids);
-    if number != 0 {
+    if number != ACCEPTED {
         return number;
     }
     let first = start as usize;
@@ -115,5 +116,5 @@ pub fn page_refusal(
     if output < smaller(n, size - first) {
         return TOO_SHORT;
     }
-    0
+    ACCEPTED
 }

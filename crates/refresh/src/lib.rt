@@ -23,6 +23,7 @@ ghost use Rattle.refresh.specs.inner.Finding.{RowsFound};
 ghost use Rattle.refresh.specs.inner.Staging.{RowInStore, rowWords, rowsWords, numbered, Block, BlockWritten, Group, GroupWritten, Stageable, AllWritten, RowsStaged};
 use bitmap::ROW_WORDS;
 use bitmap::WORDS;
+use refresh_index::FRONT;
 use refresh_index::ROWS_SEEN;
 use refresh_index::catch_up;
 use refresh_index::is_usable;
@@ -30,6 +31,7 @@ use refresh_index::mark_listed;
 use refresh_scan::mark_unlisted;
 use refresh_spec::RefreshAnswer;
 use refresh_spec::Refreshed;
+use refusals::ACCEPTED;
 use refusals::NO_SUCH_COLUMN;
 use refusals::OLD_SORT_VALUE;
 use refusals::OUT_OF_BOUNDS;
@@ -38,12 +40,17 @@ use refusals::TOO_MANY_COLUMNS;
 use refusals::TOO_SHORT;
 use table::Header;
 use table::INSERT;
+use table::RECORD_HEAD;
+use table::ROW_RECORD_HEAD;
 use table::refusing::is_old;
 use table::refusing::is_pending_outside;
 use table::refusing::is_rows_short;
 use table_stage::is_overfull;
 
 const MOST_COLUMNS: usize = 8;
+
+// The words of an index store for each named column of a row: an entry, and two buckets.
+const WORDS_PER_CELL: usize = 3;
 
 // The number of summary words of a bitmap. Each is for a group of 4,096 rows.
 const GROUPS: u32 = 16;
@@ -67,7 +74,7 @@ fn is_index_short(h: Header, index: usize, columns: &[u32]) -> bool
     requires { ⌜ (outside h ≡ false) × (length (now columns) ≤ 8) ⌝ }
     ensures { λ r. ⌜ r ≡ indexShort (openingOf h) (now (columns .entry)) index ⌝ }
 {
-    let needed = 16 + 3 * (h.capacity as usize * columns.len());
+    let needed = FRONT + WORDS_PER_CELL * (h.capacity as usize * columns.len());
     index < needed
 }
 
@@ -100,7 +107,7 @@ fn refresh_refusal(
     if is_old(h, stamp) {
         return OLD_SORT_VALUE;
     }
-    0
+    ACCEPTED
 }
 
 // Sets the bits of the live rows that mention a value, and returns their number. Rows that the index store has seen are looked up
@@ -157,7 +164,14 @@ fn write_row(h: Header, rows: &[u32], pending: &mut [u32], at: usize, row: u32, 
     ensures { λ _. ⌜ now (pending .exit) ≡ splice (now (pending .entry)) at (rowsWords h stamp (numbered h (now (rows .entry)) row ∷ [])) ⌝ }
 {
     write_removal(h, rows, pending, at, row);
-    write_restamped(h, rows, pending, at + (h.keys + 3) as usize, row, stamp);
+    write_restamped(
+        h,
+        rows,
+        pending,
+        at + (h.keys + ROW_RECORD_HEAD) as usize,
+        row,
+        stamp,
+    );
 }
 
 // Writes the records of the rows whose bits are set in a word, from its lowest bit up. Returns the number of words in use.
@@ -179,7 +193,7 @@ fn write_block(
         let row = first + u64::trailing_zeros(word);
         word = word & (word - 1);
         write_row(h, rows, pending, used as usize, row, stamp);
-        used += h.keys + 3 + (h.columns + 2);
+        used += h.keys + ROW_RECORD_HEAD + (h.columns + RECORD_HEAD);
     }
     used
 }
@@ -261,8 +275,8 @@ fn is_tight(h: Header, pending: usize) -> bool
     is_overfull(
         h.pending,
         pending,
-        h.rows * (h.keys + 3),
-        h.rows * (h.columns + 2),
+        h.rows * (h.keys + ROW_RECORD_HEAD),
+        h.rows * (h.columns + RECORD_HEAD),
     )
 }
 
@@ -303,8 +317,8 @@ fn refresh_by_scan(
 {
     let mut words = [0u64; WORDS];
     let count = mark_mentioning(h, rows, index, columns, values, goes_on, &mut words);
-    let removals = count * (h.keys + 3);
-    let inserts = count * (h.columns + 2);
+    let removals = count * (h.keys + ROW_RECORD_HEAD);
+    let inserts = count * (h.columns + RECORD_HEAD);
     if is_overfull(h.pending, pending.len(), removals, inserts) {
         return RefreshAnswer::Refused(PENDING_FULL);
     }
@@ -326,7 +340,7 @@ pub fn refresh_rows_for_values(
     ensures { λ r. ⌜ Refreshing h (now (rows .entry)) (now (pending .entry)) (now (index .entry)) (record { columns = now (columns .entry); values = now (values .entry); stamp = stamp }) r (now (pending .exit)) (now (index .exit)) ⌝ }
 {
     let refusal = refresh_refusal(h, rows.len(), pending.len(), index.len(), columns, stamp);
-    if refusal != 0 {
+    if refusal != ACCEPTED {
         return RefreshAnswer::Refused(refusal);
     }
     let goes_on = is_usable(h, index, columns);

@@ -14,10 +14,20 @@ ghost use Rattle.refresh_index.specs.inner.Marking.{MarkedAll, Noted};
 use table::Header;
 
 // The number of words before the entries.
-const FRONT: usize = 16;
+pub const FRONT: usize = 16;
 
-// The places of the words with the number of rows seen and with the number of buckets.
+// The first of them.
+const MARK: u32 = 1;
+
+// The places of the others: the generation, the number of rows seen, the number of columns named, these columns, the number of
+// buckets.
+const GENERATION: usize = 1;
+
 pub const ROWS_SEEN: usize = 2;
+
+const COLUMN_COUNT: usize = 3;
+
+const COLUMNS: usize = 4;
 
 const BUCKETS: usize = 12;
 
@@ -33,16 +43,16 @@ pub fn is_usable(h: Header, index: &[u32], columns: &[u32]) -> bool
     requires { ⌜ (outside h ≡ false) × (length (now columns) ≤ 8) × (16 + 3 * (h .capacity * length (now columns)) ≤ length (now index)) ⌝ }
     ensures { λ r. ⌜ r ≡ usable h (now (columns .entry)) (now (index .entry)) ⌝ }
 {
-    if index[0] != 1 {
+    if index[0] != MARK {
         return false;
     }
-    if index[1] != h.generation {
+    if index[GENERATION] != h.generation {
         return false;
     }
-    if index[3] as usize != columns.len() {
+    if index[COLUMN_COUNT] as usize != columns.len() {
         return false;
     }
-    if !row_buffer::same_key(index, 4, columns) {
+    if !row_buffer::same_key(index, COLUMNS, columns) {
         return false;
     }
     if h.rows < index[ROWS_SEEN] {
@@ -122,9 +132,9 @@ fn write_front(h: Header, index: &mut [u32], columns: &[u32], buckets: u32)
     requires { ⌜ (16 ≤ length (now index)) × (length (now columns) ≤ 8) ⌝ }
     ensures { λ _. ⌜ now (index .exit) ≡ fronted h (now (columns .entry)) buckets (now (index .entry)) ⌝ }
 {
-    let front = [1, h.generation, h.rows, columns.len() as u32];
+    let front = [MARK, h.generation, h.rows, columns.len() as u32];
     row_buffer::write_row(index, 0, &front);
-    row_buffer::write_row(index, 4, columns);
+    row_buffer::write_row(index, COLUMNS, columns);
     index[BUCKETS] = buckets;
 }
 

@@ -31,6 +31,14 @@ const INTERSECT_RANGE: u32 = 3;
 
 const INTERSECT_SORT_RANGE: u32 = 4;
 
+// The words of a condition and of a range.
+const CONDITION_WORDS: usize = 3;
+
+const RANGE_WORDS: usize = 2;
+
+// The most conditions of a list.
+const MOST_CONDITIONS: usize = 16;
+
 // The lists that ids left can be in: the starting list, the first and the second lent list.
 pub const STARTING_LIST: u32 = 0;
 
@@ -141,11 +149,11 @@ fn execute_list(
     requires { ⌜ l .taken < 18446744073709551615 ⌝ }
     ensures { λ r. ⌜ ListExecuted h (now (rows .entry)) (subsetOf head (now (ids .entry))) (now (cells .entry)) l place (now (out .entry)) r (now (out .exit)) ⌝ }
 {
-    let count = cells.len() / 3;
-    if count * 3 != cells.len() {
+    let count = cells.len() / CONDITION_WORDS;
+    if count * CONDITION_WORDS != cells.len() {
         return l;
     }
-    if count > 16 {
+    if count > MOST_CONDITIONS {
         return l;
     }
     let conditions = read_conditions(cells, count);
@@ -185,7 +193,7 @@ pub fn execute(
         return apply_answer(l, place, false, intersect(head, ids, listed, cells, out));
     }
     if kind == INTERSECT_RANGE {
-        if cells.len() != 2 {
+        if cells.len() != RANGE_WORDS {
             return l;
         }
         let range = SubsetHead {
@@ -195,7 +203,7 @@ pub fn execute(
         };
         return apply_answer(l, place, false, intersect(head, ids, range, ids, out));
     }
-    if cells.len() != 3 {
+    if cells.len() != CONDITION_WORDS {
         return l;
     }
     let c = read_condition(cells, 0);

@@ -1,5 +1,5 @@
 // The refusals of each operation, "on any numbers at all": one function for each list of checks of specs/Refusing.antt, over the
-// header and the lengths of the lent stores. Each returns 0 if nothing is refused.
+// header and the lengths of the lent stores. Each returns `ACCEPTED` if nothing is refused.
 ghost use mathlib.Core.Path.{_≡_};
 ghost use mathlib.Core.Bool.{false};
 ghost use Rattle.plain_table.specs.Staged.{openable};
@@ -16,6 +16,7 @@ use super::Lent;
 use super::MOST_COLUMNS;
 use constraints::Constraint;
 use key_index::MOST_ROWS;
+use refusals::ACCEPTED;
 use refusals::AT_LAST_GENERATION;
 use refusals::NO_SUCH_COLUMN;
 use refusals::OLD_NOTE;
@@ -151,7 +152,7 @@ pub fn open_refusal(h: Header, l: Lent) -> u32
         return OUT_OF_BOUNDS;
     }
     if !is_stores_short(h, l) {
-        return 0;
+        return ACCEPTED;
     }
     TOO_SHORT
 }
@@ -166,7 +167,7 @@ pub fn sound_refusal(h: Header, l: Lent) -> u32
     if is_stores_short(h, l) {
         return TOO_SHORT;
     }
-    0
+    ACCEPTED
 }
 
 // *Merge*: the tests of the soundness check, then those of the compaction words.
@@ -174,13 +175,13 @@ pub fn merge_refusal(h: Header, l: Lent) -> u32
     ensures { λ r. ⌜ r ≡ rules.mergeRefusal h (lengthsOf l) ⌝ }
 {
     let stores = sound_refusal(h, l);
-    if stores != 0 {
+    if stores != ACCEPTED {
         return stores;
     }
     if is_words_short(h, l) {
         return TOO_SHORT;
     }
-    0
+    ACCEPTED
 }
 
 // *Compact*
@@ -199,7 +200,7 @@ pub fn compact_refusal(h: Header, l: Lent) -> u32
     if h.generation == LAST_GENERATION {
         return AT_LAST_GENERATION;
     }
-    0
+    ACCEPTED
 }
 
 // *Clear*
@@ -213,10 +214,10 @@ pub fn clear_refusal(h: Header, keys: usize) -> u32
         return TOO_SHORT;
     }
     if h.generation != LAST_GENERATION {
-        return 0;
+        return ACCEPTED;
     }
     if h.rows == 0 {
-        return 0;
+        return ACCEPTED;
     }
     AT_LAST_GENERATION
 }
@@ -237,7 +238,7 @@ pub fn lookup_refusal(h: Header, rows: usize, keys: usize, cells: usize) -> u32
     if cells != h.keys as usize {
         return WRONG_WIDTH;
     }
-    0
+    ACCEPTED
 }
 
 // *One cell*
@@ -245,13 +246,13 @@ pub fn cell_refusal(h: Header, rows: usize, keys: usize, cells: usize, column: u
     ensures { λ r. ⌜ r ≡ rules.cellRefusal h rows keys cells column ⌝ }
 {
     let lookup = lookup_refusal(h, rows, keys, cells);
-    if lookup != 0 {
+    if lookup != ACCEPTED {
         return lookup;
     }
     if h.columns <= column {
         return NO_SUCH_COLUMN;
     }
-    0
+    ACCEPTED
 }
 
 // *Fast range*
@@ -267,7 +268,7 @@ pub fn fast_refusal(h: Header, sorts: usize, c: Constraint) -> u32
     if !constraints::known(c, h.columns) {
         return NO_SUCH_COLUMN;
     }
-    0
+    ACCEPTED
 }
 
 // *Version*
@@ -275,7 +276,7 @@ pub fn version_refusal(h: Header) -> u32
     ensures { λ r. ⌜ r ≡ rules.versionRefusal h ⌝ }
 {
     if !is_outside(h) {
-        return 0;
+        return ACCEPTED;
     }
     OUT_OF_BOUNDS
 }
@@ -293,7 +294,7 @@ pub fn noted_refusal(h: Header, generation: u32, count: u32) -> u32
     if h.rows < count {
         return OLD_NOTE;
     }
-    0
+    ACCEPTED
 }
 
 // *Rows since*
@@ -306,5 +307,5 @@ pub fn since_refusal(h: Header, row: u32) -> u32
     if h.rows < row {
         return PAST_THE_ROWS;
     }
-    0
+    ACCEPTED
 }

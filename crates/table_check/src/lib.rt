@@ -10,6 +10,7 @@ ghost use Rattle.table.specs.Numbers.{openingOf};
 ghost use Rattle.table.specs.Refusing.{soundRefusal};
 ghost use Rattle.table.specs.Contracts.{Checked};
 ghost use Rattle.table_check.specs.inner.Checks.{deadRows, lastKept, RowsSound, PendingIn, keyPlace, RecordRead, PendingWhole, SoundStores};
+use refusals::ACCEPTED;
 use table::Header;
 use table::Largest;
 use table::Lent;
@@ -154,7 +155,7 @@ pub fn is_sound(
         base: 0,
     };
     let refused = refusing::sound_refusal(h, lent);
-    if refused != 0 {
+    if refused != ACCEPTED {
         return SoundAnswer::Refused(refused);
     }
     SoundAnswer::Sound(stores_sound(h, rows, keys, sorts, pending))

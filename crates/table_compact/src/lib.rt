@@ -11,6 +11,7 @@ ghost use Rattle.table.specs.Sound.{indexShapeOf};
 ghost use Rattle.table.specs.Contracts.{body, compactionWords, Compacting};
 ghost use Rattle.table_compact.specs.inner.Compaction.{Lendable, KeysUpdated, nextGeneration, Compaction};
 ghost use Rattle.table_compact.specs.inner.ClosingUp.{Keepable, RowKept, Block, BlockKept, Closable, Closed};
+use refusals::ACCEPTED;
 use table::Header;
 use table::Lent;
 use table::TableAnswer;
@@ -164,7 +165,7 @@ pub fn compact(
         base: base.len(),
     };
     let refusal = compact_refusal(h, l);
-    if refusal != 0 {
+    if refusal != ACCEPTED {
         return TableAnswer::Refused(refusal);
     }
     if h.dead == 0 {

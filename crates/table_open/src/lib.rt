@@ -3,6 +3,7 @@ ghost use mathlib.Core.Path.{_≡_};
 ghost use mathlib.Core.Bool.{true};
 ghost use Rattle.table.specs.Refusing.{outside};
 ghost use Rattle.table.specs.Contracts.{body, Opened, Clearing};
+use refusals::ACCEPTED;
 use table::Header;
 use table::Largest;
 use table::Lent;
@@ -66,7 +67,7 @@ pub fn open_table(
         base: 0,
     };
     let refusal = open_refusal(h, l);
-    if refusal != 0 {
+    if refusal != ACCEPTED {
         return TableAnswer::Refused(refusal);
     }
     key_index::empty(key_index::size_class_for(capacity, 0), keys);
@@ -78,7 +79,7 @@ pub fn clear(h: Header, keys: &mut [u32]) -> TableAnswer
     ensures { λ r. ⌜ Clearing h (now (keys .entry)) r (now (keys .exit)) ⌝ }
 {
     let refusal = clear_refusal(h, keys.len());
-    if refusal != 0 {
+    if refusal != ACCEPTED {
         return TableAnswer::Refused(refusal);
     }
     let mut n = h;

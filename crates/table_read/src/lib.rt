@@ -4,6 +4,7 @@ ghost use Rattle.table.specs.Contracts.{LookedUp, CellRead, RangeRead, VersionR
 use constraints::Constraint;
 use constraints::EQUAL_COLUMNS;
 use key_index::Found;
+use refusals::ACCEPTED;
 use table::CellAnswer;
 use table::Header;
 use table::RangeAnswer;
@@ -23,7 +24,7 @@ pub fn get_row(h: Header, rows: &[u32], keys: &[u32], key: &[u32]) -> RowAnswer
     ensures { λ r. ⌜ LookedUp h (now (rows .entry)) (now (keys .entry)) (now (key .entry)) r ⌝ }
 {
     let refusal = lookup_refusal(h, rows.len(), keys.len(), key.len());
-    if refusal != 0 {
+    if refusal != ACCEPTED {
         return RowAnswer::Refused(refusal);
     }
     let found = key_index::look_up(index_shape(h), rows, keys, key, cells::compact_hash(key));
@@ -38,7 +39,7 @@ pub fn get_row_column(h: Header, rows: &[u32], keys: &[u32], key: &[u32], column
     ensures { λ r. ⌜ CellRead h (now (rows .entry)) (now (keys .entry)) (now (key .entry)) column r ⌝ }
 {
     let refusal = cell_refusal(h, rows.len(), keys.len(), key.len(), column);
-    if refusal != 0 {
+    if refusal != ACCEPTED {
         return CellAnswer::Refused(refusal);
     }
     let found = key_index::look_up(index_shape(h), rows, keys, key, cells::compact_hash(key));
@@ -56,7 +57,7 @@ pub fn fast_subset(h: Header, sorts: &[u32], c: Constraint) -> RangeAnswer
     ensures { λ r. ⌜ RangeRead h (now (sorts .entry)) c r ⌝ }
 {
     let refusal = fast_refusal(h, sorts.len(), c);
-    if refusal != 0 {
+    if refusal != ACCEPTED {
         return RangeAnswer::Refused(refusal);
     }
     if c.kind == EQUAL_COLUMNS {
@@ -74,7 +75,7 @@ pub fn version(h: Header) -> VersionAnswer
     ensures { λ r. ⌜ VersionRead h r ⌝ }
 {
     let refusal = version_refusal(h);
-    if refusal != 0 {
+    if refusal != ACCEPTED {
         return VersionAnswer::Refused(refusal);
     }
     VersionAnswer::Version(Version {
@@ -88,7 +89,7 @@ pub fn updates_since(h: Header, row: u32) -> RangeAnswer
     ensures { λ r. ⌜ RowsSince h row r ⌝ }
 {
     let refusal = since_refusal(h, row);
-    if refusal != 0 {
+    if refusal != ACCEPTED {
         return RangeAnswer::Refused(refusal);
     }
     RangeAnswer::Range(row, h.rows)
@@ -99,7 +100,7 @@ pub fn rows_since_version(h: Header, generation: u32, count: u32) -> RangeAnswer
     ensures { λ r. ⌜ RowsSinceVersion h generation count r ⌝ }
 {
     let refusal = noted_refusal(h, generation, count);
-    if refusal != 0 {
+    if refusal != ACCEPTED {
         return RangeAnswer::Refused(refusal);
     }
     RangeAnswer::Range(count, h.rows)

@@ -9,16 +9,22 @@ ghost use Rattle.plain_table.specs.Staged.{insert, removeKey, removeRow};
 ghost use Rattle.plain_table.specs.Refusing.{overfull};
 ghost use Rattle.table_stage.specs.inner.Staging.{recordRefusal};
 ghost use Rattle.table.specs.Contracts.{Staging};
+use refusals::ACCEPTED;
 use refusals::OUT_OF_BOUNDS;
 use refusals::PAST_THE_ROWS;
 use refusals::PENDING_FULL;
 use refusals::WRONG_WIDTH;
 use table::Header;
 use table::INSERT;
+use table::RECORD_HEAD;
 use table::REMOVE_KEY;
 use table::REMOVE_ROW;
+use table::ROW_RECORD_HEAD;
 use table::TableAnswer;
 use table::refusing::is_pending_outside;
+
+// The most words in use that a header can hold.
+const MOST_WORDS: usize = 0xffff_ffff;
 
 // Test 7: the free pending words do not suffice for a record, or the number of words in use would exceed a u32. The sum itself does
 // not overflow.
@@ -29,7 +35,7 @@ pub fn is_overfull(used: u32, pending: usize, width: u32, more: u32) -> bool
     if pending < after {
         return true;
     }
-    0xffff_ffff < after
+    MOST_WORDS < after
 }
 
 // *Stage*: returns the first refusal of a record with `cells` cells where `width` are required, and with `more` words before them.
@@ -49,7 +55,7 @@ fn stage_refusal(h: Header, pending: usize, cells: usize, width: u32, gone: bool
     if is_overfull(h.pending, pending, width, more) {
         return PENDING_FULL;
     }
-    0
+    ACCEPTED
 }
 
 // Writes the words of a record that precede its cells.
@@ -93,14 +99,14 @@ pub fn write_row_record(pending: &mut [u32], at: usize, hash: u32, row: u32, key
 pub fn stage_insert(h: Header, pending: &mut [u32], cells: &[u32]) -> TableAnswer
     ensures { λ r. ⌜ Staging h (now (pending .entry)) (insert (now (cells .entry))) r (now (pending .exit)) ⌝ }
 {
-    let refusal = stage_refusal(h, pending.len(), cells.len(), h.columns, false, 2);
-    if refusal != 0 {
+    let refusal = stage_refusal(h, pending.len(), cells.len(), h.columns, false, RECORD_HEAD);
+    if refusal != ACCEPTED {
         return TableAnswer::Refused(refusal);
     }
     let hash = cells::compact_hash(&cells[..h.keys as usize]);
     write_record(pending, h.pending as usize, INSERT, hash, cells);
     let mut n = h;
-    n.pending = h.pending + (h.columns + 2);
+    n.pending = h.pending + (h.columns + RECORD_HEAD);
     TableAnswer::Table(n)
 }
 
@@ -108,14 +114,14 @@ pub fn stage_insert(h: Header, pending: &mut [u32], cells: &[u32]) -> TableAnswe
 pub fn stage_remove(h: Header, pending: &mut [u32], key: &[u32]) -> TableAnswer
     ensures { λ r. ⌜ Staging h (now (pending .entry)) (removeKey (now (key .entry))) r (now (pending .exit)) ⌝ }
 {
-    let refusal = stage_refusal(h, pending.len(), key.len(), h.keys, false, 2);
-    if refusal != 0 {
+    let refusal = stage_refusal(h, pending.len(), key.len(), h.keys, false, RECORD_HEAD);
+    if refusal != ACCEPTED {
         return TableAnswer::Refused(refusal);
     }
     let hash = cells::compact_hash(key);
     write_record(pending, h.pending as usize, REMOVE_KEY, hash, key);
     let mut n = h;
-    n.pending = h.pending + (h.keys + 2);
+    n.pending = h.pending + (h.keys + RECORD_HEAD);
     TableAnswer::Table(n)
 }
 
@@ -123,13 +129,20 @@ pub fn stage_remove(h: Header, pending: &mut [u32], key: &[u32]) -> TableAnswer
 pub fn stage_remove_row(h: Header, pending: &mut [u32], row: u32, key: &[u32]) -> TableAnswer
     ensures { λ r. ⌜ Staging h (now (pending .entry)) (removeRow row (now (key .entry))) r (now (pending .exit)) ⌝ }
 {
-    let refusal = stage_refusal(h, pending.len(), key.len(), h.keys, h.rows <= row, 3);
-    if refusal != 0 {
+    let refusal = stage_refusal(
+        h,
+        pending.len(),
+        key.len(),
+        h.keys,
+        h.rows <= row,
+        ROW_RECORD_HEAD,
+    );
+    if refusal != ACCEPTED {
         return TableAnswer::Refused(refusal);
     }
     let hash = cells::compact_hash(key);
     write_row_record(pending, h.pending as usize, hash, row, key);
     let mut n = h;
-    n.pending = h.pending + (h.keys + 3);
+    n.pending = h.pending + (h.keys + ROW_RECORD_HEAD);
     TableAnswer::Table(n)
 }

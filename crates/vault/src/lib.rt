@@ -7,9 +7,13 @@ ghost use Prim.Native.Nat.{_+_, _*_, _≤_, _<_};
 ghost use lib.ListN.{length};
 ghost use Rattle.vault.specs.Columns.{toColumns, fromColumns, columnsRefusal, Rearranged};
 ghost use Rattle.vault.specs.inner.Filling.{cellAbove, Shaped, Within, ordered, placed, Begun, Filled};
+use refusals::ACCEPTED;
 use refusals::BROKEN_ROW;
 use refusals::OUT_OF_BOUNDS;
 use refusals::TOO_SHORT;
+
+// The largest width of a row.
+const MOST_COLUMNS: u32 = 8;
 
 // The number of rows in a block.
 const BLOCK: usize = 256;
@@ -19,14 +23,14 @@ pub enum ColumnsAnswer {
     Written,
 }
 
-// The number of the first test that refuses a rearrangement, 0 if none does.
+// The number of the first test that refuses a rearrangement, or `ACCEPTED`.
 fn columns_refusal(width: u32, cells: usize, output: usize) -> u32
     ensures { λ r. ⌜ r ≡ columnsRefusal width cells output ⌝ }
 {
     if width < 1 {
         return OUT_OF_BOUNDS;
     }
-    if 8 < width {
+    if MOST_COLUMNS < width {
         return OUT_OF_BOUNDS;
     }
     let rest = cells % (width as usize);
@@ -36,7 +40,7 @@ fn columns_refusal(width: u32, cells: usize, output: usize) -> u32
     if output < cells {
         return TOO_SHORT;
     }
-    0
+    ACCEPTED
 }
 
 // The end of the block that starts at this row.
@@ -168,7 +172,7 @@ fn rearrange(back: bool, width: u32, cells: &[u32], output: &mut [u32]) -> Colum
     ensures { λ r. ⌜ Rearranged (ordered back) width (now (cells .entry)) (now (output .entry)) r (now (output .exit)) ⌝ }
 {
     let number = columns_refusal(width, cells.len(), output.len());
-    if number != 0 {
+    if number != ACCEPTED {
         return ColumnsAnswer::Refused(number);
     }
     let rows = cells.len() / (width as usize);
