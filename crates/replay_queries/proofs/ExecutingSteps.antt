@@ -26,13 +26,7 @@ use Rattle.replay_queries.specs.inner.Executing.{counted, applyAnswer, E
 use Rattle.replay_queries.specs.Laws.Encoding.{list-whole, list-cut, list-long, query-one, query-list, query-ids, query-ends, query-range, no-one, no-ends, no-range, no-kind}
 use Rattle.replay_queries.specs.Laws.Executing.{execute-nothing, execute-no-range, put-refined, put-refined-list, put-intersected, put-ranged}
 
--- ---- `is_either`, `apply_answer`
-
-pub either-yes : (a b : Bool) → a ≡ true → true ≡ (a || b)
-either-yes a b e = rw e
-
-pub either-second : (a b : Bool) → a ≡ false → b ≡ (a || b)
-either-second a b e = rw e
+-- ---- `apply_answer`
 
 module _ (l : RunAnswer) (place : ℕ) (refines : Bool) (answer : SubsetAnswer) where
   pub left-refused : (n : ℕ) {r : RunAnswer} → r ≡ counted l → answer ≡ Refused n → r ≡ applyAnswer l place refines answer

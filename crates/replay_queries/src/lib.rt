@@ -1,6 +1,5 @@
 // Runs one query, encoded in words, on the ids left.
 ghost use mathlib.Core.Path.{_≡_};
-ghost use mathlib.Core.Bool.{_||_};
 ghost use Prim.Native.Nat.{_<_};
 ghost use Rattle.offsets.specs.Answers.{subsetOf};
 ghost use Rattle.replay_queries.specs.Encoding.{queryOf};
@@ -68,21 +67,12 @@ fn count_one(l: RunAnswer) -> RunAnswer
     n
 }
 
-fn is_either(a: bool, b: bool) -> bool
-    ensures { λ r. ⌜ r ≡ (a || b) ⌝ }
-{
-    if a {
-        return true;
-    }
-    b
-}
-
 // The ids left after the answer to a query that refines or intersects. `place` is the list that its output went to.
 fn apply_answer(l: RunAnswer, place: u32, refines: bool, answer: SubsetAnswer) -> RunAnswer
     requires { ⌜ l .taken < 18446744073709551615 ⌝ }
     ensures { λ r. ⌜ r ≡ applyAnswer l place refines answer ⌝ }
 {
-    let refined = is_either(refines, l.refined);
+    let refined = refines | l.refined;
     match answer {
         SubsetAnswer::Refused(_) => count_one(l),
         SubsetAnswer::Range(start, end) => RunAnswer {
