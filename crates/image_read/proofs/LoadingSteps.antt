@@ -1,10 +1,10 @@
 -- The steps of loading an image's table: one law for each way that a function returns. Assumes nothing.
-use Rattle.image_read.proofs.Prelude.{ℕ, _+_, _*_, _-_, _≤_, _<_, _≡_, refl, sym, ap, _∙_, Bool, true, false, _||_, List, [], Option, none, some, mul-le-mul-right, arith, ltb, length, take, drop, getD, getD-take, length-take-le, ltb-false, lt-ltb, le-ltb, eq-eqb, ne-eqb, or-no-left, or-no-right, length-splice, drop-splice, getD-splice-in, slots-alike, outcome-refused, outcome-accepted, IndexShape, KeysSound, sizeClassFor, sizeClass-most, sizeClass-enough, keys-longer, Fits, RowsIn, past-sizeClass, Rebuilt, firstRefusal-no, firstRefusal-rest, Header, TableAnswer, Refused, Table, indexShapeOf, Body, body, lengths, LongEnough, stores-long, Inside, outside-inside, inside-fits, Image, Layout, image-in-proper, Decoding, DecodingIs}
+use Rattle.image_read.proofs.Prelude.{ℕ, _+_, _-_, _≤_, _<_, _≡_, refl, sym, ap, _∙_, Bool, true, false, _||_, List, [], Option, none, some, mul-le-mul-right, arith, ltb, length, take, drop, getD, getD-take, length-take-le, ltb-false, lt-ltb, le-ltb, eq-eqb, ne-eqb, or-no-left, or-no-right, length-splice, drop-splice, getD-splice-in, slots-alike, outcome-refused, outcome-accepted, IndexShape, KeysSound, sizeClassFor, sizeClass-most, sizeClass-enough, keys-longer, Fits, RowsIn, past-sizeClass, Rebuilt, firstRefusal-no, firstRefusal-rest, Header, TableAnswer, Refused, Table, indexShapeOf, Body, body, lengths, LongEnough, stores-long, Inside, outside-inside, inside-fits, Image, Layout, image-in-proper, Decoding, DecodingIs}
 use Rattle.lists.specs.Lists.{splice}
 use Rattle.refusals.specs.Refusals.{refused, accepted, firstRefusal, reply}
 use Rattle.plain_table.specs.Refusing.{Lengths, storesShort}
 use Rattle.table.specs.Numbers.{openingOf, tableView}
-use Rattle.table.specs.Refusing.{outside, rowsShort}
+use Rattle.table.specs.Refusing.{outside}
 use Rattle.image_spec.specs.Contracts.{withCapacity, checkReply, readRefusal, ImageRead}
 use Rattle.image_check.specs.inner.Parsed.{part, imageIn, IsAt}
 use Rattle.image_check.specs.inner.Decoding.{SlotsBuilt}
@@ -23,35 +23,24 @@ module _ (h : Header) (capacity : ℕ) where
 
 -- ---- `load_refusal`
 
-pub capacity-few : (h : Header) → outside h ≡ false → h .capacity ≤ 65536
-capacity-few h e = outside-inside h e .bounds .capacity-few
-
 module _ (h : Header) (l : Lengths) where
   pub load-outside : outside h ≡ true → 1 ≡ loadRefusal h l
   unfolding loadRefusal firstRefusal
   load-outside e = rw e
 
   module _ (e : outside h ≡ false) where
-    pub load-rows : rowsShort h (l .rows) ≡ true → 2 ≡ loadRefusal h l
-    unfolding loadRefusal firstRefusal storesShort rowsShort
-    load-rows r = rw (e, r)
+    pub load-stores : storesShort (openingOf h) l ≡ true → 2 ≡ loadRefusal h l
+    unfolding loadRefusal firstRefusal
+    load-stores s = rw (e, s)
 
-    module _ (r : rowsShort h (l .rows) ≡ false) where
-      pub load-keys : l .keys < 2 * h .capacity → 2 ≡ loadRefusal h l
-      unfolding loadRefusal firstRefusal storesShort rowsShort
-      load-keys k = rw (e, r, lt-ltb _ _ k)
+    module _ (s : storesShort (openingOf h) l ≡ false) where
+      pub load-pending : l .pending < h .pending → 2 ≡ loadRefusal h l
+      unfolding loadRefusal firstRefusal
+      load-pending p = rw (e, s, lt-ltb _ _ p)
 
-      pub load-sorts : 2 * h .capacity ≤ l .keys → l .sorts < 2 * h .capacity → 2 ≡ loadRefusal h l
-      unfolding loadRefusal firstRefusal storesShort rowsShort
-      load-sorts k s = rw (e, r, le-ltb _ _ k, lt-ltb _ _ s)
-
-      pub load-pending : 2 * h .capacity ≤ l .keys → 2 * h .capacity ≤ l .sorts → l .pending < h .pending → 2 ≡ loadRefusal h l
-      unfolding loadRefusal firstRefusal storesShort rowsShort
-      load-pending k s p = rw (e, r, le-ltb _ _ k, le-ltb _ _ s, lt-ltb _ _ p)
-
-      pub load-none : 2 * h .capacity ≤ l .keys → 2 * h .capacity ≤ l .sorts → h .pending ≤ l .pending → 0 ≡ loadRefusal h l
-      unfolding loadRefusal firstRefusal storesShort rowsShort
-      load-none k s p = rw (e, r, le-ltb _ _ k, le-ltb _ _ s, le-ltb _ _ p)
+      pub load-none : h .pending ≤ l .pending → 0 ≡ loadRefusal h l
+      unfolding loadRefusal firstRefusal
+      load-none p = rw (e, s, le-ltb _ _ p)
 
 -- what is known where nothing is refused
 pub record Loadable (h : Header) (l : Lengths) : Type 0 where

@@ -22,6 +22,7 @@ use image_spec::TEXT_AT;
 use image_spec::THREE_BYTE_RANGE;
 use image_spec::TWO_BYTE_RANGE;
 use key_index::IndexShape;
+use refusals::ACCEPTED;
 use refusals::NO_IMAGE;
 use refusals::OUT_OF_BOUNDS;
 use refusals::TOO_SHORT;
@@ -44,27 +45,20 @@ fn with_capacity(h: Header, capacity: u32) -> Header
     n
 }
 
-// The number of the first test that a header and the lengths of the lent stores fail; 0 if they pass all.
+// The number of the first test that a header and the lengths of the lent stores fail; `ACCEPTED` if they pass all.
 fn load_refusal(h: Header, l: Lent) -> u32
     ensures { λ r. ⌜ r ≡ loadRefusal h (lengthsOf l) ⌝ }
 {
     if refusing::is_outside(h) {
         return OUT_OF_BOUNDS;
     }
-    if refusing::is_rows_short(h, l.rows) {
-        return TOO_SHORT;
-    }
-    let pairs = (2 * h.capacity) as usize;
-    if l.keys < pairs {
-        return TOO_SHORT;
-    }
-    if l.sorts < pairs {
+    if refusing::is_stores_short(h, l) {
         return TOO_SHORT;
     }
     if l.pending < h.pending as usize {
         return TOO_SHORT;
     }
-    0
+    ACCEPTED
 }
 
 // Writes the words from one place to another at the start of a store.
@@ -124,7 +118,7 @@ fn load(
         base: 0,
     };
     let refusal = load_refusal(n, lent);
-    if refusal != 0 {
+    if refusal != ACCEPTED {
         return TableAnswer::Refused(refusal);
     }
     write_parts(words, l, rows, sorts, pending);

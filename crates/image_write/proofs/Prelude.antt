@@ -14,7 +14,7 @@ pub use mathlib.Core.Bool.{false}
 pub use Rattle.image_write.specs.Laws.Packed.{getD-packed}
 pub use Rattle.image_spec.specs.Image.{imageLength, imageOf, imageWords, packed}
 pub use Rattle.image_spec.specs.Laws.Unique.{length-packed}
-pub use Rattle.table.specs.Refusing.{pendingOutside, rowsShort}
+pub use Rattle.table.specs.Refusing.{pendingOutside, pairsShort, rowsShort}
 pub use Rattle.refusals.specs.Laws.Replies.{reply-accepted, reply-refused}
 pub use Rattle.lists.specs.Lists.{splice}
 pub use Rattle.lists.specs.Laws.Parts.{splice-nil}

@@ -11,11 +11,13 @@ use image_spec::LengthAnswer;
 use parts::packed_length;
 use parts::write_body;
 use parts::write_checksum;
+use refusals::ACCEPTED;
 use refusals::OUT_OF_BOUNDS;
 use refusals::TEXT_TOO_LONG;
 use refusals::TOO_SHORT;
 use table::Header;
 use table::refusing::is_outside;
+use table::refusing::is_pairs_short;
 use table::refusing::is_pending_outside;
 use table::refusing::is_rows_short;
 
@@ -33,7 +35,7 @@ fn image_length(h: Header, text: usize) -> usize
     FIXED_WORDS + packed_length(text) + cells + 2 * (h.entries as usize) + h.pending as usize
 }
 
-// Returns the refusal of *Image size*, 0 if there is none.
+// Returns the refusal of *Image size*, or `ACCEPTED`.
 fn size_refusal(h: Header, text: usize) -> u32
     ensures { λ r. ⌜ r ≡ sizeRefusal h text ⌝ }
 {
@@ -43,10 +45,10 @@ fn size_refusal(h: Header, text: usize) -> u32
     if MOST_BYTES < text {
         return TEXT_TOO_LONG;
     }
-    0
+    ACCEPTED
 }
 
-// Returns the refusal of *Write image*, 0 if there is none. It takes the lengths of what is lent.
+// Returns the refusal of *Write image*, or `ACCEPTED`. It takes the lengths of what is lent.
 fn write_refusal(
     h: Header,
     rows: usize,
@@ -63,7 +65,7 @@ fn write_refusal(
     if is_rows_short(h, rows) {
         return TOO_SHORT;
     }
-    if sorts < 2 * (h.capacity as usize) {
+    if is_pairs_short(h, sorts) {
         return TOO_SHORT;
     }
     if MOST_BYTES < text {
@@ -72,7 +74,7 @@ fn write_refusal(
     if output < image_length(h, text) {
         return TOO_SHORT;
     }
-    0
+    ACCEPTED
 }
 
 // Returns how many words the image of a table has, with a text of so many bytes. Refuses with 1 a header whose numbers are outside their
@@ -81,7 +83,7 @@ pub fn image_size(h: Header, text: usize) -> LengthAnswer
     ensures { λ r. ⌜ ImageSized h text r ⌝ }
 {
     let refusal = size_refusal(h, text);
-    if refusal != 0 {
+    if refusal != ACCEPTED {
         return LengthAnswer::Refused(refusal);
     }
     LengthAnswer::Length(image_length(h, text) as u64)
@@ -108,7 +110,7 @@ pub fn write_image(
         text.len(),
         output.len(),
     );
-    if refusal != 0 {
+    if refusal != ACCEPTED {
         return LengthAnswer::Refused(refusal);
     }
     let length = image_length(h, text.len());

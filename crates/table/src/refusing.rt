@@ -98,7 +98,7 @@ pub fn is_rows_short(h: Header, rows: usize) -> bool
 }
 
 // Test 2 of the key store or of the sort entries.
-fn is_pairs_short(h: Header, store: usize) -> bool
+pub fn is_pairs_short(h: Header, store: usize) -> bool
     requires { ⌜ rules.outside h ≡ false ⌝ }
     ensures { λ r. ⌜ r ≡ rules.pairsShort h store ⌝ }
 {
@@ -107,7 +107,7 @@ fn is_pairs_short(h: Header, store: usize) -> bool
 }
 
 // Test 2 of rows, keys and sort entries.
-fn is_stores_short(h: Header, l: Lent) -> bool
+pub fn is_stores_short(h: Header, l: Lent) -> bool
     requires { ⌜ rules.outside h ≡ false ⌝ }
     ensures { λ r. ⌜ r ≡ storesShort (openingOf h) (lengthsOf l) ⌝ }
 {

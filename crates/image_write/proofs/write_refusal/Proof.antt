@@ -1,5 +1,5 @@
 -- `image_write::write_refusal` meets its contract. Assumes nothing.
-use Rattle.image_write.proofs.Prelude.{_≡_, sym, _∙_, needs, false, pendingOutside, rowsShort, pending-outside-no, write-outside, write-rows, write-sorts, write-long, write-short, write-none}
+use Rattle.image_write.proofs.Prelude.{_≡_, sym, _∙_, needs, false, pendingOutside, rowsShort, pairsShort, pending-outside-no, write-outside, write-rows, write-sorts, write-long, write-short, write-none}
 use Rattle.image_write.proofs.write_refusal.Statement.{statement}
 use Rattle.image_write.proofs.write_refusal.Tie as tie
 
@@ -11,24 +11,29 @@ inside c = sym (c .before .is-pending-outside .ensures) ∙ c .if1 .left
 rows-long : (c : tie.Else2) → rowsShort (c .before .before .before .before .args .h) (c .before .before .before .before .args .rows) ≡ false
 rows-long c = sym (c .before .is-rows-short .ensures) ∙ c .if2 .left
 
+-- and once the sort entries are not
+sorts-long : (c : tie.Else3) → pairsShort (c .before .before .before .before .before .before .args .h) (c .before .before .before .before .before .before .args .sorts) ≡ false
+sorts-long c = sym (c .before .is-pairs-short .ensures) ∙ c .if3 .left
+
 returns-4 : tie.Need-returns-4
 returns-4 c =
-    let d = c .before .before .before in
-    write-long _ _ _ _ _ _ (inside (d .before .before)) (rows-long d) (c .before .if3 .left) (c .if4 .taken)
+    let e = c .before in
+    let d = e .before .before in
+    write-long _ _ _ _ _ _ (inside (d .before .before)) (rows-long d) (sorts-long e) (c .if4 .taken)
 
 returns-5 : tie.Need-returns-5
 returns-5 c =
-    let e = c .before .before in
-    let d = e .before .before .before in
-    write-short _ _ _ _ _ _ (inside (d .before .before)) (rows-long d) (e .before .if3 .left) (e .if4 .left)
-    (rw (c .before .image-length .ensures) at (c .if5 .taken))
+    let f = c .before .before in
+    let e = f .before in
+    let d = e .before .before in
+    write-short _ _ _ _ _ _ (inside (d .before .before)) (rows-long d) (sorts-long e) (f .if4 .left) (rw (c .before .image-length .ensures) at (c .if5 .taken))
 
 returns-6 : tie.Need-returns-6
 returns-6 c =
-    let e = c .before .before in
-    let d = e .before .before .before in
-    write-none _ _ _ _ _ _ (inside (d .before .before)) (rows-long d) (e .before .if3 .left) (e .if4 .left)
-    (rw (c .before .image-length .ensures) at (c .if5 .left))
+    let f = c .before .before in
+    let e = f .before in
+    let d = e .before .before in
+    write-none _ _ _ _ _ _ (inside (d .before .before)) (rows-long d) (sorts-long e) (f .if4 .left) (rw (c .before .image-length .ensures) at (c .if5 .left))
 
 pub write-refusal-spec : {M : Type 1} → statement M
 write-refusal-spec =
@@ -37,7 +42,7 @@ write-refusal-spec =
     (λ c κs. search needs) (λ c. write-outside _ _ _ _ _ _ (sym (c .before .is-pending-outside .ensures) ∙ c .if1 .taken))
     (λ c κs. pending-outside-no _ _ (inside c))
     (λ c. write-rows _ _ _ _ _ _ (inside (c .before .before)) (sym (c .before .is-rows-short .ensures) ∙ c .if2 .taken))
-    (λ c. search needs) (λ c. search needs)
-    (λ c. let d = c .before .before in write-sorts _ _ _ _ _ _ (inside (d .before .before)) (rows-long d) (c .if3 .taken))
+    (λ c κs. pending-outside-no _ _ (inside (c .before .before)))
+    (λ c. let d = c .before .before in write-sorts _ _ _ _ _ _ (inside (d .before .before)) (rows-long d) (sym (c .before .is-pairs-short .ensures) ∙ c .if3 .taken))
     returns-4 (λ c κs. (pending-outside-no _ _ (inside (c .before .before .before .before .before)), c .if4 .left)) returns-5
     returns-6)

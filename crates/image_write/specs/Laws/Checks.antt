@@ -59,22 +59,22 @@ module _ (h : Header) (rows sorts pending text output : ℕ) where
     unfolding writeRefusal firstRefusal
     write-rows r = rw (e, r)
 
-    pub write-sorts : rowsShort h rows ≡ false → sorts < 2 * h .capacity → 2 ≡ writeRefusal h rows sorts pending text output
-    unfolding writeRefusal firstRefusal pairsShort
-    write-sorts r s = rw (e, r, lt-ltb _ _ s)
+    pub write-sorts : rowsShort h rows ≡ false → pairsShort h sorts ≡ true → 2 ≡ writeRefusal h rows sorts pending text output
+    unfolding writeRefusal firstRefusal
+    write-sorts r s = rw (e, r, s)
 
-    module _ (r : rowsShort h rows ≡ false) (s : 2 * h .capacity ≤ sorts) where
+    module _ (r : rowsShort h rows ≡ false) (s : pairsShort h sorts ≡ false) where
       pub write-long : 4096 < text → 21 ≡ writeRefusal h rows sorts pending text output
-      unfolding writeRefusal firstRefusal pairsShort
-      write-long k = rw (e, r, le-ltb _ _ s, lt-ltb _ _ k)
+      unfolding writeRefusal firstRefusal
+      write-long k = rw (e, r, s, lt-ltb _ _ k)
 
       pub write-short : text ≤ 4096 → output < imageLength h text → 2 ≡ writeRefusal h rows sorts pending text output
-      unfolding writeRefusal firstRefusal pairsShort
-      write-short k o = rw (e, r, le-ltb _ _ s, le-ltb _ _ k, lt-ltb _ _ o)
+      unfolding writeRefusal firstRefusal
+      write-short k o = rw (e, r, s, le-ltb _ _ k, lt-ltb _ _ o)
 
       pub write-none : text ≤ 4096 → imageLength h text ≤ output → 0 ≡ writeRefusal h rows sorts pending text output
-      unfolding writeRefusal firstRefusal pairsShort
-      write-none k o = rw (e, r, le-ltb _ _ s, le-ltb _ _ k, le-ltb _ _ o)
+      unfolding writeRefusal firstRefusal
+      write-none k o = rw (e, r, s, le-ltb _ _ k, le-ltb _ _ o)
 
   -- accepted
   pub record Accepted : Type 0 where
