@@ -23,7 +23,7 @@ use refusals::ACCEPTED;
 use replay_queries::RunAnswer;
 
 // The largest count of queries that fits a word; a larger count is stored as this one.
-const MOST_TAKEN: usize = 4294967295;
+const MOST_TAKEN: u32 = 4294967295;
 
 // Opens a table and makes the calls in order, including refreshes over the index store. The opening is six words: columns, keys,
 // sort, rule, capacity, generation.
@@ -65,8 +65,8 @@ pub extern "C" fn mouldgrey_replay(
 fn count_word(n: usize) -> u32
     ensures { λ r. ⌜ r ≡ min n 4294967295 ⌝ }
 {
-    if n > MOST_TAKEN {
-        return 4294967295;
+    if n > MOST_TAKEN as usize {
+        return MOST_TAKEN;
     }
     n as u32
 }
