@@ -1,10 +1,8 @@
 -- Steps that the manual proofs of this crate share: a header and a subset are decoded, and the stored answer meets the contract.
 -- Assumes nothing.
-use Rattle.query_borrowed.proofs.Prelude.{ℕ, zero, _≡_, refl, sym, ap, subst, Option, just, List, [], _∷_, URA, fullShare, T, Sym, named, w32, Ty, tyStruct, Tys, place, field, Operand, copy, aggregate, Body, seq, assign, call, Val, Vals, vstruct, ofList, WT, hasTy, getV, SProp, id⊢, Lft, Share}
-use Rattle.query_borrowed.proofs.Prelude.{Fml, fsep, flft, feq, Memory, fieldOf, fieldAt, Routine, Heap, Calls, Loops, spotOf, Atoms, Fun, FmC, Given, Item, ‵, Post, Goal, runs, Seq, Step, step, _$_, move, use1, fjoin, drop, Opd, load, from, stop, fld, and-then, no-more, assigns, Part, look-in}
-use Rattle.query_borrowed.proofs.Prelude.{sub, agg, Is, Typed, uint-makes, bool-makes, u32, bool, Array, RefT, NamedLft, now, ShrRef, ptr-vals, ShrSlice, slice-vals, finally, only, owned, nothing, heard, own-shut, tripleOf, Triple, Constraint, Header}
+use Rattle.manual_proofs.proofs.Prelude.{ℕ, zero, _≡_, refl, sym, ap, subst, Option, just, List, [], _∷_, URA, fullShare, T, Sym, named, w32, Ty, tyStruct, Tys, place, field, Operand, copy, aggregate, Body, seq, assign, call, Val, Vals, vstruct, ofList, WT, hasTy, getV, SProp, id⊢, Lft, Share, Fml, fsep, flft, feq, Memory, fieldOf, fieldAt, Routine, Heap, Calls, Loops, spotOf, Atoms, Fun, FmC, Given, Item, ‵, Post, Goal, runs, Seq, Step, step, _$_, move, use1, fjoin, drop, Opd, load, from, stop, fld, and-then, no-more, assigns, Part, look-in, sub, agg, Is, Typed, uint-makes, bool-makes, u32, bool, Array, RefT, NamedLft, now, ShrRef, ptr-vals, ShrSlice, slice-vals, finally, only, owned, nothing, heard, own-shut, tripleOf, Triple, length}
+use Rattle.query_borrowed.proofs.Prelude.{Constraint, Header}
 use Rattle.offsets.specs.declared.SubsetHead.{SubsetHead}
-use lib.ListN.{length}
 use Rattle.constraints.specs.Encoding.{conditionIn}
 use denote.Struct.Laws as LL
 use Rattle.refusals.specs.Refusals.{Reply}
@@ -13,10 +11,10 @@ use Rattle.offsets.proofs.SubsetHead as ST
 use Rattle.table.proofs.Header as HT
 use Rattle.query_borrowed.specs.declared.SubsetRef.{SubsetRef}
 use Rattle.query_borrowed.proofs.SubsetRef as DT
-use Rattle.query_borrowed.proofs.Locals.{Locals, Within, held, set, operands, cell, fills}
-use Rattle.query_borrowed.proofs.Walking.{answers as calls}
-use Rattle.query_borrowed.proofs.Arrays.{tokens-out, tokens-in, owns-in}
 use Rattle.abi.specs.Encoding.{decodeHeader, decodeSubset, Stored, Answers}
+use Rattle.manual_proofs.proofs.Locals.{Locals, Within, held, set, operands, cell, fills}
+use Rattle.manual_proofs.proofs.Straight.{answers as calls}
+use Rattle.manual_proofs.proofs.Arrays.{tokens-out, tokens-in, owns-in}
 use Rattle.abi.specs.Laws.Encoding.{answers}
 use Rattle.abi.proofs.decode_header as hdr
 use Rattle.abi.proofs.decode_condition as con

@@ -1,28 +1,22 @@
 -- The plain values that the manual proofs pass on: their types, and that they own no resource. Assumes `Given`.
-use Rattle.query.proofs.Prelude.{refl, ℕ, List, w32, Val, u32, uint-makes, only}
-use denote.Array.{Array, array-vals, array-tells, array-lawful, array-makes}
-use denote.Plain.{uint-vals, uint-tells, uint-lawful}
+use Rattle.manual_proofs.proofs.Prelude.{refl, ℕ, List, w32, Val, u32, uint-makes, only, Array, array-vals, array-tells, array-lawful, array-makes, uint-vals, uint-tells, uint-lawful}
 use Rattle.listing_parse.proofs.Survey as VT
-use Rattle.listing_parse.proofs.Survey.Laws as VT′
-use Rattle.query.proofs.Walking.{Value, enum-value, struct-value}
+use Rattle.manual_proofs.proofs.Walking.{Value, enum-value, struct-value}
 use Rattle.listing_check.proofs.CheckAnswer as AT
-use Rattle.listing_check.proofs.CheckAnswer.Laws as AT′
 use Rattle.listing_check.proofs.Row as RT
-use Rattle.listing_check.proofs.Row.Laws as RT′
 use Rattle.listing_check.proofs.CheckScan as WT
-use Rattle.listing_check.proofs.CheckScan.Laws as WT′
 
 abbrev pub surveys : Value
-surveys = struct-value VT.the-type VT′.the-laws VT′.the-plain (λ x f. refl)
+surveys = struct-value VT.the-type VT.Laws.the-laws VT.Laws.the-plain (λ x f. refl)
 
 abbrev pub walks : Value
-walks = struct-value WT.the-type WT′.the-laws WT′.the-plain (λ x f. refl)
+walks = struct-value WT.the-type WT.Laws.the-laws WT.Laws.the-plain (λ x f. refl)
 
 abbrev pub rows : Value
-rows = struct-value RT.the-type RT′.the-laws RT′.the-plain (λ x f. refl)
+rows = struct-value RT.the-type RT.Laws.the-laws RT.Laws.the-plain (λ x f. refl)
 
 abbrev pub answers : Value
-answers = enum-value AT.the-type AT′.the-laws AT′.the-plain tt (λ x f. refl)
+answers = enum-value AT.the-type AT.Laws.the-laws AT.Laws.the-plain tt (λ x f. refl)
 
 -- a row's cells
 abbrev pub cells-val : List ℕ → Val

@@ -1,52 +1,34 @@
 -- `abi_listing::mouldgrey_check_answers` meets its contract: a manual proof over its MIR. The shared borrows are passed on whole;
 -- ownership of the verdict passes to `store_check`. Assumes nothing.
 use Rattle.abi_listing.proofs.Prelude.{refl, [], _∷_, checkView, AnswersChecked, Stored, encodeVerdict}
-use mir.Syntax.{named, w32}
-use base.Logic.{emp}
-use base.Fml.{ftrue, fsep}
-use contract.Lifetimes.{Shares}
-use contract.Monad.{factI}
-use types.Kit.{keep}
-use denote.Plain.{uint-lawful}
-use denote.Builtin.{u8, u64}
-use denote.Ref.{now, ptr-vals}
-use denote.Slice.{slice-vals}
-use denote.Steps.{heard}
+use Rattle.manual_proofs.proofs.Prelude.{named, w32, emp, ftrue, fsep, Shares, factI, keep, uint-lawful, u8, u64, now, ptr-vals, slice-vals, heard, URA, SProp, id⊢, Memory, Routine, Heap, Calls, Loops, WpFn, Atoms, Lfts, Fun, FmC, givenOf, Given, _$_, !, move, u32, typesAt, enum-lawful, Meets, tripleOf, Triple, cited}
 use Rattle.constraints.proofs.Constraint as CT
 use Rattle.listing_check.proofs.CheckAnswer as AT
-use Rattle.listing_check.proofs.CheckAnswer.Laws as AT′
-use Rattle.query_borrowed.proofs.Locals.{enters, leaves}
-use Rattle.query_borrowed.proofs.Walking.{URA, SProp, id⊢, Memory, Routine, Heap, Calls, Loops, WpFn, Atoms, Lfts, Fun, FmC, givenOf, Given, _$_, !, move, u32, typesAt, enum-lawful, Meets, tripleOf, Triple, cited, Knowns, reads, machine, met, ends-ensuring, answers, skips, pads, proved}
-use Rattle.query_borrowed.proofs.Arrays.{lent-array, FinalArray, lends-array, tokens-out, tokens-in, owns-out, owns-in}
+use Rattle.manual_proofs.proofs.Locals.{enters, leaves}
+use Rattle.manual_proofs.proofs.Straight.{Knowns, reads, machine, met, ends-ensuring, answers, skips, pads, proved}
+use Rattle.manual_proofs.proofs.Arrays.{lent-array, FinalArray, lends-array, tokens-out, tokens-in, owns-out, owns-in}
 use Rattle.abi.specs.Laws.Encoding.{answers as answered}
 use Rattle.listing_check.proofs.check_answers as chk
-use Rattle.listing_check.proofs.check_answers.Symbol as chk-def
-use Rattle.listing_check.proofs.check_answers.Met as chk-thm
 use Rattle.abi_listing.proofs.store_check as sto
-use Rattle.abi_listing.proofs.store_check.Symbol as sto-def
-use Rattle.abi_listing.proofs.store_check.Met as sto-thm
-use Rattle.abi_listing.proofs.mouldgrey_check_answers.Key as key
 use Rattle.abi_listing.proofs.mouldgrey_check_answers as f
-use Rattle.abi_listing.proofs.mouldgrey_check_answers.Statement as stated
-use Rattle.abi_listing.proofs.mouldgrey_check_answers.Code as code
 
 abbrev params : (κs : Lfts 4) → Knowns (typesAt (f.signature .params) κs)
 params κs = (reads (named 0) (κs .0) u8, (reads (named 1) (κs .1 .0) CT.the-row, (reads (named 2) (κs .1 .1 .0) u32, (lent-array (named 3) (κs .1 .1 .1 .0) u64 2, tt))))
 
 module _ {M : Type 1} (𝓤 : URA M) (H : Heap 𝓤) (A : Atoms 𝓤) (W : Given 𝓤 H A) (mem : Memory → SProp 𝓤) (run : Routine → Fun 𝓤) (C : Calls 𝓤 H) (Λ : Loops 𝓤 H) where
-  meets : Triple 𝓤 (C chk-def.name) (tripleOf 𝓤 H A chk.signature (chk.spec 𝓤 H A mem run)) → Triple 𝓤 (C sto-def.name) (tripleOf 𝓤 H A sto.signature (sto.spec 𝓤 H A mem run))
-      → FmC 𝓤 H (W .laws) C → Meets 𝓤 H A f.signature (WpFn 𝓤 H C Λ code.function) (f.spec 𝓤 H A mem run)
-  meets known-check known-store fm = met 𝓤 H A W f.ended (f.clauses 𝓤 H A mem run) params C Λ code.function (λ κs qs bounds a g are typed.
+  meets : Triple 𝓤 (C chk.Symbol.name) (tripleOf 𝓤 H A chk.signature (chk.spec 𝓤 H A mem run)) → Triple 𝓤 (C sto.Symbol.name) (tripleOf 𝓤 H A sto.signature (sto.spec 𝓤 H A mem run))
+      → FmC 𝓤 H (W .laws) C → Meets 𝓤 H A f.signature (WpFn 𝓤 H C Λ f.Code.function) (f.spec 𝓤 H A mem run)
+  meets known-check known-store fm = met 𝓤 H A W f.ended (f.clauses 𝓤 H A mem run) params C Λ f.Code.function (λ κs qs bounds a g are typed.
       let vals = machine 𝓤 H A W f.ended (f.clauses 𝓤 H A mem run) params κs a in
       let x = a .0 in let y = a .1 .0 in let n = a .1 .1 .0 in let z = a .1 .1 .1 .0 in
       let κs′ : Lfts 3 = (κs .0, (κs .1 .0, (κs .1 .1 .0, tt))) in
       let qs′ : Shares 3 = (qs .0, (qs .1 .0, (qs .1 .1 .0, tt))) in
-      enters ! C Λ code.function _ _ (λ bs. typed) (λ bs.
+      enters ! C Λ f.Code.function _ _ (λ bs. typed) (λ bs.
       -- each token and what each parameter owns is an entry
       move ! (1 ∷ []) $ tokens-out ! 4 κs qs $ move ! (5 ∷ []) $ owns-out ! (_ ∷ _ ∷ _ ∷ _ ∷ []) $
       move ! (1 ∷ 2 ∷ 3 ∷ []) $ owns-in ! (_ ∷ _ ∷ _ ∷ []) $ move ! (3 ∷ 4 ∷ 5 ∷ 0 ∷ 6 ∷ []) $ tokens-in ! 3 κs′ qs′ $
       -- [the check's tokens; what it requires; the locals; what the verdict owns, and its token]
-      answers ! fm chk.ended (chk.clauses 𝓤 H A mem run) known-check ((κs′, qs′, tt, (x, (y, (n, tt))), (slice-vals x, (slice-vals y, (slice-vals n, tt)))), tt) (id⊢ 𝓤 _) refl (enum-lawful AT.the-type AT′.the-laws 𝓤 H A W tt) (λ v t. t .0) tt (λ rv r os is.
+      answers ! fm chk.ended (chk.clauses 𝓤 H A mem run) known-check ((κs′, qs′, tt, (x, (y, (n, tt))), (slice-vals x, (slice-vals y, (slice-vals n, tt)))), tt) (id⊢ 𝓤 _) refl (enum-lawful AT.the-type AT.Laws.the-laws 𝓤 H A W tt) (λ v t. t .0) tt (λ rv r os is.
       move ! (4 ∷ []) $ heard ! (AnswersChecked (now x) (now y) (now n) r) (λ checked. lends-array ! refl tt (tt, tt) $
       move ! (4 ∷ 3 ∷ []) $ owns-in ! (_ ∷ _ ∷ []) $ move ! (4 ∷ []) $ tokens-in ! 1 (κs .1 .1 .1 .0, tt) (qs .1 .1 .1 .0, tt) $
       -- [the verdict's token; what the storing call requires; the locals; the check's tokens and last values]
@@ -58,9 +40,9 @@ module _ {M : Type 1} (𝓤 : URA M) (H : Heap 𝓤) (A : Atoms 𝓤) (W : Given
       ends-ensuring 𝓤 H A W f.ended (f.clauses 𝓤 H A mem run) ((κs, qs, bounds, a, vals), g) tv t (tt, (tt, (tt, (zs .1 .0, tt))))
       (factI 𝓤 _ (emp 𝓤) (answered checked stored))))))))
 
-pub mouldgrey-check-answers-spec : {M : Type 1} → stated.statement M
-unfolding code.routine
+pub mouldgrey-check-answers-spec : {M : Type 1} → f.Statement.statement M
+unfolding f.Code.routine
 mouldgrey-check-answers-spec 𝓤 H 𝓜 𝓖 𝓡 =
-    proved 𝓤 H 𝓜 𝓖 𝓡 code.env key.name code.function (tripleOf 𝓤 H (𝓖 .A) f.signature (f.spec 𝓤 H (𝓖 .A) (𝓜 .mem) (𝓡 .run))) (code.unfolded 𝓤 H 𝓜 𝓡) (meets 𝓤 H (𝓖 .A) (givenOf 𝓤 H 𝓜 𝓖) (𝓜 .mem) (𝓡 .run) _ _
-    (cited 𝓤 H (tripleOf 𝓤 H (𝓖 .A) chk.signature (chk.spec 𝓤 H (𝓖 .A) (𝓜 .mem) (𝓡 .run))) 𝓜 𝓡 code.env chk-def.name chk-def.routine code.calls-listing-check·check-answers (chk-thm.met 𝓤 H 𝓜 𝓖 𝓡))
-    (cited 𝓤 H (tripleOf 𝓤 H (𝓖 .A) sto.signature (sto.spec 𝓤 H (𝓖 .A) (𝓜 .mem) (𝓡 .run))) 𝓜 𝓡 code.env sto-def.name sto-def.routine code.calls-abi-listing·store-check (sto-thm.met 𝓤 H 𝓜 𝓖 𝓡)))
+    proved 𝓤 H 𝓜 𝓖 𝓡 f.Code.env f.Key.name f.Code.function (tripleOf 𝓤 H (𝓖 .A) f.signature (f.spec 𝓤 H (𝓖 .A) (𝓜 .mem) (𝓡 .run))) (f.Code.unfolded 𝓤 H 𝓜 𝓡) (meets 𝓤 H (𝓖 .A) (givenOf 𝓤 H 𝓜 𝓖) (𝓜 .mem) (𝓡 .run) _ _
+    (cited 𝓤 H (tripleOf 𝓤 H (𝓖 .A) chk.signature (chk.spec 𝓤 H (𝓖 .A) (𝓜 .mem) (𝓡 .run))) 𝓜 𝓡 f.Code.env chk.Symbol.name chk.Symbol.routine f.Code.calls-listing-check·check-answers (chk.Met.met 𝓤 H 𝓜 𝓖 𝓡))
+    (cited 𝓤 H (tripleOf 𝓤 H (𝓖 .A) sto.signature (sto.spec 𝓤 H (𝓖 .A) (𝓜 .mem) (𝓡 .run))) 𝓜 𝓡 f.Code.env sto.Symbol.name sto.Symbol.routine f.Code.calls-abi-listing·store-check (sto.Met.met 𝓤 H 𝓜 𝓖 𝓡)))

@@ -1,15 +1,16 @@
 -- `abi_query::mouldgrey_contains_match` meets its contract: a manual proof over its MIR. Ownership of the answer passes to the
 -- call that stores it. Assumes nothing.
-use Rattle.query_borrowed.proofs.Prelude.{refl, [], _∷_, erased, named, w32, emp, ftrue, fsep, Shares, factI, keep, uint-lawful, NamedLft, now, ptr-vals, slice-vals, heard, Header, Matched, matchView}
+use Rattle.manual_proofs.proofs.Prelude.{refl, [], _∷_, erased, named, w32, emp, ftrue, fsep, Shares, factI, keep, uint-lawful, NamedLft, now, ptr-vals, slice-vals, heard, URA, SProp, id⊢, Memory, Routine, Heap, Calls, Loops, WpFn, Atoms, Lfts, Fun, FmC, givenOf, Given, _$_, !, move, u32, typesAt, enum-lawful, Meets, tripleOf, Triple, cited}
+use Rattle.query_borrowed.proofs.Prelude.{Header, Matched, matchView}
 use Rattle.offsets.specs.declared.SubsetHead.{SubsetHead}
 use Rattle.offsets.specs.Answers.{subsetOf}
 use Rattle.constraints.proofs.Constraint as CT
 use Rattle.query_spec.specs.declared.MatchAnswer.{MatchAnswer}
 use Rattle.query_spec.proofs.MatchAnswer as AT
 use Rattle.query_borrowed.proofs.SubsetRef.Laws as DT′
-use Rattle.query_borrowed.proofs.Locals.{enters, cell, copies, leaves}
-use Rattle.query_borrowed.proofs.Walking.{URA, SProp, id⊢, Memory, Routine, Heap, Calls, Loops, WpFn, Atoms, Lfts, Fun, FmC, givenOf, Given, _$_, !, move, u32, typesAt, enum-lawful, Meets, tripleOf, Triple, cited, Knowns, reads, machine, met, ends-ensuring, answers, skips, pads, proved}
-use Rattle.query_borrowed.proofs.Arrays.{shared-array, lent-array, FinalArray, lends-array, tokens-out, tokens-in, owns-out, owns-in}
+use Rattle.manual_proofs.proofs.Locals.{enters, cell, copies, leaves}
+use Rattle.manual_proofs.proofs.Straight.{Knowns, reads, machine, met, ends-ensuring, answers, skips, pads, proved}
+use Rattle.manual_proofs.proofs.Arrays.{shared-array, lent-array, FinalArray, lends-array, tokens-out, tokens-in, owns-out, owns-in}
 use Rattle.abi.specs.Encoding.{encodeBool, Stored}
 use Rattle.abi.proofs.decode_header as hdr
 use Rattle.abi.proofs.decode_subset as sub

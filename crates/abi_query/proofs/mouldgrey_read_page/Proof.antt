@@ -1,15 +1,16 @@
 -- `abi_query::mouldgrey_read_page` meets its contract: a manual proof over its MIR. Ownership of the output passes to the query,
 -- that of the answer to the call that stores it. Assumes nothing.
-use Rattle.query_borrowed.proofs.Prelude.{refl, List, [], _∷_, ℕ, erased, named, w32, w64, vint, emp, ftrue, fsep, Shares, factI, keep, fjoin, uint-lawful, NamedLft, now, ptr-vals, slice-vals, heard, Header, PageRead, pageView}
+use Rattle.manual_proofs.proofs.Prelude.{refl, List, [], _∷_, ℕ, erased, named, w32, w64, vint, emp, ftrue, fsep, Shares, factI, keep, fjoin, uint-lawful, NamedLft, now, ptr-vals, slice-vals, heard, URA, SProp, id⊢, Memory, Routine, Heap, Calls, Loops, WpFn, Atoms, Lfts, Fun, FmC, givenOf, Given, _$_, !, move, fsplit, u32, typesAt, enum-lawful, Meets, tripleOf, Triple, cited}
+use Rattle.query_borrowed.proofs.Prelude.{Header, PageRead, pageView}
 use Rattle.offsets.specs.declared.SubsetHead.{SubsetHead}
 use Rattle.offsets.specs.Answers.{subsetOf}
 use Rattle.constraints.proofs.Constraint as CT
 use Rattle.query_spec.specs.declared.PageAnswer.{PageAnswer}
 use Rattle.query_spec.proofs.PageAnswer as AT
 use Rattle.query_borrowed.proofs.SubsetRef.Laws as DT′
-use Rattle.query_borrowed.proofs.Locals.{enters, cell, copies, lends, leaves}
-use Rattle.query_borrowed.proofs.Walking.{URA, SProp, id⊢, Memory, Routine, Heap, Calls, Loops, WpFn, Atoms, Lfts, Fun, FmC, givenOf, Given, _$_, !, move, fsplit, u32, typesAt, enum-lawful, Meets, tripleOf, Triple, cited, Knowns, number, reads, writes, machine, met, ends-ensuring, answers, skips, pads, proved}
-use Rattle.query_borrowed.proofs.Arrays.{shared-array, lent-array, FinalArray, lends-array, tokens-out, tokens-in, owns-out, owns-in}
+use Rattle.manual_proofs.proofs.Locals.{enters, cell, copies, lends, leaves}
+use Rattle.manual_proofs.proofs.Straight.{Knowns, number, reads, writes, machine, met, ends-ensuring, answers, skips, pads, proved}
+use Rattle.manual_proofs.proofs.Arrays.{shared-array, lent-array, FinalArray, lends-array, tokens-out, tokens-in, owns-out, owns-in}
 use Rattle.abi.specs.Encoding.{encodePage, Stored}
 use Rattle.abi.proofs.decode_header as hdr
 use Rattle.abi.proofs.decode_subset as sub

@@ -1,67 +1,31 @@
 -- `listing_check::check_answers` meets its contract: a manual proof over its MIR, split at each call before the loop. The borrowed
 -- arguments are passed on whole. The loop's state is the merge scan over the rows. Assumes nothing.
-use Rattle.query.proofs.Prelude.{_≡_, refl, sym, ap, subst, _∙_, ℕ, _<_, _≤_, Bool, true, false, List, [], _∷_, ltb, length, URA, fullShare, named, tyBool, w32, w64, Val, vbool, vint, SProp, ent, emp, id⊢, via, fst∗, Lft, Share, Fml, ftrue, fsep, flft, fat, Memory, Routine, Heap, Env, Tables, Wp, WpFn, afterBlock, afterSeq}
-use Rattle.query.proofs.Prelude.{atReturn, afterTurn, Atoms, Fun, givenOf, tables, tablesOf, Given, Item, Sq, anyQ, atRet, runs, ‵, raw, ⋆, _$_, _∵_, !, qed, move, drop, group, use1, split, join, rewrite, fsplit, fjoin, suffices, frame, done, agg, whole, sub, look-in, Below, look, store, init, forget, stop, fld, from}
-use Rattle.query.proofs.Prelude.{load, lit, bin, and-then, no-more, assigns, land, again, blocks, exec, first, leaves-loop, loops, goes-on, returns, enter, alloc1, alloc0, params1, pass1, pass0, free1, free0, fmOf, u32, bool, Is, bool-makes, RefT, now, ShrSlice, Room, owned, nothing, Clauses, onEntry, cited, says, ends-at}
+use Rattle.manual_proofs.proofs.Prelude.{_≡_, refl, sym, ap, subst, _∙_, ℕ, _<_, _≤_, Bool, true, false, List, [], _∷_, ltb, length, URA, fullShare, named, tyBool, w32, w64, Val, vbool, vint, SProp, ent, emp, id⊢, via, fst∗, Lft, Share, Fml, ftrue, fsep, flft, fat, Memory, Routine, Heap, Env, Tables, Wp, WpFn, afterBlock, afterSeq, atReturn, afterTurn, Atoms, Fun, givenOf, tables, tablesOf, Given, Item, Sq, anyQ, atRet, runs, ‵, raw, ⋆, _$_, _∵_, !, qed, move, drop, group, use1, split, join, rewrite, fsplit, fjoin, suffices, frame, done, agg, whole, sub, look-in, Below, look, store, init, forget, stop, fld, from, load, lit, bin, and-then, no-more, assigns, land, again, blocks, exec, first, leaves-loop, loops, goes-on, returns, enter, alloc1, alloc0, params1, pass1, pass0, free1, free0, fmOf, u32, bool, Is, bool-makes, RefT, now, ShrSlice, Room, owned, nothing, Clauses, onEntry, cited, says, ends-at, sem, land-last, true-lit, u8}
 use Rattle.listing_check.proofs.Prelude.{_-_, map, map-id, le-ltb, lt-ltb, ltb-false, ltb-true, take, InvImage·wf, Nat·lt-wfRel, all, Constraint, known, meets, Header, Known, allPass, Survey, Surveyed, CheckScan, AnswersChecked, Due, RowRead, Underway, Begun, Stepped, closed}
-use ghost.Atoms.{sem}
 use types.Kit as Kit
-use types.Run.{land-last, true-lit}
-use denote.Builtin.{u8}
 use denote.Enum.Laws as EL
 use denote.Struct.Laws as LL
 use Rattle.constraints.proofs.Constraint as CT
 use Rattle.table.proofs.Header as HT
-use Rattle.table.proofs.Header.Laws as HT′
 use Rattle.query_scan.proofs.Test as TT
-use Rattle.query_scan.proofs.Test.Laws as TT′
 use Rattle.listing_parse.proofs.Survey as VT
 use Rattle.query.proofs.Lent.{fits, header-val, headers, numbers, slice-val, test-val, tests}
 use Rattle.query.proofs.LoopSteps.{all-known}
-use Rattle.query.proofs.Walking.{AllPassed, Callee, Cell, Cells, Cites, Tokens, Walked, arg, bool-lands, calls, calls-last, empty, env-of, holds, lent-slice, own, stays, twice, typed, value-lands, value-settles, walk-runs}
+use Rattle.manual_proofs.proofs.Walking.{AllPassed, Callee, Cell, Cells, Cites, Tokens, Walked, arg, bool-lands, calls, calls-last, empty, env-of, holds, lent-slice, own, stays, twice, typed, value-lands, value-settles, walk-runs}
 use Rattle.listing_check.specs.declared.Row.{Row}
 use Rattle.listing_check.proofs.Steps.{finish}
 use Rattle.listing_check.proofs.Values.{answers, arrays, cells-val, rows, surveys, walks}
 use Rattle.listing_check.proofs.Row as RT
-use Rattle.listing_check.proofs.Row.Laws as RT′
 use Rattle.listing_check.proofs.CheckScan as WT
-use Rattle.listing_check.proofs.CheckScan.Laws as WT′
 use Rattle.listing_parse.proofs.scan_text as lok
-use Rattle.listing_parse.proofs.scan_text.Symbol as lok-def
-use Rattle.listing_parse.proofs.scan_text.Symbol.{name as #listing-parse·scan-text}
-use Rattle.listing_parse.proofs.scan_text.Met as lok-thm
 use Rattle.listing_check.proofs.header_of as hdr
-use Rattle.listing_check.proofs.header_of.Symbol as hdr-def
-use Rattle.listing_check.proofs.header_of.Symbol.{name as #listing-check·header-of}
-use Rattle.listing_check.proofs.header_of.Met as hdr-thm
 use Rattle.query.proofs.loops.all_pass as all-hold
-use Rattle.query.proofs.loops.all_pass.Symbol as all-def
-use Rattle.query.proofs.loops.all_pass.Symbol.{name as #query·loops·all-pass}
-use Rattle.query.proofs.loops.all_pass.Met as all-thm
 use Rattle.listing_check.proofs.begin as beg
-use Rattle.listing_check.proofs.begin.Symbol as beg-def
-use Rattle.listing_check.proofs.begin.Symbol.{name as #listing-check·begin}
-use Rattle.listing_check.proofs.begin.Met as beg-thm
 use Rattle.listing_check.proofs.row_at as row
-use Rattle.listing_check.proofs.row_at.Symbol as row-def
-use Rattle.listing_check.proofs.row_at.Symbol.{name as #listing-check·row-at}
-use Rattle.listing_check.proofs.row_at.Met as row-thm
 use Rattle.listing_check.proofs.meets_all as met
-use Rattle.listing_check.proofs.meets_all.Symbol as met-def
-use Rattle.listing_check.proofs.meets_all.Symbol.{name as #listing-check·meets-all}
-use Rattle.listing_check.proofs.meets_all.Met as met-thm
 use Rattle.listing_check.proofs.step as stp
-use Rattle.listing_check.proofs.step.Symbol as stp-def
-use Rattle.listing_check.proofs.step.Symbol.{name as #listing-check·step}
-use Rattle.listing_check.proofs.step.Met as stp-thm
 use Rattle.listing_check.proofs.close as cls
-use Rattle.listing_check.proofs.close.Symbol as cls-def
-use Rattle.listing_check.proofs.close.Symbol.{name as #listing-check·close}
-use Rattle.listing_check.proofs.close.Met as cls-thm
-use Rattle.listing_check.proofs.check_answers.Key.{name as #listing-check·check-answers}
 use Rattle.listing_check.proofs.check_answers as f
-use Rattle.listing_check.proofs.check_answers.Statement as stated
-use Rattle.listing_check.proofs.check_answers.Code as code
 use Rattle.listing_check.proofs.check_answers.Code.Mir as mir
 
 -- a row's cells, as its struct is taken apart
@@ -146,7 +110,7 @@ module _ {M : Type 1} (𝓤 : URA M) (H : Heap 𝓤) (A : Atoms 𝓤) (W : Given
   requires-head s = qed W (‵ (VT.the-row .own s (surveys .val s ∷ [])) ∷ []) ∵ nothing ! $ move ! (1 ∷ 0 ∷ []) $ fjoin ! $ nothing ! $ join ! $ frame ! $ done !
 
   is-k : Is TT.the-row Known (test-val Known ∷ [])
-  is-k = EL.owes TT.the-type TT′.the-laws Known tt
+  is-k = EL.owes TT.the-type TT.Laws.the-laws Known tt
 
   requires-all : (h : Header) → Is HT.the-row h (header-val h ∷ []) → ent 𝓤 (⋆ 𝓤 H A (‵ (flft κ₂ q₂) ∷ ‵ (flft κ₁ q₁) ∷ ‵ OwnGiven ∷ ‵ OwnConditions ∷ [])) (Callee 𝓤 H A all-hold.ended passing .pre (to-all h))
   requires-all h is-h =
@@ -162,13 +126,13 @@ module _ {M : Type 1} (𝓤 : URA M) (H : Heap 𝓤) (A : Atoms 𝓤) (W : Given
   requires-row : (h : Header) (at : CheckScan) → Is HT.the-row h (header-val h ∷ []) → Is WT.the-row at (walks .val at ∷ []) → Due (h .columns) (now x) (at .start)
       → ent 𝓤 (⋆ 𝓤 H A (‵ (flft κ₀ q₀) ∷ ‵ OwnText ∷ [])) (Callee 𝓤 H A row.ended reading .pre (to-row h at))
   requires-row h at is-h is-at due =
-      qed W (‵ (flft κ₀ q₀) ∷ ‵ OwnText ∷ []) ∵ says ! due $ nothing ! $ own ! (numbers w64) (at .start) (LL.owed WT.the-type WT′.the-laws at _ is-at .1 .0) $ fjoin ! $ move ! (2 ∷ 0 ∷ []) $ fjoin ! $
-      own ! (numbers w32) (h .columns) (LL.owed HT.the-type HT′.the-laws h _ is-h .0) $ fjoin ! $ nothing ! $ move ! (2 ∷ 0 ∷ []) $ join ! $ join ! $ done !
+      qed W (‵ (flft κ₀ q₀) ∷ ‵ OwnText ∷ []) ∵ says ! due $ nothing ! $ own ! (numbers w64) (at .start) (LL.owed WT.the-type WT.Laws.the-laws at _ is-at .1 .0) $ fjoin ! $ move ! (2 ∷ 0 ∷ []) $ fjoin ! $
+      own ! (numbers w32) (h .columns) (LL.owed HT.the-type HT.Laws.the-laws h _ is-h .0) $ fjoin ! $ nothing ! $ move ! (2 ∷ 0 ∷ []) $ join ! $ join ! $ done !
 
   requires-meet : (h : Header) (r : Row) → Is HT.the-row h (header-val h ∷ []) → Is RT.the-row r (rows .val r ∷ []) → (1 ≤ h .columns) × (h .columns ≤ 8)
       → ent 𝓤 (⋆ 𝓤 H A (‵ (flft κ₁ q₁) ∷ ‵ OwnConditions ∷ [])) (Callee 𝓤 H A met.ended meeting .pre (to-meet h r))
   requires-meet h r is-h is-r narrow =
-      qed W (‵ (flft κ₁ q₁) ∷ ‵ OwnConditions ∷ []) ∵ says ! narrow $ nothing ! $ move ! (2 ∷ 0 ∷ []) $ fjoin ! $ own ! arrays (stored r) (LL.owed RT.the-type RT′.the-laws r _ is-r .1 .0) $ fjoin ! $
+      qed W (‵ (flft κ₁ q₁) ∷ ‵ OwnConditions ∷ []) ∵ says ! narrow $ nothing ! $ move ! (2 ∷ 0 ∷ []) $ fjoin ! $ own ! arrays (stored r) (LL.owed RT.the-type RT.Laws.the-laws r _ is-r .1 .0) $ fjoin ! $
       own ! headers h is-h $ fjoin ! $ nothing ! $ move ! (2 ∷ 0 ∷ []) $ join ! $ join ! $ done !
 
   requires-step : (at : CheckScan) (r : Row) (m : Bool) → Is WT.the-row at (walks .val at ∷ []) → Is RT.the-row r (rows .val r ∷ []) → ent 𝓤 (⋆ 𝓤 H A (‵ (flft κ₂ q₂) ∷ ‵ OwnGiven ∷ [])) (Callee 𝓤 H A stp.ended stepping .pre (to-step at r m))
@@ -179,9 +143,9 @@ module _ {M : Type 1} (𝓤 : URA M) (H : Heap 𝓤) (A : Atoms 𝓤) (W : Given
   requires-close : (at : CheckScan) → Is WT.the-row at (walks .val at ∷ []) → ent 𝓤 (⋆ 𝓤 H A (‵ (flft κ₂ q₂) ∷ ‵ OwnGiven ∷ [])) (Callee 𝓤 H A cls.ended closing .pre (to-close at))
   requires-close at is-at = qed W (‵ (flft κ₂ q₂) ∷ ‵ OwnGiven ∷ []) ∵ nothing ! $ move ! (2 ∷ 0 ∷ []) $ fjoin ! $ own ! walks at is-at $ fjoin ! $ nothing ! $ move ! (2 ∷ 0 ∷ []) $ join ! $ join ! $ frame ! $ done !
 
-  module _ (𝓣 : Tables 𝓤 H) (known-look : Cites 𝓤 H A lok.ended looking (𝓣 .C) #listing-parse·scan-text) (known-head : Cites 𝓤 H A hdr.ended heading (𝓣 .C) #listing-check·header-of) (known-all : Cites 𝓤 H A all-hold.ended passing (𝓣 .C) #query·loops·all-pass)
-      (known-begin : Cites 𝓤 H A beg.ended beginning (𝓣 .C) #listing-check·begin) (known-row : Cites 𝓤 H A row.ended reading (𝓣 .C) #listing-check·row-at) (known-meet : Cites 𝓤 H A met.ended meeting (𝓣 .C) #listing-check·meets-all)
-      (known-step : Cites 𝓤 H A stp.ended stepping (𝓣 .C) #listing-check·step) (known-close : Cites 𝓤 H A cls.ended closing (𝓣 .C) #listing-check·close) (l₀ l₁ l₂ l₃ l₄ l₅ l₆ l₇ l₈ l₉ l₁₀ l₁₁ : ℕ) where
+  module _ (𝓣 : Tables 𝓤 H) (known-look : Cites 𝓤 H A lok.ended looking (𝓣 .C) lok.Symbol.name) (known-head : Cites 𝓤 H A hdr.ended heading (𝓣 .C) hdr.Symbol.name) (known-all : Cites 𝓤 H A all-hold.ended passing (𝓣 .C) all-hold.Symbol.name)
+      (known-begin : Cites 𝓤 H A beg.ended beginning (𝓣 .C) beg.Symbol.name) (known-row : Cites 𝓤 H A row.ended reading (𝓣 .C) row.Symbol.name) (known-meet : Cites 𝓤 H A met.ended meeting (𝓣 .C) met.Symbol.name)
+      (known-step : Cites 𝓤 H A stp.ended stepping (𝓣 .C) stp.Symbol.name) (known-close : Cites 𝓤 H A cls.ended closing (𝓣 .C) cls.Symbol.name) (l₀ l₁ l₂ l₃ l₄ l₅ l₆ l₇ l₈ l₉ l₁₀ l₁₁ : ℕ) where
     abbrev E : Env 𝓤 H
     E = env-of mir.locals (l₀ ∷ l₁ ∷ l₂ ∷ l₃ ∷ l₄ ∷ l₅ ∷ l₆ ∷ l₇ ∷ l₈ ∷ l₉ ∷ l₁₀ ∷ l₁₁ ∷ [])
 
@@ -289,28 +253,28 @@ module _ {M : Type 1} (𝓤 : URA M) (H : Heap 𝓤) (A : Atoms 𝓤) (W : Given
         move ! (2 ∷ []) $ drop ! $ move ! (1 ∷ []) $ value-lands ! surveys s w (λ is-s. split ! $ move ! (1 ∷ []) $ drop ! $ move ! (0 ∷ 2 ∷ 3 ∷ 1 ∷ []) $
         land ! (from ! (stop !)) (init ! 20 refl (typed W surveys s is-s .0)) $ heads s sv is-s))
 
-  walk : (𝓣 : Tables 𝓤 H) → Cites 𝓤 H A lok.ended looking (𝓣 .C) #listing-parse·scan-text → Cites 𝓤 H A hdr.ended heading (𝓣 .C) #listing-check·header-of → Cites 𝓤 H A all-hold.ended passing (𝓣 .C) #query·loops·all-pass
-      → Cites 𝓤 H A beg.ended beginning (𝓣 .C) #listing-check·begin → Cites 𝓤 H A row.ended reading (𝓣 .C) #listing-check·row-at → Cites 𝓤 H A met.ended meeting (𝓣 .C) #listing-check·meets-all
-      → Cites 𝓤 H A stp.ended stepping (𝓣 .C) #listing-check·step → Cites 𝓤 H A cls.ended closing (𝓣 .C) #listing-check·close → Room u8 (length (now x)) → Room CT.the-row (length (now c)) → Room u32 (length (now g))
-      → ent 𝓤 (onEntry 𝓤 H A f.signature (y .0 .0) (y .0 .1) (y .0 .3) (y .0 .4)) (WpFn 𝓤 H (𝓣 .C) (𝓣 .Λ) code.function (Walked f.ended params 𝓤 H A clauses .args y) Post)
+  walk : (𝓣 : Tables 𝓤 H) → Cites 𝓤 H A lok.ended looking (𝓣 .C) lok.Symbol.name → Cites 𝓤 H A hdr.ended heading (𝓣 .C) hdr.Symbol.name → Cites 𝓤 H A all-hold.ended passing (𝓣 .C) all-hold.Symbol.name
+      → Cites 𝓤 H A beg.ended beginning (𝓣 .C) beg.Symbol.name → Cites 𝓤 H A row.ended reading (𝓣 .C) row.Symbol.name → Cites 𝓤 H A met.ended meeting (𝓣 .C) met.Symbol.name
+      → Cites 𝓤 H A stp.ended stepping (𝓣 .C) stp.Symbol.name → Cites 𝓤 H A cls.ended closing (𝓣 .C) cls.Symbol.name → Room u8 (length (now x)) → Room CT.the-row (length (now c)) → Room u32 (length (now g))
+      → ent 𝓤 (onEntry 𝓤 H A f.signature (y .0 .0) (y .0 .1) (y .0 .3) (y .0 .4)) (WpFn 𝓤 H (𝓣 .C) (𝓣 .Λ) f.Code.function (Walked f.ended params 𝓤 H A clauses .args y) Post)
   walk 𝓣 known-look known-head known-all known-begin known-row known-meet known-step known-close room-text room room-given =
       qed W (Tokens 𝓤 H A 3 (y .0 .0) (y .0 .1) ∷ ‵ (fsep OwnText (fsep OwnConditions (fsep OwnGiven ftrue))) ∷ []) ∵
       split ! $ move ! (1 ∷ []) $ split ! $ move ! (1 ∷ []) $ split ! $ move ! (1 ∷ []) $ drop ! $ move ! (3 ∷ []) $ fsplit ! $ move ! (1 ∷ []) $ fsplit ! $ move ! (1 ∷ []) $ fsplit ! $ move ! (1 ∷ []) $ drop ! $ move ! (5 ∷ 4 ∷ 3 ∷ 2 ∷ 1 ∷ 0 ∷ []) $
-      enter ! (𝓣 .C) (𝓣 .Λ) code.function (Walked f.ended params 𝓤 H A clauses .args y) _ $
+      enter ! (𝓣 .C) (𝓣 .Λ) f.Code.function (Walked f.ended params 𝓤 H A clauses .args y) _ $
       alloc1 ! (λ l₀. alloc1 ! (λ l₁. alloc1 ! (λ l₂. alloc1 ! (λ l₃. alloc1 ! (λ l₄. alloc1 ! (λ l₅. alloc1 ! (λ l₆. alloc1 ! (λ l₇. alloc1 ! (λ l₈. alloc1 ! (λ l₉. alloc1 ! (λ l₁₀. alloc1 ! (λ l₁₁. alloc0 ! $ params1 ! $
       pass1 ! (init ! 20 refl (fits (room-text .0))) $ pass1 ! (init ! 18 refl (fits (room .0))) $ pass1 ! (init ! 16 refl (fits (room-given .0))) $ pass0 ! $
       move ! (24 ∷ 25 ∷ 26 ∷ 27 ∷ 28 ∷ 29 ∷ []) $ begins 𝓣 known-look known-head known-all known-begin known-row known-meet known-step known-close l₀ l₁ l₂ l₃ l₄ l₅ l₆ l₇ l₈ l₉ l₁₀ l₁₁))))))))))))
 
-pub check-answers-spec : {M : Type 1} → stated.statement M
-unfolding code.routine tablesOf
+pub check-answers-spec : {M : Type 1} → f.Statement.statement M
+unfolding f.Code.routine tablesOf
 check-answers-spec 𝓤 H 𝓜 𝓖 𝓡 =
-    walk-runs f.ended params 𝓤 H 𝓜 𝓖 𝓡 (f.clauses 𝓤 H (𝓖 .A) (𝓜 .mem) (𝓡 .run)) code.env #listing-check·check-answers code.function (code.unfolded 𝓤 H 𝓜 𝓡) (λ κs qs bounds a g are. via 𝓤 _ (fst∗ 𝓤 _ (emp 𝓤))
-    (walk 𝓤 H (𝓖 .A) (givenOf 𝓤 H 𝓜 𝓖) (𝓜 .mem) (𝓡 .run) (κs .0) (κs .1 .0) (κs .1 .1 .0) (qs .0) (qs .1 .0) (qs .1 .1 .0) (a .0) (a .1 .0) (a .1 .1 .0) (tablesOf 𝓤 H 𝓜 (tables 𝓤 H 𝓜 𝓡 code.env))
-    (cited 𝓤 H _ 𝓜 𝓡 code.env #listing-parse·scan-text lok-def.routine code.calls-listing-parse·scan-text (lok-thm.met 𝓤 H 𝓜 𝓖 𝓡))
-    (cited 𝓤 H _ 𝓜 𝓡 code.env #listing-check·header-of hdr-def.routine code.calls-listing-check·header-of (hdr-thm.met 𝓤 H 𝓜 𝓖 𝓡))
-    (cited 𝓤 H _ 𝓜 𝓡 code.env #query·loops·all-pass all-def.routine code.calls-query·loops·all-pass (all-thm.met 𝓤 H 𝓜 𝓖 𝓡))
-    (cited 𝓤 H _ 𝓜 𝓡 code.env #listing-check·begin beg-def.routine code.calls-listing-check·begin (beg-thm.met 𝓤 H 𝓜 𝓖 𝓡))
-    (cited 𝓤 H _ 𝓜 𝓡 code.env #listing-check·row-at row-def.routine code.calls-listing-check·row-at (row-thm.met 𝓤 H 𝓜 𝓖 𝓡))
-    (cited 𝓤 H _ 𝓜 𝓡 code.env #listing-check·meets-all met-def.routine code.calls-listing-check·meets-all (met-thm.met 𝓤 H 𝓜 𝓖 𝓡))
-    (cited 𝓤 H _ 𝓜 𝓡 code.env #listing-check·step stp-def.routine code.calls-listing-check·step (stp-thm.met 𝓤 H 𝓜 𝓖 𝓡))
-    (cited 𝓤 H _ 𝓜 𝓡 code.env #listing-check·close cls-def.routine code.calls-listing-check·close (cls-thm.met 𝓤 H 𝓜 𝓖 𝓡)) (are .0 .0 .1) (are .1 .0 .0 .1) (are .1 .1 .0 .0 .1)))
+    walk-runs f.ended params 𝓤 H 𝓜 𝓖 𝓡 (f.clauses 𝓤 H (𝓖 .A) (𝓜 .mem) (𝓡 .run)) f.Code.env f.Key.name f.Code.function (f.Code.unfolded 𝓤 H 𝓜 𝓡) (λ κs qs bounds a g are. via 𝓤 _ (fst∗ 𝓤 _ (emp 𝓤))
+    (walk 𝓤 H (𝓖 .A) (givenOf 𝓤 H 𝓜 𝓖) (𝓜 .mem) (𝓡 .run) (κs .0) (κs .1 .0) (κs .1 .1 .0) (qs .0) (qs .1 .0) (qs .1 .1 .0) (a .0) (a .1 .0) (a .1 .1 .0) (tablesOf 𝓤 H 𝓜 (tables 𝓤 H 𝓜 𝓡 f.Code.env))
+    (cited 𝓤 H _ 𝓜 𝓡 f.Code.env lok.Symbol.name lok.Symbol.routine f.Code.calls-listing-parse·scan-text (lok.Met.met 𝓤 H 𝓜 𝓖 𝓡))
+    (cited 𝓤 H _ 𝓜 𝓡 f.Code.env hdr.Symbol.name hdr.Symbol.routine f.Code.calls-listing-check·header-of (hdr.Met.met 𝓤 H 𝓜 𝓖 𝓡))
+    (cited 𝓤 H _ 𝓜 𝓡 f.Code.env all-hold.Symbol.name all-hold.Symbol.routine f.Code.calls-query·loops·all-pass (all-hold.Met.met 𝓤 H 𝓜 𝓖 𝓡))
+    (cited 𝓤 H _ 𝓜 𝓡 f.Code.env beg.Symbol.name beg.Symbol.routine f.Code.calls-listing-check·begin (beg.Met.met 𝓤 H 𝓜 𝓖 𝓡))
+    (cited 𝓤 H _ 𝓜 𝓡 f.Code.env row.Symbol.name row.Symbol.routine f.Code.calls-listing-check·row-at (row.Met.met 𝓤 H 𝓜 𝓖 𝓡))
+    (cited 𝓤 H _ 𝓜 𝓡 f.Code.env met.Symbol.name met.Symbol.routine f.Code.calls-listing-check·meets-all (met.Met.met 𝓤 H 𝓜 𝓖 𝓡))
+    (cited 𝓤 H _ 𝓜 𝓡 f.Code.env stp.Symbol.name stp.Symbol.routine f.Code.calls-listing-check·step (stp.Met.met 𝓤 H 𝓜 𝓖 𝓡))
+    (cited 𝓤 H _ 𝓜 𝓡 f.Code.env cls.Symbol.name cls.Symbol.routine f.Code.calls-listing-check·close (cls.Met.met 𝓤 H 𝓜 𝓖 𝓡)) (are .0 .0 .1) (are .1 .0 .0 .1) (are .1 .1 .0 .0 .1)))

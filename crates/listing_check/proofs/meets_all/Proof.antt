@@ -1,31 +1,19 @@
 -- `listing_check::meets_all` meets its contract: a manual proof over its MIR. The array is copied to a local, which is lent for a
 -- lifetime that the proof creates; the conditions are passed on whole. Assumes nothing.
-use Rattle.query.proofs.Prelude.{_≡_, refl, sym, _∙_, ℕ, Bool, List, [], _∷_, lit<, length, URA, fullShare, Ty, erased, imm, named, tyRef, vbool, SProp, ent, id⊢, Lft, Share, GName, Fml, ftrue, fsep, flft, fat, froom, Memory, Routine, Heap, Tables, WpFn, Atoms, Fun, givenOf, tables, tablesOf}
-use Rattle.query.proofs.Prelude.{Given, ‵, raw, _⊛_, ⋆, some, later, _$_, _∵_, !, qed, move, drop, group, use1, use2, split, join, pick, rewrite, fsplit, fjoin, suffices, frame, await, done, agg, look, init, forget, stop, from}
-use Rattle.query.proofs.Prelude.{load, addr, lit, of-opd, and-then, no-more, assigns, land, returns, enter, alloc1, alloc0, params1, pass1, pass0, free1, free0, lft-new, lft-end, fmOf, u32, bool, Is, bool-makes, pointee, RefT, now, sliceTy, sliceVal, ShrSlice, Room, owned, nothing, Clauses, onEntry, cited, says, needs, ends-at}
+use Rattle.manual_proofs.proofs.Prelude.{_≡_, refl, sym, _∙_, ℕ, Bool, List, [], _∷_, lit<, length, URA, fullShare, Ty, erased, imm, named, tyRef, vbool, SProp, ent, id⊢, Lft, Share, GName, Fml, ftrue, fsep, flft, fat, froom, Memory, Routine, Heap, Tables, WpFn, Atoms, Fun, givenOf, tables, tablesOf, Given, ‵, raw, _⊛_, ⋆, some, later, _$_, _∵_, !, qed, move, drop, group, use1, use2, split, join, pick, rewrite, fsplit, fjoin, suffices, frame, await, done, agg, look, init, forget, stop, from, load, addr, lit, of-opd, and-then, no-more, assigns, land, returns, enter, alloc1, alloc0, params1, pass1, pass0, free1, free0, lft-new, lft-end, fmOf, u32, bool, Is, bool-makes, pointee, RefT, now, sliceTy, sliceVal, ShrSlice, Room, owned, nothing, Clauses, onEntry, cited, says, needs, ends-at, tyArray, Array, lone}
 use Rattle.listing_check.proofs.Prelude.{_≤_, arith, take, length-take-le, Constraint, meets, Header, Row, allPass}
-use package.mir.Syntax.{tyArray}
-use denote.Array.{Array}
-use denote.Memory.{lone}
 use denote.Enum.Laws as EL
 use Rattle.constraints.proofs.Constraint as CT
 use Rattle.table.proofs.Header as HT
 use Rattle.query_scan.proofs.Test as TT
-use Rattle.query_scan.proofs.Test.Laws as TT′
 use Rattle.query.proofs.Lent.{fits, header-val, headers, slice-val, test-val, tests}
-use Rattle.query.proofs.LentArray.{Kept, lends-front, front-back}
-use Rattle.query.proofs.LentArray.{Lent as LentFront}
-use Rattle.query.proofs.Walking.{AllPassed, Callee, Cites, Tokens, Walked, arg, bool-lands, by-value, calls, lent-slice, own, stays, twice, typed, walk-runs}
+use Rattle.manual_proofs.proofs.LentArray.{Kept, lends-front, front-back}
+use Rattle.manual_proofs.proofs.LentArray.{Lent as LentFront}
+use Rattle.manual_proofs.proofs.Walking.{AllPassed, Callee, Cites, Tokens, Walked, arg, bool-lands, by-value, calls, lent-slice, own, stays, twice, typed, walk-runs}
 use Rattle.query.proofs.loops.all_pass as all
-use Rattle.query.proofs.loops.all_pass.Symbol as all-def
-use Rattle.query.proofs.loops.all_pass.Symbol.{name as #query·loops·all-pass}
-use Rattle.query.proofs.loops.all_pass.Met as all-thm
 use Rattle.listing_check.proofs.Conditions.{row-in-store, row-meets}
 use Rattle.listing_check.proofs.Values.{arrays, cells-val}
-use Rattle.listing_check.proofs.meets_all.Key.{name as #listing-check·meets-all}
 use Rattle.listing_check.proofs.meets_all as f
-use Rattle.listing_check.proofs.meets_all.Statement as stated
-use Rattle.listing_check.proofs.meets_all.Code as code
 
 -- the type of the local that holds the slice
 abbrev CellsTy : Ty
@@ -59,7 +47,7 @@ module _ {M : Type 1} (𝓤 : URA M) (H : Heap 𝓤) (A : Atoms 𝓤) (W : Given
   to ν l γ = (((ν ∷ [], (κ, tt)), (fullShare, (q, tt)), tt, (Row 0, (h, (lent l γ, (x, tt)))), (test-val (Row 0) ∷ [], (header-val h ∷ [], (slice-val (lent l γ) ∷ [], (slice-val x ∷ [], tt))))), tt)
 
   is-t : Is TT.the-row (Row 0) (test-val (Row 0) ∷ [])
-  is-t = EL.owes TT.the-type TT′.the-laws (Row 0) ((refl, lit< tt), tt)
+  is-t = EL.owes TT.the-type TT.Laws.the-laws (Row 0) ((refl, lit< tt), tt)
 
   module _ (is-h : Is HT.the-row h (header-val h ∷ [])) (is-c : Is (Array u32 8) cells (cells-val cells ∷ [])) (narrow : (1 ≤ h .columns) × (h .columns ≤ 8)) where
     long : length cells ≡ 8
@@ -76,12 +64,12 @@ module _ {M : Type 1} (𝓤 : URA M) (H : Heap 𝓤) (A : Atoms 𝓤) (W : Given
     abbrev met : Bool
     met = meets (take (h .columns) cells) (now x)
 
-    walk : (𝓣 : Tables 𝓤 H) → Cites 𝓤 H A all.ended passing (𝓣 .C) #query·loops·all-pass → Room CT.the-row (length (now x))
-        → ent 𝓤 (onEntry 𝓤 H A f.signature (y .0 .0) (y .0 .1) (y .0 .3) (y .0 .4)) (WpFn 𝓤 H (𝓣 .C) (𝓣 .Λ) code.function (Walked f.ended params 𝓤 H A clauses .args y) (Walked f.ended params 𝓤 H A clauses .post y))
+    walk : (𝓣 : Tables 𝓤 H) → Cites 𝓤 H A all.ended passing (𝓣 .C) all.Symbol.name → Room CT.the-row (length (now x))
+        → ent 𝓤 (onEntry 𝓤 H A f.signature (y .0 .0) (y .0 .1) (y .0 .3) (y .0 .4)) (WpFn 𝓤 H (𝓣 .C) (𝓣 .Λ) f.Code.function (Walked f.ended params 𝓤 H A clauses .args y) (Walked f.ended params 𝓤 H A clauses .post y))
     walk 𝓣 known room =
         qed W (Tokens 𝓤 H A 1 (y .0 .0) (y .0 .1) ∷ ‵ (fsep (HT.the-row .own h (header-val h ∷ [])) (fsep (Array u32 8 .own cells (cells-val cells ∷ [])) (fsep OwnConditions ftrue))) ∷ []) ∵
         split ! $ move ! (1 ∷ []) $ drop ! $ move ! (1 ∷ []) $ fsplit ! $ drop ! $ fsplit ! $ drop ! $ fsplit ! $ move ! (1 ∷ []) $ drop ! $ move ! (1 ∷ 0 ∷ []) $
-        enter ! (𝓣 .C) (𝓣 .Λ) code.function (Walked f.ended params 𝓤 H A clauses .args y) _ $
+        enter ! (𝓣 .C) (𝓣 .Λ) f.Code.function (Walked f.ended params 𝓤 H A clauses .args y) _ $
         alloc1 ! (λ l₀. alloc1 ! (λ l₁. alloc1 ! (λ l₂. alloc1 ! (λ l₃. alloc1 ! (λ l₄. alloc1 ! (λ l₅. alloc1 ! (λ l₆. alloc1 ! (λ l₇. alloc0 ! $ params1 ! $
         pass1 ! (init ! 12 refl (typed W headers h is-h .0)) $ pass1 ! (init ! 10 refl (typed W arrays cells is-c .0)) $ pass1 ! (init ! 8 refl (fits (room .0))) $ pass0 ! $
         assigns ! (of-opd ! (load ! (from ! (stop !)) (look ! 10 refl))) (from ! (stop !)) (init ! 6 refl (typed W arrays cells is-c .0)) $
@@ -103,9 +91,9 @@ module _ {M : Type 1} (𝓤 : URA M) (H : Heap 𝓤) (A : Atoms 𝓤) (W : Given
         suffices ! _ (ends-at 𝓤 H A f.ended (stays (f.ended .signature .params) (f.ended .kept) params) clauses W y (vbool met) met (tt, (tt, (tt, tt))) (tt, (tt, (tt, tt)))) $ says ! refl $ frame ! $
         nothing ! $ move ! (1 ∷ 0 ∷ []) $ fjoin ! $ own ! arrays cells is-c $ fjoin ! $ own ! headers h is-h $ fjoin ! $ frame ! $ owned ! bool (Is bool) (bool-makes 𝓤 H A W) met _ refl $ done !)))))))))))
 
-pub meets-all-spec : {M : Type 1} → stated.statement M
-unfolding code.routine tablesOf
+pub meets-all-spec : {M : Type 1} → f.Statement.statement M
+unfolding f.Code.routine tablesOf
 meets-all-spec 𝓤 H 𝓜 𝓖 𝓡 =
-    walk-runs f.ended params 𝓤 H 𝓜 𝓖 𝓡 (f.clauses 𝓤 H (𝓖 .A) (𝓜 .mem) (𝓡 .run)) code.env #listing-check·meets-all code.function (code.unfolded 𝓤 H 𝓜 𝓡) (λ κs qs bounds a g are. needs 𝓤 ((1 ≤ a .0 .columns) × (a .0 .columns ≤ 8)) _ (λ narrow.
-    walk 𝓤 H (𝓖 .A) (givenOf 𝓤 H 𝓜 𝓖) (𝓜 .mem) (𝓡 .run) (κs .0) (qs .0) (a .0) (a .1 .0) (a .1 .1 .0) (are .0) (are .1 .0) narrow (tablesOf 𝓤 H 𝓜 (tables 𝓤 H 𝓜 𝓡 code.env))
-    (cited 𝓤 H _ 𝓜 𝓡 code.env #query·loops·all-pass all-def.routine code.calls-query·loops·all-pass (all-thm.met 𝓤 H 𝓜 𝓖 𝓡)) (are .1 .1 .0 .0 .1)))
+    walk-runs f.ended params 𝓤 H 𝓜 𝓖 𝓡 (f.clauses 𝓤 H (𝓖 .A) (𝓜 .mem) (𝓡 .run)) f.Code.env f.Key.name f.Code.function (f.Code.unfolded 𝓤 H 𝓜 𝓡) (λ κs qs bounds a g are. needs 𝓤 ((1 ≤ a .0 .columns) × (a .0 .columns ≤ 8)) _ (λ narrow.
+    walk 𝓤 H (𝓖 .A) (givenOf 𝓤 H 𝓜 𝓖) (𝓜 .mem) (𝓡 .run) (κs .0) (qs .0) (a .0) (a .1 .0) (a .1 .1 .0) (are .0) (are .1 .0) narrow (tablesOf 𝓤 H 𝓜 (tables 𝓤 H 𝓜 𝓡 f.Code.env))
+    (cited 𝓤 H _ 𝓜 𝓡 f.Code.env all.Symbol.name all.Symbol.routine f.Code.calls-query·loops·all-pass (all.Met.met 𝓤 H 𝓜 𝓖 𝓡)) (are .1 .1 .0 .0 .1)))

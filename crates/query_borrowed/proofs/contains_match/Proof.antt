@@ -1,11 +1,11 @@
 -- `query_borrowed::contains_match` meets its contract: a manual proof over its MIR. The subset is taken apart. Assumes nothing.
-use Rattle.query_borrowed.proofs.Prelude.{refl, [], _∷_, named, NamedLft, namedLft}
+use Rattle.manual_proofs.proofs.Prelude.{refl, [], _∷_, named, NamedLft, namedLft, URA, SProp, id⊢, Memory, Routine, Heap, Calls, Loops, WpFn, Atoms, Lfts, Fun, FmC, givenOf, Given, _$_, !, move, drop, fsplit, u32, typesAt, enum-lawful, Meets, tripleOf, Triple, cited}
 use Rattle.constraints.proofs.Constraint as CT
 use Rattle.table.proofs.Header as HT
 use Rattle.query_spec.proofs.MatchAnswer as S
 use Rattle.query_borrowed.proofs.SubsetRef as T
-use Rattle.query_borrowed.proofs.Locals.{enters, cell, copies-field, makes, leaves}
-use Rattle.query_borrowed.proofs.Walking.{URA, SProp, id⊢, Memory, Routine, Heap, Calls, Loops, WpFn, Atoms, Lfts, Fun, FmC, givenOf, Given, _$_, !, move, drop, fsplit, u32, typesAt, enum-lawful, Meets, tripleOf, Triple, cited, Knowns, reads, struct, machine, met, ends, answers, proved}
+use Rattle.manual_proofs.proofs.Locals.{enters, cell, copies-field, makes, leaves}
+use Rattle.manual_proofs.proofs.Straight.{Knowns, reads, struct, machine, met, ends, answers, proved}
 use Rattle.query_borrowed.proofs.BorrowedSteps.{head-typed, parted, parted-values, apart}
 use Rattle.query.proofs.contains_match as callee
 use Rattle.query_borrowed.proofs.contains_match as f

@@ -1,14 +1,14 @@
 -- The manual proof of a function that is lent fixed arrays: each token and what each parameter owns is an entry of the context of
--- its own, and a call takes those that it needs. It is independent of this crate.
+-- its own, and a call takes those that it needs.
 --     shared-array, lent-array    `Known` of a `&[T; n]` and of a `&mut [T; n]`
 --     lends-array      a `&mut [T; n]` is lent on
 --     FinalArray       the last words of a `&mut [T; n]`
 --     tokens-out, tokens-in       tokens, each an entry, the last first; and back
 --     owns-out, owns-in           what parameters own, likewise
 -- Assumes `Given`.
-use Rattle.query_borrowed.proofs.Prelude.{ℕ, zero, suc, _≡_, Option, just, List, [], _∷_, URA, T, Lifetime, Ty, place, deref, addrOf, Body, seq, assign, Val, WT, hasTy, vptr, id⊢, Lft, Fml, ftrue, fsep, flft, fres, Heap, Calls, Loops, spotOf, Atoms, Lfts, Shares, toks, Given, Item, ‵, raw, _⊛_, Post, Goal, runs, Step, step, _$_, move, use0, use1, split, join, fsplit, fjoin, drop, hop, stop, from, addr, assigns, look-in, RattleType, Array, RefT, ShrRef, MutRef, ptr-vals, shr-tells, shr-lawful, mut-tells, mut-lawful, nothing}
-use Rattle.query_borrowed.proofs.Locals.{Locals, held, set, Within, cell, fills}
-use Rattle.query_borrowed.proofs.Walking.{Known}
+use Rattle.manual_proofs.proofs.Prelude.{ℕ, zero, suc, _≡_, Option, just, List, [], _∷_, URA, T, Lifetime, Ty, place, deref, addrOf, Body, seq, assign, Val, WT, hasTy, vptr, id⊢, Lft, Fml, ftrue, fsep, flft, fres, Heap, Calls, Loops, spotOf, Atoms, Lfts, Shares, toks, Given, Item, ‵, raw, _⊛_, Post, Goal, runs, Step, step, _$_, move, use0, use1, split, join, fsplit, fjoin, drop, hop, stop, from, addr, assigns, look-in, RattleType, Array, RefT, ShrRef, MutRef, ptr-vals, shr-tells, shr-lawful, mut-tells, mut-lawful, nothing}
+use Rattle.manual_proofs.proofs.Locals.{Locals, held, set, Within, cell, fills}
+use Rattle.manual_proofs.proofs.Walking.{Known}
 
 abbrev pub shared-array : (ℓ : Lifetime) (κ : Lft) (R : RattleType) (n : ℕ) → Known (ShrRef ℓ κ (Array R n))
 shared-array ℓ κ R n = record { spell = ptr-vals; tell = shr-tells ℓ κ (Array R n); lawful = λ 𝓤 H A W. shr-lawful 𝓤 H A W ℓ κ (Array R n) }

@@ -1,6 +1,6 @@
 -- A local array whose first elements are lent as a shared slice for a lifetime, and whose memory is free again when that is over.
--- It is independent of this crate. Assumes `Given`.
-use Rattle.query.proofs.Prelude.{_≡_, refl, sym, ℕ, List, [], _∷_, _++_, length, take, take-append-drop, URA, fullShare, Lifetime, tyArray, Val, ent, sep, ex, Lft, GName, Fml, fsep, fat, froom, fdead, flent, Heap, Atoms, sem, Given, ‵, _⊛_, some, later, _$_, _∵_, !, qed, move, use1, use2, drop as toss, split, pick, rewrite, fsplit, fjoin, feqI, feqL, await, updating, show, done, lent-back, cells, RattleType, mem, shares, lone, partAt, Array, lends-shr-slice, Room, ShrSlice, sliceVal, at, cut-app, join-app, part-in, Sh, parts-cells, part-room, room-take}
+-- Assumes `Given`.
+use Rattle.manual_proofs.proofs.Prelude.{_≡_, refl, sym, ℕ, List, [], _∷_, _++_, length, take, take-append-drop, URA, fullShare, Lifetime, tyArray, Val, ent, sep, ex, Lft, GName, Fml, fsep, fat, froom, fdead, flent, Heap, Atoms, sem, Given, ‵, _⊛_, some, later, _$_, _∵_, !, qed, move, use1, use2, drop as toss, split, pick, rewrite, fsplit, fjoin, feqI, feqL, await, updating, show, done, lent-back, cells, RattleType, mem, shares, lone, partAt, Array, lends-shr-slice, Room, ShrSlice, sliceVal, at, cut-app, join-app, part-in, Sh, parts-cells, part-room, room-take}
 use lib.ListN.{drop}
 use types.Kit.{now}
 use types.Share.{arr-parts}

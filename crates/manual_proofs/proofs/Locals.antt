@@ -1,5 +1,4 @@
--- The manual proof of straight-line code with all locals of the function as one entry of the context, the first. It is
--- independent of this crate.
+-- The manual proof of straight-line code with all locals of the function as one entry of the context, the first.
 --     locals E hs      the locals of E, and for each what it holds, if anything
 --     enters           a function is entered: its parameters hold what is passed
 --     held, cell, fills       what local i holds, and that it is read; local i is filled
@@ -7,7 +6,7 @@
 --     operands, all-read      what operands that are locals or numbers give, and that they are read
 --     leaves           the function returns: what local 0 holds is its result
 -- Assumes `Given`.
-use Rattle.query_borrowed.proofs.Prelude.{ℕ, zero, suc, _^_, _≡_, refl, sym, ap, subst, Option, none, just, List, [], _∷_, URA, fullShare, T, ltb, Sym, Width, Ty, tyStruct, Tys, place, field, deref, Operand, copy, int, intNeg, intBig, float, opdTrue, opdFalse, opdUnit, ptrConst, rvOpd, addrOf, aggregate, Body, seq, assign, return, Local, local, Fn, Val, Vals, vint, vptr, vstruct, ofList, WT, hasTy, bits, getV, SProp, ent, sep, wand, all, emp, id⊢, apply∗, allE, guardI, guardE, froom, fdies, fat, fieldOf, fieldAt, Heap, Calls, Loops, WpFn, spotOf, Atoms, Given, Item, ‵, raw, _⊛_, given, mean, Post, atRet, Goal, prop, runs, allocs, params′, passes, frees, Seq, Step, step, _$_, _∵_, !, qed, by, move, use0, use1, use2, split, join, drop, frame, each, assume, check, done, Reads, Writes, Opd, Opds, init, load, from, stop, hop, fld, lit, addr, and-then, no-more, of-opd, assigns, returns, enter, alloc1, alloc0, params1, pass1, pass0, free1, free0, Part, look-in, sub, agg, sliceTy, sliceVal, Bool, true, false}
+use Rattle.manual_proofs.proofs.Prelude.{ℕ, zero, suc, _^_, _≡_, refl, sym, ap, subst, Option, none, just, List, [], _∷_, URA, fullShare, T, ltb, Sym, Width, Ty, tyStruct, Tys, place, field, deref, Operand, copy, int, intNeg, intBig, float, opdTrue, opdFalse, opdUnit, ptrConst, rvOpd, addrOf, aggregate, Body, seq, assign, return, Local, local, Fn, Val, Vals, vint, vptr, vstruct, ofList, WT, hasTy, bits, getV, SProp, ent, sep, wand, all, emp, id⊢, apply∗, allE, guardI, guardE, froom, fdies, fat, fieldOf, fieldAt, Heap, Calls, Loops, WpFn, spotOf, Atoms, Given, Item, ‵, raw, _⊛_, given, mean, Post, atRet, Goal, prop, runs, allocs, params′, passes, frees, Seq, Step, step, _$_, _∵_, !, qed, by, move, use0, use1, use2, split, join, drop, frame, each, assume, check, done, Reads, Writes, Opd, Opds, init, load, from, stop, hop, fld, lit, addr, and-then, no-more, of-opd, assigns, returns, enter, alloc1, alloc0, params1, pass1, pass0, free1, free0, Part, look-in, sub, agg, sliceTy, sliceVal, Bool, true, false}
 
 -- what local i holds
 abbrev pub held : List (Ty × ℕ) → List (Option Val) → ℕ → Option Val

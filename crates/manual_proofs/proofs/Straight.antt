@@ -1,61 +1,19 @@
--- The manual proof of a function, between its contract and its code. It is independent of this crate.
---     Known R          a type's machine values, and that they are of its MIR types: `number`, `truth`, `reads`, `writes`, `struct`
+-- The manual proof of straight-line code over `Locals`, between its contract and its code:
 --     met              a function without a `requires` meets its contract: the proof starts from its tokens and what its parameters
 --                      own, at the machine values
 --     ends             the end of a proof: the tokens, the last values, the result, and what is ensured for it
---     ends-saying      the same, with what is ensured for the result shown
+--     ends-ensuring    the same, with what is ensured for the result shown
 --     answers          a call of a function without a `requires`: its result is stored, and what it ensures for it is had
---     last-out         what the last of some parameters owns is had apart
 --     skips, pads      k parameters without a statement on their last values, before those with one
 --     proved           from a function's code to its entry in the table of calls
 -- Assumes `Given`.
-pub use Rattle.query_borrowed.proofs.Prelude.{URA, SProp, id⊢, Memory, Routine, Heap, Calls, Loops, WpFn, Atoms, Lfts, Fun, FmC, Given, _$_, !, move, drop, fsplit, u32, typesAt, Meets, tripleOf, Triple}
-use Rattle.query_borrowed.proofs.Prelude.{ℕ, zero, suc, _≡_, Option, just, List, [], _∷_, T as T′, Lifetime, Width, Ty, place, Operand, Body, seq, call, Fn, Name, Val, WT, hasTy, ent, sep, emp, via, fst∗, monoR, Lft, Fml, ftrue, fsep, Env, Closed, spotOf, sem, Shares, AllOutlive, fmOf, Go, Item, ‵, raw, _⊛_, some, later, Post, Goal, prop, runs, Seq, Step, step, use0, use1, split, join, fjoin, frame, await, pick, updating, at-once, show, done, from, stop, land, look-in, RattleType, owns, flat, mirs, Is, Tells, Lawful, Typed, Are, Ises, Spells, valss, Tellss, Lawfuls, all-typed, shows, UInt, Boolean, uint-vals, uint-tells, uint-lawful, bool-vals, bool-tells, bool-lawful, ShrSlice, MutSlice, slice-vals, shr-slice-tells, shr-slice-lawful, mut-slice-tells, mut-slice-lawful, Signature, typeAt, said, peeks, nothing, Contract}
-pub use contract.Running.{givenOf}
-pub use denote.Enum.Laws.{lawful as enum-lawful}
-pub use denote.Triple.Table.{cited}
-use prog.Model.{Model}
-use contract.Running.{GhostRules, Running, tables, tablesOf}
-use denote.Struct.Declared.{Declared, row}
-use denote.Struct.Laws as LL
-use denote.Triple.Entry.{Args, Vals, Res, alive, onEntry}
+use Rattle.manual_proofs.proofs.Prelude.{URA, SProp, Heap, Calls, Loops, WpFn, Atoms, Lfts, FmC, Given, _$_, !, move, drop, fsplit, typesAt, Meets, tripleOf, Triple, ℕ, zero, suc, _≡_, Option, just, List, [], _∷_, T as T′, Ty, place, Operand, Body, seq, call, Fn, Name, Val, WT, hasTy, ent, sep, emp, via, fst∗, monoR, Fml, ftrue, fsep, Names, Closed, spotOf, sem, Shares, AllOutlive, fmOf, Go, Item, ‵, raw, Post, Goal, prop, runs, Seq, Step, step, use0, use1, join, fjoin, frame, updating, at-once, show, done, from, stop, land, look-in, RattleType, owns, flat, mirs, Is, Lawful, Typed, Are, Ises, valss, Lawfuls, all-typed, shows, Signature, typeAt, said, peeks, nothing, Contract, Model, GhostRules, Running, tables, tablesOf, Args, Res, onEntry, entered, calls-at, Ended, Clauses, Lasts, atExit, lasts, closing, givenOf}
+use denote.Triple.Entry.{Vals, alive}
 use denote.Triple.Bound.{passed}
-use denote.Triple.Table.{entered}
-use denote.Triple.Call.{calls-at}
-use denote.Triple.Clauses.{Ended, Clauses, Lasts, atExit, lasts, ensured, closing}
-use Rattle.query_borrowed.proofs.Locals.{Locals, set, Within, operands, all-read, cell, fills}
-
-pub record Known (R : RattleType) : Type 2 where
-  pub spell : R .Denot → List Val
-  pub tell : Tells R (Is R) spell
-  pub lawful : {M : Type 1} (𝓤 : URA M) (H : Heap 𝓤) (A : Atoms 𝓤) (W : Given 𝓤 H A) → Lawful 𝓤 H A R
-
-abbrev pub number : (w : Width) → Known (UInt w)
-number w = record { spell = uint-vals w; tell = uint-tells w; lawful = λ 𝓤 H A W. uint-lawful 𝓤 H A W w }
-
-abbrev pub truth : Known Boolean
-truth = record { spell = bool-vals; tell = bool-tells; lawful = λ 𝓤 H A W. bool-lawful 𝓤 H A W }
-
-abbrev pub reads : (ℓ : Lifetime) (κ : Lft) (R : RattleType) → Known (ShrSlice ℓ κ R)
-reads ℓ κ R = record { spell = slice-vals; tell = shr-slice-tells ℓ κ R; lawful = λ 𝓤 H A W. shr-slice-lawful 𝓤 H A W ℓ κ R }
-
-abbrev pub writes : (ℓ : Lifetime) (κ : Lft) (R : RattleType) → Known (MutSlice ℓ κ R)
-writes ℓ κ R = record { spell = slice-vals; tell = mut-slice-tells ℓ κ R; lawful = λ 𝓤 H A W. mut-slice-lawful 𝓤 H A W ℓ κ R }
-
-abbrev pub struct : (D : Declared) (L : LL.Laws D) → Known (row D)
-struct D L = record { spell = LL.vals D L; tell = LL.tells D L; lawful = LL.lawful D L }
-
-abbrev pub Knowns : List RattleType → Type 2
-Knowns [] = Unit {2}
-Knowns (R ∷ Rs) = Known R × Knowns Rs
-
-abbrev pub spells : (Rs : List RattleType) → Knowns Rs → Spells Rs
-spells [] ks = tt
-spells (R ∷ Rs) ks = (ks .0 .spell, spells Rs (ks .1))
-
-tells : (Rs : List RattleType) (ks : Knowns Rs) → Tellss Rs (Ises Rs) (spells Rs ks)
-tells [] ks = tt
-tells (R ∷ Rs) ks = (ks .0 .tell, tells Rs (ks .1))
+use denote.Triple.Clauses.{ensured}
+use Rattle.manual_proofs.proofs.Locals.{Locals, set, Within, operands, all-read, cell, fills}
+pub use Rattle.manual_proofs.proofs.Walking.{Knowns, number, reads, struct, writes}
+use Rattle.manual_proofs.proofs.Walking.{spells, tells, returned}
 
 module _ {M : Type 1} (𝓤 : URA M) (H : Heap 𝓤) (A : Atoms 𝓤) (W : Given 𝓤 H A) where
   lawfuls : (Rs : List RattleType) → Knowns Rs → Lawfuls 𝓤 H A Rs
@@ -111,12 +69,8 @@ module _ {M : Type 1} {𝓤 : URA M} {H : Heap 𝓤} {A : Atoms 𝓤} {K : Type 
       let κs : Lfts (T .signature .lifetimes) = x .0 .0 in
       let R : RattleType = typeAt (T .signature .result) κs in
       join t $ nothing t $ move t (1 ∷ 0 ∷ []) $ join t $ use1 W (raw (tripleOf 𝓤 H A (T .signature) (closing 𝓤 H A T c) .pre x)) (monoR 𝓤 (onEntry 𝓤 H A (T .signature) κs (x .0 .1) (x .0 .3) (x .0 .4)) free) $
-      calls-at t fm (tripleOf 𝓤 H A (T .signature) (closing 𝓤 H A T c)) known x (all-read t E hs (raw (tripleOf 𝓤 H A (T .signature) (closing 𝓤 H A T c) .pre x) ∷ Locals 𝓤 H E hs ∷ Γ) (λ i v p. look-in t 1 (cell t i p)) xs reads-them) (λ v.
-      use1 W (later (some (λ (r : Res (T .signature) κs). (raw (alive 𝓤 H A (T .signature) κs (x .0 .1)) ⊛ ‵ (R .own r (v ∷ []))) ⊛ raw (ensured 𝓤 H A T c κs (x .0 .3) (x .1) r)))) (id⊢ 𝓤 _) $ await t tt $ pick t (λ r. split t $ move t (1 ∷ []) $
-      use1 W (some (λ (ws : Lasts T κs (x .0 .3)). ‵ (lasts T κs (x .0 .3) ws) ⊛ raw (c κs (x .0 .3) .ensures (x .1) r (atExit T κs (x .0 .3) ws)))) (id⊢ 𝓤 _) $ pick t (λ ws. split t $
-      -- [the last values; what is ensured; the tokens and the result; the locals]
-      move t (2 ∷ []) $ split t $ move t (1 ∷ []) $ peeks t R (Is R) (shows 𝓤 H A R) r (v ∷ []) (λ is. move t (4 ∷ 1 ∷ 2 ∷ 0 ∷ []) $
-      land t (from t (stop t)) (fills t j z (fits v (result .typed r (v ∷ []) is))) $ k v r ws is))))
+      calls-at t fm (tripleOf 𝓤 H A (T .signature) (closing 𝓤 H A T c)) known x (all-read t E hs (raw (tripleOf 𝓤 H A (T .signature) (closing 𝓤 H A T c) .pre x) ∷ Locals 𝓤 H E hs ∷ Γ) (λ i v p. look-in t 1 (cell t i p)) xs reads-them) (λ v. returned T c x t tt v (λ r ws.
+      move t (1 ∷ []) $ peeks t R (Is R) (shows 𝓤 H A R) r (v ∷ []) (λ is. move t (4 ∷ 1 ∷ 2 ∷ 0 ∷ []) $ land t (from t (stop t)) (fills t j z (fits v (result .typed r (v ∷ []) is))) $ k v r ws is)))
 
 -- ---- what a function ensures for last values: nothing, for a parameter that it cannot change
 abbrev pub Behind : ℕ → Fml → Fml
@@ -132,19 +86,8 @@ module _ {M : Type 1} {𝓤 : URA M} {H : Heap 𝓤} {A : Atoms 𝓤} {K : Type 
   pads t zero = step (λ s. s)
   pads t (suc k) = step (λ s. pads t k $ nothing t $ fjoin t $ s)
 
--- ---- what parameters own
-abbrev Row : List Fml → Fml → Fml
-Row [] Q = Q
-Row (P ∷ Ps) Q = fsep P (Row Ps Q)
-
--- that of the last is had apart
-module _ {M : Type 1} {𝓤 : URA M} {H : Heap 𝓤} {A : Atoms 𝓤} {K : Type 0} {W : Given 𝓤 H A} {G : Goal 𝓤 H} where
-  pub last-out : K → (Ps : List Fml) {Q : Fml} {Γ : List (Item 𝓤)} → Step K W (‵ (Row Ps ftrue) ∷ ‵ Q ∷ Γ) G (‵ (Row Ps (fsep Q ftrue)) ∷ Γ) G
-  last-out t [] = step (λ s. fsplit t $ move t (1 ∷ 0 ∷ []) $ s)
-  last-out t (P ∷ Ps) = step (λ s. fsplit t $ move t (1 ∷ []) $ last-out t Ps $ move t (2 ∷ 0 ∷ []) $ fjoin t $ s)
-
 -- a function that its code meets is met by its entry in the table, which is monotone under a frame
-pub proved : {M : Type 1} (𝓤 : URA M) (H : Heap 𝓤) (𝓜 : Model 𝓤 H) (𝓖 : GhostRules 𝓤 H) (𝓡 : Running 𝓤 H 𝓜) (γ : Env) (k : Name) (f : Fn) (c : Contract 𝓤)
+pub proved : {M : Type 1} (𝓤 : URA M) (H : Heap 𝓤) (𝓜 : Model 𝓤 H) (𝓖 : GhostRules 𝓤 H) (𝓡 : Running 𝓤 H 𝓜) (γ : Names) (k : Name) (f : Fn) (c : Contract 𝓤)
     → Closed 𝓤 H (tables 𝓤 H 𝓜 𝓡 γ .C) (tables 𝓤 H 𝓜 𝓡 γ .Λ) k f → (FmC 𝓤 H (givenOf 𝓤 H 𝓜 𝓖 .laws) (tables 𝓤 H 𝓜 𝓡 γ .C) → Triple 𝓤 (WpFn 𝓤 H (tables 𝓤 H 𝓜 𝓡 γ .C) (tables 𝓤 H 𝓜 𝓡 γ .Λ) f) c) → Triple 𝓤 (tables 𝓤 H 𝓜 𝓡 γ .C k) c
 unfolding tablesOf
 proved 𝓤 H 𝓜 𝓖 𝓡 γ k f c closed walk = entered 𝓤 H c (tables 𝓤 H 𝓜 𝓡 γ .C) (tables 𝓤 H 𝓜 𝓡 γ .Λ) k f closed (walk (fmOf 𝓤 H (givenOf 𝓤 H 𝓜 𝓖 .laws) (tablesOf 𝓤 H 𝓜 (tables 𝓤 H 𝓜 𝓡 γ))))

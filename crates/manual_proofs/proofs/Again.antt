@@ -1,5 +1,5 @@
 -- A `&κ mut [T]` that is lent again for a lifetime κ′ of a call, and returned: `Denote/Lend.antt`'s `lends-again` and
--- `comes-back`, of a slice. It is independent of this crate.
+-- `comes-back`, of a slice.
 --     LentAgain      what the holder keeps while the slice is lent again under the name γ₁: the lender's part at κ′, and its
 --                    own borrow at κ, open, with both halves of its ghost variable
 --     lends-again    own (`&κ mut [T]` ((b, o), γ, ys)) ∗ [κ]_q  ⊢ ⇛ ∃ γ₁. own (`&κ′ mut [T]` ((b, o), γ₁, ys)) ∗ LentAgain γ₁
@@ -7,8 +7,7 @@
 --                    [†κ′] ∗ LentAgain γ₁ ∗ finally γ₁ zs  ⊢ ⇛ (own (`&κ mut [T]` ((b, o), γ, zs)) ∗ [κ]_q)
 --     lends, gets-back    both as steps of a manual proof, for a lifetime ν that begins with the one and ends with the other
 -- Assumes `Given`.
-use Rattle.query.proofs.Prelude.{_≡_, sym, ap, subst, ℕ, List, [], _∷_, length, URA, fullShare, Lifetime, Val, ent, sep, ex, Lft, GName, Share, Fml, fsep, flft, fdead, fobs, fauth, flent, fobor, Heap, Atoms, sem, Given, Goal, Item, Seq, Soaks, Step, step, ‵, _⊛_, some, later, _$_, _∵_, !, qed, move, use1, use2, use3, drop, split, pick, fsplit, fjoin, frame, await, updating, show, done, cells, Arr, lft-new, lft-end, RattleType, mem, RefT, sliceVal, MutSlice, heres, Room, finally, at-slice, codedHoleys, Held, lends-slice, slice-back, row, whole-out, whole-in, opens-slice, closes-slice}
-use types.Kit.{now as at-once}
+use Rattle.manual_proofs.proofs.Prelude.{_≡_, sym, ap, subst, ℕ, List, [], _∷_, length, URA, fullShare, Lifetime, Val, ent, sep, ex, Lft, GName, Share, Fml, fsep, flft, fdead, fobs, fauth, flent, fobor, Heap, Atoms, sem, Given, Goal, Item, Seq, Soaks, Step, step, ‵, _⊛_, some, later, _$_, _∵_, !, qed, move, use1, use2, use3, drop, split, pick, fsplit, fjoin, frame, await, updating, show, done, cells, Arr, lft-new, lft-end, RattleType, mem, RefT, sliceVal, MutSlice, heres, Room, finally, at-slice, codedHoleys, Held, lends-slice, slice-back, row, whole-out, whole-in, opens-slice, closes-slice, at-once}
 use denote.Shadow.{pureL, pureI}
 
 module _ (R : RattleType) (κ : Lft) (q : Share) (γ : GName) (b o : ℕ) where
