@@ -9,25 +9,13 @@ use Rattle.table_stage.proofs.stage_insert.Tie as tie
 free : (c : tie.Else1) → let a = c .before .before .before .before .args in Free (a .h) (length (a .pending .now)) (length (a .cells .now)) (a .h .columns) 2
 free c = refusal-free _ _ _ _ _ _ (sym (c .before .stage-refusal .ensures) ∙ c .if1 .left)
 
-returns : tie.Need-returns
-returns c =
-    let a = c .before .before .before .before .args in
-    staging-refused (a .h) (a .pending .now) (insert (a .cells .now)) _ (c .before .stage-refusal .ensures ∙ insert-refusal _ _ _) (c .if1 .taken)
-
-returns-2 : tie.Need-returns-2
-unfolding recordWords wordsOf
-returns-2 c =
-    let e = c .before .before .before .before .before .before .before .before .before .before in
-    let a = e .before .before .before .before .args in
-    staging-written (a .h) (a .pending .now) (insert (a .cells .now)) _ (sym (insert-refusal _ _ _) ∙ sym (e .before .stage-refusal .ensures) ∙ e .if1 .left)
-    (c .before .before .before .before .write-record .ensures ∙ ap (λ (hash : ℕ). splice (a .pending .now) (a .h .pending) (0 ∷ hash ∷ a .cells .now)) (c .before .before .before .before .before .before .before .compact-hash .ensures))
-
 pub stage-insert-spec : {M : Type 1} → statement M
+unfolding recordWords wordsOf
 stage-insert-spec =
     tie.close
     (tie.spec
     (λ c κs. search needs)
-    returns
+    (λ c. let a = c .before .before .before .before .args in staging-refused (a .h) (a .pending .now) (insert (a .cells .now)) _ (c .before .stage-refusal .ensures ∙ insert-refusal _ _ _) (c .if1 .taken))
     (λ c. search needs)
     (λ c. sym (length-take-le _ _ (omega (arith, free (c .before .before)))))
     (λ c κs. search needs)
@@ -36,4 +24,7 @@ stage-insert-spec =
     (λ c. omega (arith, free (c .before .before .before .before .before .before .before .before .before)))
     (λ c. omega (arith, free (c .before .before .before .before .before .before .before .before .before .before)))
     (λ c. search needs)
-    returns-2)
+    (λ c.
+    let e = c .before .before .before .before .before .before .before .before .before .before in let a = e .before .before .before .before .args in
+    staging-written (a .h) (a .pending .now) (insert (a .cells .now)) _ (sym (insert-refusal _ _ _) ∙ sym (e .before .stage-refusal .ensures) ∙ e .if1 .left)
+    (c .before .before .before .before .write-record .ensures ∙ ap (λ (hash : ℕ). splice (a .pending .now) (a .h .pending) (0 ∷ hash ∷ a .cells .now)) (c .before .before .before .before .before .before .before .compact-hash .ensures))))

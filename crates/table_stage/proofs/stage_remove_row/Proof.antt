@@ -9,29 +9,20 @@ use Rattle.table_stage.proofs.stage_remove_row.Tie as tie
 free : (c : tie.Else1) → let a = c .before .before .before .before .before .args in Free (a .h) (length (a .pending .now)) (length (a .key .now)) (a .h .keys) 3
 free c = refusal-free _ _ _ _ _ _ (sym (c .before .stage-refusal .ensures) ∙ c .if1 .left)
 
-returns : tie.Need-returns
-returns c =
-    let a = c .before .before .before .before .before .args in
-    staging-refused (a .h) (a .pending .now) (removeRow (a .row) (a .key .now)) _ (c .before .stage-refusal .ensures ∙ row-refusal _ _ _ _) (c .if1 .taken)
-
-returns-2 : tie.Need-returns-2
-unfolding recordWords wordsOf
-returns-2 c =
-    let e = c .before .before .before .before .before .before .before .before in
-    let a = e .before .before .before .before .before .args in
-    staging-written (a .h) (a .pending .now) (removeRow (a .row) (a .key .now)) _ (sym (row-refusal _ _ _ _) ∙ sym (e .before .stage-refusal .ensures) ∙ e .if1 .left)
-    (c .before .before .before .before .write-row-record .ensures ∙ ap (λ (hash : ℕ). splice (a .pending .now) (a .h .pending) (2 ∷ hash ∷ a .row ∷ a .key .now)) (c .before .before .before .before .before .before .before .compact-hash .ensures))
-
 pub stage-remove-row-spec : {M : Type 1} → statement M
+unfolding recordWords wordsOf
 stage-remove-row-spec =
     tie.close
     (tie.spec
     (λ c κs. search needs)
-    returns
+    (λ c. let a = c .before .before .before .before .before .args in staging-refused (a .h) (a .pending .now) (removeRow (a .row) (a .key .now)) _ (c .before .stage-refusal .ensures ∙ row-refusal _ _ _ _) (c .if1 .taken))
     (λ c κs. search needs)
     (λ c. search needs)
     (λ c κs. omega (arith, free (c .before .before .before)))
     (λ c. omega (arith, free (c .before .before .before .before .before .before .before)))
     (λ c. omega (arith, free (c .before .before .before .before .before .before .before .before)))
     (λ c. search needs)
-    returns-2)
+    (λ c.
+    let e = c .before .before .before .before .before .before .before .before in let a = e .before .before .before .before .before .args in
+    staging-written (a .h) (a .pending .now) (removeRow (a .row) (a .key .now)) _ (sym (row-refusal _ _ _ _) ∙ sym (e .before .stage-refusal .ensures) ∙ e .if1 .left)
+    (c .before .before .before .before .write-row-record .ensures ∙ ap (λ (hash : ℕ). splice (a .pending .now) (a .h .pending) (2 ∷ hash ∷ a .row ∷ a .key .now)) (c .before .before .before .before .before .before .before .compact-hash .ensures))))
