@@ -1,19 +1,18 @@
 -- The manual proof of straight-line code over `Locals`, between its contract and its code:
---     met              a function without a `requires` meets its contract: the proof starts from its tokens and what its parameters
---                      own, at the machine values
 --     ends             the end of a proof: the tokens, the last values, the result, and what is ensured for it
 --     ends-ensuring    the same, with what is ensured for the result shown
 --     answers          a call of a function without a `requires`: its result is stored, and what it ensures for it is had
 --     skips, pads      k parameters without a statement on their last values, before those with one
---     proved           from a function's code to its entry in the table of calls
+--     proved           a function without a `requires` meets its contract: the proof over its code starts from its tokens and what its
+--                      parameters own, at the machine values
 -- Assumes `Given`.
-use Rattle.manual_proofs.proofs.Prelude.{URA, SProp, Heap, Calls, Loops, WpFn, Atoms, Lfts, FmC, Given, _$_, !, move, drop, fsplit, typesAt, Meets, tripleOf, Triple, ℕ, zero, suc, _≡_, Option, just, List, [], _∷_, T as T′, Ty, place, Operand, Body, seq, call, Fn, Name, Val, WT, hasTy, ent, sep, emp, via, fst∗, monoR, Fml, ftrue, fsep, Names, Closed, spotOf, sem, Shares, AllOutlive, fmOf, Go, Item, ‵, raw, Post, Goal, prop, runs, Seq, Step, step, use0, use1, join, fjoin, frame, updating, at-once, show, done, from, stop, land, look-in, RattleType, owns, flat, mirs, Is, Lawful, Typed, Are, Ises, valss, Lawfuls, all-typed, shows, Signature, typeAt, said, peeks, nothing, Contract, Model, GhostRules, Running, tables, tablesOf, Args, Res, onEntry, entered, calls-at, Ended, Clauses, Lasts, atExit, lasts, closing, givenOf}
+use Rattle.manual_proofs.proofs.Prelude.{URA, SProp, Memory, Routine, Fun, Heap, Calls, Loops, WpFn, Atoms, Lfts, FmC, Given, _$_, !, move, drop, fsplit, typesAt, Meets, tripleOf, Triple, ℕ, zero, suc, _≡_, Option, just, List, [], _∷_, T as T′, Ty, place, Operand, Body, seq, call, Fn, Name, Val, WT, hasTy, ent, sep, emp, via, fst∗, monoR, Fml, ftrue, fsep, Names, Closed, spotOf, sem, Shares, AllOutlive, fmOf, Go, Item, ‵, raw, Post, Goal, prop, runs, Seq, Step, step, use0, use1, join, fjoin, frame, updating, at-once, show, done, from, stop, land, look-in, RattleType, owns, flat, mirs, Is, Lawful, Typed, Are, Ises, valss, Lawfuls, all-typed, shows, Signature, typeAt, said, peeks, nothing, Model, GhostRules, Running, tables, tablesOf, Args, Res, onEntry, entered, calls-at, Ended, Clauses, Lasts, atExit, lasts, closing, givenOf}
 use denote.Triple.Entry.{Vals, alive}
 use denote.Triple.Bound.{passed}
 use denote.Triple.Clauses.{ensured}
 use Rattle.manual_proofs.proofs.Locals.{Locals, set, Within, operands, all-read, cell, fills}
-pub use Rattle.manual_proofs.proofs.Walking.{Knowns, number, reads, struct, writes}
-use Rattle.manual_proofs.proofs.Walking.{spells, tells, returned}
+pub use Rattle.manual_proofs.proofs.Walking.{Cites, Knowns, number, reads, struct, writes}
+use Rattle.manual_proofs.proofs.Walking.{Callee, spells, tells, returned}
 
 module _ {M : Type 1} (𝓤 : URA M) (H : Heap 𝓤) (A : Atoms 𝓤) (W : Given 𝓤 H A) where
   lawfuls : (Rs : List RattleType) → Knowns Rs → Lawfuls 𝓤 H A Rs
@@ -29,12 +28,15 @@ module _ {M : Type 1} (𝓤 : URA M) (H : Heap 𝓤) (A : Atoms 𝓤) (W : Given
       abbrev pub machine : (κs : Lfts (S .lifetimes)) → Args S κs → Vals S κs
       machine κs a = valss (typesAt (S .params) κs) (spells (typesAt (S .params) κs) (known κs)) a
 
-      pub met : (C : Calls 𝓤 H) (Λ : Loops 𝓤 H) (f : Fn)
-          → ((κs : Lfts (S .lifetimes)) (qs : Shares (S .lifetimes)) (bounds : AllOutlive (S .lifetimes) (S .outlives) κs) (a : Args S κs) (g : c κs a .ghost)
+      -- a proof over a function's code
+      abbrev Walk : Calls 𝓤 H → Loops 𝓤 H → Fn → Type 1
+      Walk C Λ f =
+          (κs : Lfts (S .lifetimes)) (qs : Shares (S .lifetimes)) (bounds : AllOutlive (S .lifetimes) (S .outlives) κs) (a : Args S κs) (g : c κs a .ghost)
           → Are (typesAt (S .params) κs) (Ises (typesAt (S .params) κs)) a (machine κs a) → Typed (mirs (typesAt (S .params) κs)) (flat (typesAt (S .params) κs) (machine κs a))
           → Seq (Go {0}) W (raw (alive 𝓤 H A S κs qs) ∷ ‵ (owns (typesAt (S .params) κs) a (machine κs a)) ∷ [])
-          (prop (WpFn 𝓤 H C Λ f (flat (typesAt (S .params) κs) (machine κs a)) (tripleOf 𝓤 H A S (closing 𝓤 H A T c) .post ((κs, qs, bounds, a, machine κs a), g)))))
-          → Meets 𝓤 H A S (WpFn 𝓤 H C Λ f) (closing 𝓤 H A T c)
+          (prop (WpFn 𝓤 H C Λ f (flat (typesAt (S .params) κs) (machine κs a)) (tripleOf 𝓤 H A S (closing 𝓤 H A T c) .post ((κs, qs, bounds, a, machine κs a), g))))
+
+      met : (C : Calls 𝓤 H) (Λ : Loops 𝓤 H) (f : Fn) → Walk C Λ f → Meets 𝓤 H A S (WpFn 𝓤 H C Λ f) (closing 𝓤 H A T c)
       met C Λ f walk y =
           let κs : Lfts (S .lifetimes) = y .0 .0 in
           let a : Args S κs = y .0 .3 in
@@ -86,8 +88,15 @@ module _ {M : Type 1} {𝓤 : URA M} {H : Heap 𝓤} {A : Atoms 𝓤} {K : Type 
   pads t zero = step (λ s. s)
   pads t (suc k) = step (λ s. pads t k $ nothing t $ fjoin t $ s)
 
--- a function that its code meets is met by its entry in the table, which is monotone under a frame
-pub proved : {M : Type 1} (𝓤 : URA M) (H : Heap 𝓤) (𝓜 : Model 𝓤 H) (𝓖 : GhostRules 𝓤 H) (𝓡 : Running 𝓤 H 𝓜) (γ : Names) (k : Name) (f : Fn) (c : Contract 𝓤)
-    → Closed 𝓤 H (tables 𝓤 H 𝓜 𝓡 γ .C) (tables 𝓤 H 𝓜 𝓡 γ .Λ) k f → (FmC 𝓤 H (givenOf 𝓤 H 𝓜 𝓖 .laws) (tables 𝓤 H 𝓜 𝓡 γ .C) → Triple 𝓤 (WpFn 𝓤 H (tables 𝓤 H 𝓜 𝓡 γ .C) (tables 𝓤 H 𝓜 𝓡 γ .Λ) f) c) → Triple 𝓤 (tables 𝓤 H 𝓜 𝓡 γ .C k) c
-unfolding tablesOf
-proved 𝓤 H 𝓜 𝓖 𝓡 γ k f c closed walk = entered 𝓤 H c (tables 𝓤 H 𝓜 𝓡 γ .C) (tables 𝓤 H 𝓜 𝓡 γ .Λ) k f closed (walk (fmOf 𝓤 H (givenOf 𝓤 H 𝓜 𝓖 .laws) (tablesOf 𝓤 H 𝓜 (tables 𝓤 H 𝓜 𝓡 γ))))
+-- a function that its code meets is met by its entry in the table, which is monotone under a frame. Its code is proved over any
+-- table in which the functions that it calls meet their contracts
+module _ {M : Type 1} (𝓤 : URA M) (H : Heap 𝓤) (𝓜 : Model 𝓤 H) (𝓖 : GhostRules 𝓤 H) (𝓡 : Running 𝓤 H 𝓜) (γ : Names) (T : Ended) (c : Atoms 𝓤 → (Memory → SProp 𝓤) → (Routine → Fun 𝓤) → Clauses 𝓤 T)
+    (known : (κs : Lfts (T .signature .lifetimes)) → Knowns (typesAt (T .signature .params) κs)) (Known-calls : Atoms 𝓤 → (Memory → SProp 𝓤) → (Routine → Fun 𝓤) → Calls 𝓤 H → Type 1) where
+  pub proved : (k : Name) (f : Fn) → Closed 𝓤 H (tables 𝓤 H 𝓜 𝓡 γ .C) (tables 𝓤 H 𝓜 𝓡 γ .Λ) k f → Known-calls (𝓖 .A) (𝓜 .mem) (𝓡 .run) (tables 𝓤 H 𝓜 𝓡 γ .C)
+      → ((A : Atoms 𝓤) (W : Given 𝓤 H A) (mem : Memory → SProp 𝓤) (run : Routine → Fun 𝓤) (C : Calls 𝓤 H) (Λ : Loops 𝓤 H) → Known-calls A mem run C → FmC 𝓤 H (W .laws) C → Walk 𝓤 H A W T (c A mem run) known C Λ f)
+      → Triple 𝓤 (tables 𝓤 H 𝓜 𝓡 γ .C k) (Callee 𝓤 H (𝓖 .A) T (c (𝓖 .A) (𝓜 .mem) (𝓡 .run)))
+  unfolding tablesOf
+  proved k f closed calls walk =
+      let W : Given 𝓤 H (𝓖 .A) = givenOf 𝓤 H 𝓜 𝓖 in
+      entered 𝓤 H _ (tables 𝓤 H 𝓜 𝓡 γ .C) (tables 𝓤 H 𝓜 𝓡 γ .Λ) k f closed
+      (met 𝓤 H (𝓖 .A) W T (c (𝓖 .A) (𝓜 .mem) (𝓡 .run)) known (tables 𝓤 H 𝓜 𝓡 γ .C) (tables 𝓤 H 𝓜 𝓡 γ .Λ) f (walk (𝓖 .A) W (𝓜 .mem) (𝓡 .run) _ _ calls (fmOf 𝓤 H (W .laws) (tablesOf 𝓤 H 𝓜 (tables 𝓤 H 𝓜 𝓡 γ)))))

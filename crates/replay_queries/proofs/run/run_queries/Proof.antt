@@ -4,15 +4,6 @@ use Rattle.replay_queries.proofs.RunSteps.{room-first, room-second, roo
 use Rattle.replay_queries.proofs.run.run_queries.Statement.{statement}
 use Rattle.replay_queries.proofs.run.run_queries.Tie as tie
 
-slice-aggregate-run-queries-within : tie.Need-slice-aggregate-run-queries-within
-slice-aggregate-run-queries-within c = let a = c .before .before .before .before .before .before .before .before .args in room-first _ (a .first .now) (a .second .now) (c .before .smaller .ensures)
-
-slice-aggregate-run-queries-within-2 : tie.Need-slice-aggregate-run-queries-within-2
-slice-aggregate-run-queries-within-2 c = let a = c .before .before .before .before .before .before .before .before .before .args in room-second _ (a .first .now) (a .second .now) (c .before .before .smaller .ensures)
-
-run-queries-within-requires : tie.Need-run-queries-within-requires
-run-queries-within-requires c κs = let a = c .before .before .before .before .before .before .before .before .before .args in (refl, refl, room-alike _ (a .first .now) (a .second .now) (c .before .before .smaller .ensures))
-
 returns : tie.Need-returns
 returns c = let a = c .before .before .before .before .before .before .before .before .before .before .before .before .before .before .args in made-within (a .head) _ (a .first .now) (a .second .now) (c .before .before .before .before .before .before .before .smaller .ensures) (c .before .before .before .before .run-queries-within .ensures) (c .before .before .before .first .given .0) (c .before .second .given .0)
 
@@ -20,12 +11,9 @@ pub run-queries-spec : {M : Type 1} → statement M
 run-queries-spec =
     tie.close
     (tie.spec
-    (λ c κs. search needs)
+    (λ c κs. search needs) (λ c. search needs)
+    (λ c. let a = c .before .before .before .before .before .before .before .before .args in room-first _ (a .first .now) (a .second .now) (c .before .smaller .ensures))
     (λ c. search needs)
-    slice-aggregate-run-queries-within
-    (λ c. search needs)
-    slice-aggregate-run-queries-within-2
-    run-queries-within-requires
-    (λ c. search needs)
-    (λ c. search needs)
-    returns)
+    (λ c. let a = c .before .before .before .before .before .before .before .before .before .args in room-second _ (a .first .now) (a .second .now) (c .before .before .smaller .ensures))
+    (λ c κs. let a = c .before .before .before .before .before .before .before .before .before .args in (refl, refl, room-alike _ (a .first .now) (a .second .now) (c .before .before .smaller .ensures)))
+    (λ c. search needs) (λ c. search needs) returns)
