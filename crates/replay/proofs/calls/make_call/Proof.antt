@@ -24,16 +24,13 @@ returns-5 c =
     let a = c .before .before .before .before .before .before .before .before .before .before .before .before .before .before .before .before .before .before .before .before .before .args in
     index-made (call-refresh _ _ (c .before .before .before .before .before .before .before .before .if5 .taken)) (c .before .before .before .before .refresh .ensures) (a .keys .now) (a .sorts .now) (a .live .now) (a .base .now)
 
-returns-6 : tie.Need-returns-6
-returns-6 c = none-made _ _ _ _ (call-none _ _ (omega (arith, c .if5 .left, c .before .if4 .left, c .before .before .if3 .left, c .before .before .before .if2 .left, c .before .before .before .before .if1 .left)))
-
 pub make-call-spec : {M : Type 1} → statement M
 make-call-spec =
     tie.close
     (tie.spec
-    (λ c κs. search needs) (λ c. search needs) returns (λ c κs. search needs) (λ c κs. search needs)
-    (λ c. search needs) (λ c. search needs) (λ c. search needs) (λ c. search needs) (λ c. search needs)
-    (λ c. search needs) returns-2 (λ c κs. search needs) (λ c κs. search needs) (λ c. search needs) (λ c. search needs)
-    (λ c. search needs) (λ c. search needs) (λ c. search needs) returns-3 (λ c κs. search needs) (λ c κs. search needs)
-    (λ c. search needs) returns-4 (λ c κs. search needs) (λ c. search needs) (λ c. search needs) (λ c. search needs) returns-5
-    returns-6)
+    (λ c κs. search needs) (λ c. search needs) returns (λ c κs. search needs) (λ c κs. search needs) (λ c. search needs)
+    (λ c. search needs) (λ c. search needs) (λ c. search needs) (λ c. search needs) (λ c. search needs) returns-2
+    (λ c κs. search needs) (λ c κs. search needs) (λ c. search needs) (λ c. search needs) (λ c. search needs) (λ c. search needs)
+    (λ c. search needs) returns-3 (λ c κs. search needs) (λ c κs. search needs) (λ c. search needs) returns-4
+    (λ c κs. search needs) (λ c. search needs) (λ c. search needs) (λ c. search needs) returns-5
+    (λ c. none-made _ _ _ _ (call-none _ _ (omega (arith, c .if5 .left, c .before .if4 .left, c .before .before .if3 .left, c .before .before .before .if2 .left, c .before .before .before .before .if1 .left)))))

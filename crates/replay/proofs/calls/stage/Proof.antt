@@ -3,15 +3,6 @@ use Rattle.replay.proofs.Prelude.{_∙_, arith, call-insert, call-remov
 use Rattle.replay.proofs.calls.stage.Statement.{statement}
 use Rattle.replay.proofs.calls.stage.Tie as tie
 
-returns : tie.Need-returns
-returns c = staging-made (call-insert _ _ (c .before .before .before .before .before .if1 .taken)) (c .before .before .before .stage-insert .ensures) (c .header-after .ensures)
-
-returns-2 : tie.Need-returns-2
-returns-2 c = staging-made (call-remove _ _ (c .before .before .before .before .before .if2 .taken)) (c .before .before .before .stage-remove .ensures) (c .header-after2 .ensures)
-
-returns-3 : tie.Need-returns-3
-returns-3 c = nothing-staged (call-row _ _ (omega (arith, c .before .before .before .before .before .pre, c .before .if2 .left, c .before .before .if1 .left)) ∙ row-none _ (c .if3 .taken))
-
 returns-4 : tie.Need-returns-4
 returns-4 c =
     let t = c .before .before .before .before .before .before .before in
@@ -24,6 +15,10 @@ pub stage-spec : {M : Type 1} → statement M
 stage-spec =
     tie.close
     (tie.spec
-    (λ c κs. search needs) (λ c κs. search needs) (λ c. search needs) returns (λ c κs. search needs)
-    (λ c κs. search needs) (λ c. search needs) returns-2 returns-3 (λ c. search needs) (λ c. search needs)
-    (λ c. search needs) (λ c. search needs) (λ c κs. search needs) (λ c κs. search needs) (λ c. search needs) returns-4)
+    (λ c κs. search needs) (λ c κs. search needs) (λ c. search needs)
+    (λ c. staging-made (call-insert _ _ (c .before .before .before .before .before .if1 .taken)) (c .before .before .before .stage-insert .ensures) (c .header-after .ensures))
+    (λ c κs. search needs) (λ c κs. search needs) (λ c. search needs)
+    (λ c. staging-made (call-remove _ _ (c .before .before .before .before .before .if2 .taken)) (c .before .before .before .stage-remove .ensures) (c .header-after2 .ensures))
+    (λ c. nothing-staged (call-row _ _ (omega (arith, c .before .before .before .before .before .pre, c .before .if2 .left, c .before .before .if1 .left)) ∙ row-none _ (c .if3 .taken)))
+    (λ c. search needs) (λ c. search needs) (λ c. search needs) (λ c. search needs) (λ c κs. search needs) (λ c κs. search needs)
+    (λ c. search needs) returns-4)
