@@ -34,13 +34,11 @@ line-at-spec =
     μ-loop
     (λ c. c .before .before .before .pre .0)
     (λ c. line-letter _ _ _ _ _ (c .before .before .before .before .pre .0) (c .if1 .taken))
-    (λ c. search needs)
-    loop-holds
+    (λ c. search needs) loop-holds
     (λ c. c .before .before .loop .inv .passed .inside)
     (λ c. c .before .before .before .loop .inv .same)
     (λ c. line-comma-missing (c .before .before .before .loop .inv) (c .before .before .loop-test .taken) (c .if2 .taken))
-    (λ c. search needs)
-    decimal-at-requires
+    (λ c. search needs) decimal-at-requires
     (λ c. c .before .before .before .before .before .before .loop .inv .same)
     returns-3
     (λ c. omega (arith, c .before .before .before .before .before .loop-test .taken, c .before .before .before .before .before .before .before .before .before .before .before .pre .1 .1 .0 .1))

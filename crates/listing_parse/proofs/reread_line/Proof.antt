@@ -34,15 +34,11 @@ reread-line-spec =
     (tie.spec
     Inv-loop
     μ-loop
-    (λ c. search needs)
-    loop-holds
-    (λ c. search needs)
-    reread-decimal-requires
+    (λ c. search needs) loop-holds (λ c. search needs) reread-decimal-requires
     (λ c. omega (arith, c .before .loop-test .taken, c .before .before .before .before .before .pre .1 .1 .0))
     (λ c. omega (arith, c .before .before .loop .inv .room, c .before .before .loop .inv .same, c .before .loop-test .taken))
     (λ c. search needs)
     (λ c. omega (arith, c .before .loop-test .taken))
-    loop-again
-    (λ c. search needs)
+    loop-again (λ c. search needs)
     (λ c. c .before .loop .inv .same)
     (λ c. line-again (c .before .loop .inv) (c .loop-test .left) refl (c .before .before .before .before .pre .1 .0)))

@@ -30,13 +30,10 @@ write-rows-spec =
     (tie.spec
     Inv-loop
     μ-loop
-    (λ c κs. search needs)
-    loop-holds
-    (λ c. search needs)
+    (λ c κs. search needs) loop-holds (λ c. search needs)
     (λ c. omega (arith, writing-fits _ _ _ _ _ (c .before .loop .inv .0) (c .before .loop .inv .1) (c .loop-test .taken)))
     (λ c. omega (arith, writing-fits _ _ _ _ _ (c .before .loop .inv .0) (c .before .loop .inv .1) (c .loop-test .taken)))
-    (λ c. search needs)
-    reread-line-requires
+    (λ c. search needs) reread-line-requires
     (λ c. omega (arith, writing-fits _ _ _ _ _ (c .before .before .before .before .before .loop .inv .0) (c .before .before .before .before .before .loop .inv .1) (c .before .before .before .before .loop-test .taken)))
     (λ c. let f = c .before .before .reread-line .ensures .found in omega (arith, f .forward, f .inside))
     loop-again

@@ -74,14 +74,6 @@ remove-all-spec =
     (tie.spec
     Inv-loop
     μ-loop
-    record-length-requires
-    loop-holds
-    remove-next-requires
-    add-dead
-    next-record-requires
-    record-length-requires-2
-    loop-less
-    loop-again
-    same-length
-    same-length-2
+    record-length-requires loop-holds remove-next-requires add-dead next-record-requires record-length-requires-2 loop-less
+    loop-again same-length same-length-2
     returns)

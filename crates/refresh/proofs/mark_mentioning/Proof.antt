@@ -29,7 +29,5 @@ mark-mentioning-spec =
     (λ c. found-restarted _ _ _ _ _ (c .before .before .mark-unlisted .ensures))
     (λ c. omega (arith, c .before .before .before .before .before .before .before .pre .0 .index-long))
     (λ c κs. let s = c .before .before .before .before .before .before .before .before in (s .pre .0, used (c .before .before), s .pre .2 .long))
-    mark-unlisted-requires-2
-    add-result
-    (λ c. search needs)
+    mark-unlisted-requires-2 add-result (λ c. search needs)
     returns-2)

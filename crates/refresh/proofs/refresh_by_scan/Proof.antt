@@ -38,10 +38,7 @@ refresh-by-scan-spec =
     (λ c κs. let s = c .before .before .before .before .before .before .before in (lent s, s .pre .continues, bitmap-none))
     (λ c. omega (arith, fits (c .before))) (λ c. omega (arith, fits (c .before)))
     (λ c. omega (arith, fits (c .before .before))) (λ c. omega (arith, fits (c .before .before)))
-    (λ c κs. search needs) (λ c. search needs)
-    returns
+    (λ c κs. search needs) (λ c. search needs) returns
     (λ c κs. let s = c .before .before .before .before .before .before .before .before .before .before .before .before .before .before in (lent s, s .pre .continues))
-    (λ c. search needs)
-    stage-marked-requires
-    (λ c. search needs) (λ c. search needs)
+    (λ c. search needs) stage-marked-requires (λ c. search needs) (λ c. search needs)
     returns-2)

@@ -58,15 +58,9 @@ pub refresh-refusal-spec : {M : Type 1} → statement M
 refresh-refusal-spec =
     tie.close
     (tie.spec
-    (λ c κs. search needs)
-    returns
+    (λ c κs. search needs) returns
     (λ c κs. within c)
-    returns-2
-    returns-3
-    (λ c κs. search needs)
-    returns-4
+    returns-2 returns-3 (λ c κs. search needs) returns-4
     (λ c κs. (within (c .before .before .before .before .before), c .before .before .if3 .left))
-    returns-5
-    (λ c κs. search needs)
-    returns-6
+    returns-5 (λ c κs. search needs) returns-6
     returns-7)

@@ -29,6 +29,5 @@ refresh-rows-for-values-spec =
     (λ c. refused-early _ _ _ _ _ _ (c .before .refresh-refusal .ensures) (c .if1 .taken))
     (λ c κs. let l = lent (c .before) in (l .inside, l .columns-few, l .index-long))
     (λ c κs. lent (c .before .before) .inside)
-    (λ c κs. search needs) (λ c. search needs) (λ c. search needs) (λ c. search needs)
-    refresh-by-index-requires
+    (λ c κs. search needs) (λ c. search needs) (λ c. search needs) (λ c. search needs) refresh-by-index-requires
     (λ c. search needs) (λ c. search needs) (λ c. search needs))

@@ -41,7 +41,6 @@ write-block-spec =
     (λ c. omega (arith, fits (c .before .before .before .before .before .before)))
     (λ c. omega (arith, fits (c .before .before .before .before .before .before)))
     (λ c. omega (arith, fits (c .before .before .before .before .before .before)))
-    loop-less
-    loop-again
+    loop-less loop-again
     (λ c. going-length (c .before .before .before .before .pre) (c .before .loop .inv (c .before .before .before .before .pre)))
     (λ c. record { on = λ b. going-end b (c .before .loop .inv b) (omega (arith, c .loop-test .left)) }))

@@ -45,10 +45,6 @@ write-group-spec =
     (λ c. omega (arith, inside c))
     (λ c. omega (arith, c .loop-test .taken))
     (λ c. omega (arith, inside c)) (λ c. omega (arith, inside c))
-    shared-slice-read-word
-    mul-write-block
-    write-block-requires
-    loop-less
-    loop-again
+    shared-slice-read-word mul-write-block write-block-requires loop-less loop-again
     (λ c. let g = c .before .before .before .before .before .before .pre in grouped-length g (c .before .loop .inv g))
     (λ c. record { on = λ g. grouped-end g (c .before .loop .inv g) (omega (arith, c .loop-test .left)) }))

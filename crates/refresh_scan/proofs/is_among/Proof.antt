@@ -43,18 +43,6 @@ is-among-spec =
     (tie.spec
     Inv-loop
     μ-loop
-    (λ c κs. search needs)
-    (λ c. search needs)
-    (λ c. search needs)
-    cast-link
-    loop-holds
-    (λ c. search needs)
-    (λ c. search needs)
-    (λ c. search needs)
-    returns
-    (λ c. search needs)
-    (λ c. search needs)
-    cast-link-2
-    loop-less
-    loop-again
+    (λ c κs. search needs) (λ c. search needs) (λ c. search needs) cast-link loop-holds (λ c. search needs) (λ c. search needs)
+    (λ c. search needs) returns (λ c. search needs) (λ c. search needs) cast-link-2 loop-less loop-again
     returns-2)

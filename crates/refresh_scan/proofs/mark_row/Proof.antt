@@ -47,11 +47,7 @@ mark-row-spec =
     returns
     (λ c. omega (arith, lies (c .before .before .before .before .before .before .before .before)))
     (λ c. omega (arith, lies (c .before .before .before .before .before .before .before .before)))
-    (λ c. search needs)
-    (λ c. search needs)
+    (λ c. search needs) (λ c. search needs)
     (λ c. omega (arith, lies (c .before .before .before .before .before .before .before .before)))
-    mentions-one-requires
-    returns-2
-    mark-requires
-    (λ c. search needs)
+    mentions-one-requires returns-2 mark-requires (λ c. search needs)
     returns-3)

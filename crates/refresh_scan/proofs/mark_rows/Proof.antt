@@ -46,11 +46,5 @@ mark-rows-spec =
     (tie.spec
     Inv-loop
     μ-loop
-    loop-holds
-    mark-row-requires
-    add-marked
-    (λ c. search needs)
-    (λ c. search needs)
-    loop-again
-    same-length
+    loop-holds mark-row-requires add-marked (λ c. search needs) (λ c. search needs) loop-again same-length
     returns)

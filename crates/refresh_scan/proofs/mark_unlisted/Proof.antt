@@ -52,16 +52,6 @@ mark-unlisted-spec =
     (tie.spec
     Inv-loop
     μ-loop
-    returns
-    loop-holds
-    (λ c κs. search needs)
-    (λ c. search needs)
-    (λ c. search needs)
-    (λ c. search needs)
-    (λ c. search needs)
-    mark-part-requires
-    add-marked
-    (λ c. search needs)
-    loop-again
-    same-length
+    returns loop-holds (λ c κs. search needs) (λ c. search needs) (λ c. search needs) (λ c. search needs) (λ c. search needs)
+    mark-part-requires add-marked (λ c. search needs) loop-again same-length
     returns-2)

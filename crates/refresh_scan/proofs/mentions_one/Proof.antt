@@ -43,15 +43,6 @@ mentions-one-spec =
     (tie.spec
     Inv-loop
     μ-loop
-    loop-holds
-    (λ c. search needs)
-    (λ c. search needs)
-    cast-column
-    mul-is-among
-    shared-slice-read-is-among
-    (λ c κs. search needs)
-    returns
-    (λ c. search needs)
-    (λ c. search needs)
-    loop-again
+    loop-holds (λ c. search needs) (λ c. search needs) cast-column mul-is-among shared-slice-read-is-among (λ c κs. search needs)
+    returns (λ c. search needs) (λ c. search needs) loop-again
     returns-2)

@@ -15,12 +15,7 @@ pub apply-answer-spec : {M : Type 1} → statement M
 apply-answer-spec =
     tie.close
     (tie.spec
-    (λ c. search needs)
-    (λ c κs. search needs)
-    (λ c. search needs)
-    (λ c. search needs)
-    (λ c. search needs)
-    (λ c. search needs)
+    (λ c. search needs) (λ c κs. search needs) (λ c. search needs) (λ c. search needs) (λ c. search needs) (λ c. search needs)
     (λ c. left-refused _ _ _ _ _ (c .count-one .ensures) (c .before .enum-told .given .1))
     returns-2
     returns-3)

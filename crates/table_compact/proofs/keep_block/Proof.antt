@@ -50,13 +50,5 @@ keep-block-spec =
     (tie.spec
     Inv-loop
     μ-loop
-    loop-holds
-    add-row
-    sub-word
-    keep-row-requires
-    add-kept
-    loop-less
-    loop-again
-    same-length
-    same-length-2
+    loop-holds add-row sub-word keep-row-requires add-kept loop-less loop-again same-length same-length-2
     returns)

@@ -19,10 +19,5 @@ get-row-spec =
     (tie.spec
     (λ c κs. search needs)
     (λ c. row-refused _ _ _ _ _ (c .before .lookup-refusal .ensures) (c .if1 .taken))
-    (λ c κs. search needs)
-    (λ c κs. search needs)
-    look-up-requires
-    (λ c. search needs)
-    (λ c. search needs)
-    returns-2
+    (λ c κs. search needs) (λ c κs. search needs) look-up-requires (λ c. search needs) (λ c. search needs) returns-2
     returns-3)

@@ -28,11 +28,7 @@ get-row-column-spec =
     (tie.spec
     (λ c κs. search needs)
     (λ c. cell-refused _ _ _ _ _ _ (c .before .cell-refusal .ensures) (c .if1 .taken))
-    (λ c κs. search needs)
-    (λ c κs. search needs)
-    look-up-requires
-    (λ c. search needs)
-    (λ c. search needs)
+    (λ c κs. search needs) (λ c κs. search needs) look-up-requires (λ c. search needs) (λ c. search needs)
     (λ c. omega (arith, there c))
     (λ c. omega (arith, there c))
     (λ c. omega (arith, there c))

@@ -29,10 +29,5 @@ pub stage-refusal-spec : {M : Type 1} → statement M
 stage-refusal-spec =
     tie.close
     (tie.spec
-    (λ c κs. search needs)
-    returns
-    returns-2
-    returns-3
-    (λ c κs. search needs)
-    returns-4
+    (λ c κs. search needs) returns returns-2 returns-3 (λ c κs. search needs) returns-4
     returns-5)

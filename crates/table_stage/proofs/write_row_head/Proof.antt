@@ -7,13 +7,9 @@ pub write-row-head-spec : {M : Type 1} → statement M
 write-row-head-spec =
     tie.close
     (tie.spec
-    (λ c. search needs)
-    (λ c. search needs)
-    (λ c. search needs)
-    (λ c. search needs)
+    (λ c. search needs) (λ c. search needs) (λ c. search needs) (λ c. search needs)
     (λ c. simp length-set (omega arith))
-    (λ c. search needs)
-    (λ c. search needs)
+    (λ c. search needs) (λ c. search needs)
     (λ c. simp length-set (omega arith))
     (λ c. search needs)
     (λ c. row-head (c .args .pending .now) (c .args .at) 2 (c .args .hash) (c .args .row) (omega arith)))

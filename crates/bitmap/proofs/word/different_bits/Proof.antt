@@ -49,14 +49,5 @@ different-bits-spec =
     (tie.spec
     Inv-loop
     μ-loop
-    loop-holds
-    mul-cell
-    shared-slice-read-cell
-    add-at
-    add-bit
-    set-bit-requires
-    loop-less
-    loop-again
-    loop-less-2
-    loop-again-2
+    loop-holds mul-cell shared-slice-read-cell add-at add-bit set-bit-requires loop-less loop-again loop-less-2 loop-again-2
     returns)

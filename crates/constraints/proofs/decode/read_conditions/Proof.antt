@@ -40,11 +40,5 @@ read-conditions-spec =
     (tie.spec
     Inv-loop
     μ-loop
-    loop-holds
-    read-condition-requires
-    mul-all
-    array-set-from-all
-    add-i
-    loop-less
-    loop-again
+    loop-holds read-condition-requires mul-all array-set-from-all add-i loop-less loop-again
     returns)

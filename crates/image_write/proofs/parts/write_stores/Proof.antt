@@ -23,8 +23,7 @@ pub write-stores-spec : {M : Type 1} → statement M
 write-stores-spec =
     tie.close
     (tie.spec
-    (λ c. search needs) (λ c. search needs) (λ c. search needs) (λ c. search needs) (λ c. search needs)
-    (λ c κs. search needs)
+    (λ c. search needs) (λ c. search needs) (λ c. search needs) (λ c. search needs) (λ c. search needs) (λ c κs. search needs)
     (λ c. omega (arith, c .before .before .before .before .before .before .before .before .before .before .before .before))
     (λ c κs. search needs) (λ c. search needs) add-write-words-2 add-write-words-3 (λ c κs. search needs) (λ c. search needs)
     returns)

@@ -62,17 +62,6 @@ renumber-block-spec =
     (tie.spec
     Inv-loop
     μ-loop
-    taken-bits-requires
-    loop-holds
-    add-at
-    cast-at
-    sub-word
-    mul-renumber-word
-    slice-read-renumber-word
-    renumber-word-requires
-    mul-store
-    slice-write-store
-    loop-less
-    loop-again
-    same-length
+    taken-bits-requires loop-holds add-at cast-at sub-word mul-renumber-word slice-read-renumber-word renumber-word-requires
+    mul-store slice-write-store loop-less loop-again same-length
     returns)

@@ -24,13 +24,9 @@ insert-new-spec =
     (λ c. omega (arith, enters (c .before .before .before))) (λ c. omega (arith, enters (c .before .before .before)))
     (λ c κs. omega (arith, enters (c .before .before .before))) (λ c κs. omega (arith, enters (c .before .before .before .before .before .before)))
     (λ c κs. rebuilds (enters (c .before .before .before .before .before .before .before .before .before .before)) _ (c .before .before .before .before .before .rows .given) 0 (omega arith))
-    (λ c. search needs) (λ c. search needs) (λ c. search needs)
-    returns
-    (λ c κs. search needs)
+    (λ c. search needs) (λ c. search needs) (λ c. search needs) returns (λ c κs. search needs)
     (λ c κs. omega (arith, ap (λ (t : IndexShape). t .room) (c .before .index-shape .ensures), enters (c .before .before .before .before .before .before .before .before .before .before)))
     (λ c κs. omega (arith, enters (c .before .before .before .before .before .before .before .before .before .before .before .before .before)))
-    (λ c. search needs)
-    returns-2
-    (λ c. search needs) (λ c. search needs)
+    (λ c. search needs) returns-2 (λ c. search needs) (λ c. search needs)
     (λ c. entered-of _ _ _ _ _ (c .before .before .before .before .before .before .before .before .before .before .before .before .before .before .before .before .before .before .admit .ensures) _ (c .before .before .before .before .before .before .before .before .before .before .before .before .before .before .entries .given .1) .same)
     returns-3)

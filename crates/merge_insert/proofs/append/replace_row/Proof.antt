@@ -50,8 +50,6 @@ replace-row-spec =
     returns
     (λ c κs. omega (arith, enters (c .before .before .before .before .before .before .before .before .before .before .before .before .before .before), c .before .before .before .before .before .before .before .before .before .before .before .before .before .before .before .before .before .before .before .before .before .before .before .before .before .before .pre .2))
     (λ c κs. omega (arith, enters (c .before .before .before .before .before .before .before .before .before .before .before .before .before .before .before .before .before)))
-    (λ c. search needs)
-    returns-2
-    (λ c. search needs) (λ c. search needs)
+    (λ c. search needs) returns-2 (λ c. search needs) (λ c. search needs)
     (λ c. entered-of _ _ _ _ _ (c .before .before .before .before .before .before .before .before .before .before .before .before .before .before .before .before .before .before .before .before .before .before .admit .ensures) _ (c .before .before .before .before .before .before .before .before .before .before .before .before .before .before .before .before .before .before .entries .given .1) .same)
     returns-3)

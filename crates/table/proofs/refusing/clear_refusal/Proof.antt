@@ -23,7 +23,5 @@ clear-refusal-spec =
     (λ c κs. search needs)
     (λ c. clear-outside _ _ (sym (c .before .is-outside .ensures) ∙ c .if1 .taken))
     (λ c κs. (sym (c .before .is-outside .ensures) ∙ c .if1 .left))
-    returns-2
-    returns-3
-    returns-4
+    returns-2 returns-3 returns-4
     returns-5)

@@ -20,7 +20,5 @@ fast-refusal-spec =
     (λ c κs. search needs)
     (λ c. fast-outside _ _ _ (sym (c .before .is-outside .ensures) ∙ c .if1 .taken))
     (λ c κs. (sym (c .before .is-outside .ensures) ∙ c .if1 .left))
-    returns-2
-    (λ c κs. search needs)
-    returns-3
+    returns-2 (λ c κs. search needs) returns-3
     returns-4)

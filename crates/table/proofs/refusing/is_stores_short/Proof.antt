@@ -16,7 +16,5 @@ is-stores-short-spec =
     (tie.spec
     (λ c κs. search needs)
     (λ c. stores-rows _ _ (sym (c .before .is-rows-short .ensures) ∙ c .if1 .taken))
-    (λ c κs. search needs)
-    returns-2
-    (λ c κs. search needs)
+    (λ c κs. search needs) returns-2 (λ c κs. search needs)
     returns-3)
