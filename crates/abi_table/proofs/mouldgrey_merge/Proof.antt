@@ -9,4 +9,4 @@ mouldgrey-merge-spec =
     (tie.spec
     (λ c κs. search needs) (λ c κs. search needs) (λ c κs. search needs) (λ c. search needs) (λ c. search needs)
     (λ c. search needs) (λ c. search needs) (λ c. search needs)
-    (λ c. rw (sym (c .before .before .before .before .before .before .before .before .before .before .before .before .before .before .before .before .before .before .before .decode-header .ensures)) record { answers = record { answer = c .before .before .before .before .before .before .before .before .before .before .before .before .before .merge .result; contract-met = (c .before .before .before .before .before .before .before .before .before .before .before .before .before .merge .ensures, c .store-merge .ensures .0 .stores); stores = c .store-merge .ensures .1 } }))
+    (λ c. let at-merge = c .before .before .before .before .before .before .before .before .before .before .before .before .before in let at-decode-header = at-merge .before .before .before .before .before .before in rw (sym (at-decode-header .decode-header .ensures)) record { answers = record { answer = at-merge .merge .result; contract-met = (at-merge .merge .ensures, c .store-merge .ensures .0 .stores); stores = c .store-merge .ensures .1 } }))

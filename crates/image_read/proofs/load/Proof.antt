@@ -17,20 +17,29 @@ write-parts-requires c κs =
 
 write-keys-requires : tie.Need-write-keys-requires
 write-keys-requires c κs =
-    let s = c .before .before .before .before .before .before .before .before .before .before .before .before .before .before .before .before .before .before .before .before .before .before .before in
+    let at-index-shape = c .before .before in let at-write-parts = at-index-shape .before .before .before .before .before .before .before in
+    let at-if1 = at-write-parts .before .before .before .before in let at-load-refusal = at-if1 .before in
+    let at-with-capacity = at-load-refusal .before in
+    let at-here = at-with-capacity .before .before .before .before .before .before .before .before in
+    let s = at-here in
     let a = s .args in (
-      keys-fit _ (a .l) (a .capacity) (body (a .rows .now) (a .keys .now) (a .sorts .now)) (a .pending .now) _ (c .before .before .before .before .before .before .before .before .before .before .before .before .before .before .before .with-capacity .ensures) _ (c .before .before .before .before .before .before .before .before .before .before .before .before .before .before .load-refusal .ensures) (c .before .before .before .before .before .before .before .before .before .before .before .before .before .if1 .left) (s .pre .0)
-          _ _ _ (c .before .before .before .before .before .before .before .before .before .write-parts .ensures) _ (c .before .before .index-shape .ensures),
-      keys-built _ (a .l) (a .capacity) (body (a .rows .now) (a .keys .now) (a .sorts .now)) (a .pending .now) _ (c .before .before .before .before .before .before .before .before .before .before .before .before .before .before .before .with-capacity .ensures) _ (c .before .before .before .before .before .before .before .before .before .before .before .before .before .before .load-refusal .ensures) (c .before .before .before .before .before .before .before .before .before .before .before .before .before .if1 .left) (s .pre .0)
-          _ _ _ (c .before .before .before .before .before .before .before .before .before .write-parts .ensures) _ (s .pre .1) (s .pre .2) _ (c .before .before .index-shape .ensures),
+      keys-fit _ (a .l) (a .capacity) (body (a .rows .now) (a .keys .now) (a .sorts .now)) (a .pending .now) _ (at-with-capacity .with-capacity .ensures) _ (at-load-refusal .load-refusal .ensures) (at-if1 .if1 .left) (s .pre .0)
+          _ _ _ (at-write-parts .write-parts .ensures) _ (at-index-shape .index-shape .ensures),
+      keys-built _ (a .l) (a .capacity) (body (a .rows .now) (a .keys .now) (a .sorts .now)) (a .pending .now) _ (at-with-capacity .with-capacity .ensures) _ (at-load-refusal .load-refusal .ensures) (at-if1 .if1 .left) (s .pre .0)
+          _ _ _ (at-write-parts .write-parts .ensures) _ (s .pre .1) (s .pre .2) _ (at-index-shape .index-shape .ensures),
     )
 
 returns-2 : tie.Need-returns-2
 returns-2 c =
-    let s = c .before .before .before .before .before .before .before .before .before .before .before .before .before .before .before .before .before .before .before .before .before .before .before .before .before .before in
+    let at-write-keys = c .before .before in let at-index-shape = at-write-keys .before .before .before in
+    let at-write-parts = at-index-shape .before .before .before .before .before .before .before in
+    let at-if1 = at-write-parts .before .before .before .before in let at-load-refusal = at-if1 .before in
+    let at-with-capacity = at-load-refusal .before in
+    let at-here = at-with-capacity .before .before .before .before .before .before .before .before in
+    let s = at-here in
     let a = s .args in
-    loading-done _ (a .l) (a .capacity) (body (a .rows .now) (a .keys .now) (a .sorts .now)) (a .pending .now) _ (c .before .before .before .before .before .before .before .before .before .before .before .before .before .before .before .before .before .before .with-capacity .ensures) _ (c .before .before .before .before .before .before .before .before .before .before .before .before .before .before .before .before .before .load-refusal .ensures) (c .before .before .before .before .before .before .before .before .before .before .before .before .before .before .before .before .if1 .left) (s .pre .0)
-    _ _ _ (c .before .before .before .before .before .before .before .before .before .before .before .before .write-parts .ensures) _ (c .before .before .before .before .before .index-shape .ensures) _ (c .before .before .write-keys .ensures) (c .before .keys .given)
+    loading-done _ (a .l) (a .capacity) (body (a .rows .now) (a .keys .now) (a .sorts .now)) (a .pending .now) _ (at-with-capacity .with-capacity .ensures) _ (at-load-refusal .load-refusal .ensures) (at-if1 .if1 .left) (s .pre .0)
+    _ _ _ (at-write-parts .write-parts .ensures) _ (at-index-shape .index-shape .ensures) _ (at-write-keys .write-keys .ensures) (c .before .keys .given)
 
 pub load-spec : {M : Type 1} → statement M
 load-spec =

@@ -17,10 +17,13 @@ returns c =
 
 returns-2 : tie.Need-returns-2
 returns-2 c =
-    let a = c .before .before .before .before .before .before .before .before .before .before .before .before .before .before .before .before .before .before .before .before .before .before .before .before .before .args in
-    let m = c .before .before .before .before .before .before .before .before .load .last in
-    read-loaded _ (a .capacity) (body (a .rows .now) (a .keys .now) (a .sorts .now)) (a .pending .now) _ _ (c .before .before .before .before .before .before .before .before .before .before .before .before .before .before .before .before .before .before .decode .ensures) _ (c .before .before .before .before .before .before .before .before .before .before .before .before .before .before .before .decoding2 .given .1)
-    _ (body (m .1 .1 .1 .1 .0) (m .1 .1 .1 .1 .1 .0) (m .1 .1 .1 .1 .1 .1 .0)) (m .1 .1 .1 .1 .1 .1 .1 .0) (c .before .before .before .before .before .before .before .before .load .ensures)
+    let at-load = c .before .before .before .before .before .before .before .before in
+    let at-decoding2 = at-load .before .before .before .before .before .before .before in let at-decode = at-decoding2 .before .before .before in
+    let entry = at-decode .before .before .before .before .before .before .before in
+    let a = entry .args in
+    let m = at-load .load .last in
+    read-loaded _ (a .capacity) (body (a .rows .now) (a .keys .now) (a .sorts .now)) (a .pending .now) _ _ (at-decode .decode .ensures) _ (at-decoding2 .decoding2 .given .1)
+    _ (body (m .1 .1 .1 .1 .0) (m .1 .1 .1 .1 .1 .0) (m .1 .1 .1 .1 .1 .1 .0)) (m .1 .1 .1 .1 .1 .1 .1 .0) (at-load .load .ensures)
 
 pub read-image-spec : {M : Type 1} → statement M
 read-image-spec =

@@ -28,14 +28,16 @@ returns-3 c =
 
 loop-again : tie.Need-loop-again Inv-loop μ-loop
 loop-again c =
-    let l = c .before .before .before .before .before .before .before .loop in
+    let at-is-hit = c .before .before in let at-if2 = at-is-hit .before in let at-if1 = at-if2 .before in let at-loop-test = at-if1 .before .before in
+    let at-loop = at-loop-test .before in let at-slot-word = at-loop .before .before in
+    let l = at-loop .loop in
     let p : Past _ _ _ _ _ _ =
     record {
-      taken = c .before .before .before .if2 .left;
-      not-own = λ e. c .before .before .before .before .if1 .left (e ∙ sym (c .before .before .before .before .before .before .before .before .before .slot-word .ensures));
-      other = c .before .before .is-hit .ensures .no (c .before .if3 .left);
+      taken = at-if2 .if2 .left;
+      not-own = λ e. at-if1 .if1 .left (e ∙ sym (at-slot-word .slot-word .ensures));
+      other = at-is-hit .is-hit .ensures .no (c .before .if3 .left);
     } in
-    on _ _ _ _ (l .at) (l .passed) _ (l .inv) (c .before .before .before .before .before .before .loop-test .taken) p (c .next-slot .ensures .0)
+    on _ _ _ _ (l .at) (l .passed) _ (l .inv) (at-loop-test .loop-test .taken) p (c .next-slot .ensures .0)
 
 pub is-reached-spec : {M : Type 1} → statement M
 is-reached-spec =

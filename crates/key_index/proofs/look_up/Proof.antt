@@ -31,10 +31,12 @@ named-ahead c = leads-some _ _ _ _ _ _ (few (c .before .before .before .before .
 
 returns-3 : tie.Need-returns-3
 returns-3 c =
-    let s = c .before .before .before .before .before .before .before .before .before .before .before .before .before .before in
-    let h = c .before .before .before .before .before .before .before .before .before .home-slot in
-    let a = c .before .before .before .bits-ahead in
-    let w = passed-to _ _ _ _ _ (few s) (h .result) (a .result) (h .ensures .0) (c .before .before .before .before .before .before .before .is-hit .ensures .no (c .before .before .before .before .before .before .if1 .left)) (a .ensures) in
+    let at-bits-ahead = c .before .before .before in let at-if1 = at-bits-ahead .before .before .before in let at-is-hit = at-if1 .before in
+    let at-home-slot = at-is-hit .before .before in let at-here = at-home-slot .before .before .before .before .before in
+    let s = at-here in
+    let h = at-home-slot .home-slot in
+    let a = at-bits-ahead .bits-ahead in
+    let w = passed-to _ _ _ _ _ (few s) (h .result) (a .result) (h .ensures .0) (at-is-hit .is-hit .ensures .no (at-if1 .if1 .left)) (a .ensures) in
     found-row _ _ _ _ _ (few s) _ _ _ w (c .before .is-hit2 .ensures .yes (c .if3 .taken)) (omega (arith, named-ahead c))
 
 pub look-up-spec : {M : Type 1} → statement M

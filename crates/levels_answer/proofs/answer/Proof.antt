@@ -4,7 +4,12 @@ use Rattle.levels_answer.proofs.answer.Statement.{statement}
 use Rattle.levels_answer.proofs.answer.Tie as tie
 
 returns : tie.Need-returns
-returns c = encoded-answers (omega (arith, c .before .before .before .before .before .before .before .before .before .before .before .before .before .before .before .before .before .before .before .before .before .before .before .before .before .pre .0, c .before .before .before .before .before .before .before .before .before .before .before .keys .given)) (omega (arith, c .before .before .before .before .before .before .before .before .before .before .before .before .before .before .before .before .before .before .before .before .before .before .before .before .before .pre .1, c .before .text .given)) (c .before .before .before .before .before .before .before .before .before .before .before .before .before .before .respond .ensures) (c .before .before .encode-response .ensures)
+returns c =
+    let at-encode-response = c .before .before in
+    let at-keys = at-encode-response .before .before .before .before .before .before .before .before .before in
+    let at-respond = at-keys .before .before .before in
+    let entry = at-respond .before .before .before .before .before .before .before .before .before .before .before in
+    encoded-answers (omega (arith, entry .pre .0, at-keys .keys .given)) (omega (arith, entry .pre .1, c .before .text .given)) (at-respond .respond .ensures) (at-encode-response .encode-response .ensures)
 
 pub answer-spec : {M : Type 1} → statement M
 answer-spec =

@@ -5,13 +5,17 @@ use Rattle.levels_answer.proofs.append_answer.Tie as tie
 
 add-t23 : tie.Need-add-t23
 add-t23 c =
-    let a = c .before .before .before .before .before .before .before .before .before .before .before .before .before .before .before .before .before .before .before .before .before .before .before .before .before .args in
-    omega (arith, c .before .before .before .before .before .before .before .before .before .before .before .before .answer .ensures .inside, c .before .before .before .text .given .0, c .before .before .before .before .before .before .before .before .before .before .before .before .before .before .before .before .before .before .before .before .before .before .before .before .before .good .1 .1 .1 .1 .1 .1 .1 .0 .0, length-take (length (a .text .now) - a .from) (drop (a .from) (a .text .now)), length-drop (a .from) (a .text .now), c .before .before .before .before .before .before .before .before .before .before .before .before .before .before .before .before .before .before .before .before .before .before .before .before .before .pre .1 .1)
+    let at-text = c .before .before .before in let at-answer = at-text .before .before .before .before .before .before .before .before .before in
+    let entry = at-answer .before .before .before .before .before .before .before .before .before .before .before .before .before in
+    let a = entry .args in
+    omega (arith, at-answer .answer .ensures .inside, at-text .text .given .0, entry .good .1 .1 .1 .1 .1 .1 .1 .0 .0, length-take (length (a .text .now) - a .from) (drop (a .from) (a .text .now)), length-drop (a .from) (a .text .now), entry .pre .1 .1)
 
 returns : tie.Need-returns
 returns c =
-    let a = c .before .before .before .before .before .before .before .before .before .before .before .before .before .before .before .before .before .before .before .before .before .before .before .before .before .args in
-    answer-appended (a .text .now) _ _ (a .from) (omega (arith, c .before .before .before .before .before .before .before .before .before .before .before .before .before .before .before .before .before .before .before .before .before .before .before .before .before .pre .1 .1)) (c .before .before .before .before .before .before .before .before .before .before .before .before .answer .ensures)
+    let at-answer = c .before .before .before .before .before .before .before .before .before .before .before .before in
+    let entry = at-answer .before .before .before .before .before .before .before .before .before .before .before .before .before in
+    let a = entry .args in
+    answer-appended (a .text .now) _ _ (a .from) (omega (arith, entry .pre .1 .1)) (at-answer .answer .ensures)
 
 pub append-answer-spec : {M : Type 1} → statement M
 append-answer-spec =

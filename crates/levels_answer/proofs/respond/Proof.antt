@@ -13,7 +13,10 @@ serve-requires : tie.Need-serve-requires
 serve-requires c κs = parsed-numbers _ _ _ _ (c .before .before .before .before .before .before .before .before .before .parse .ensures) _ _ (c .before .before .before .before .before .before .letter .given .1)
 
 returns-2 : tie.Need-returns-2
-returns-2 c = line-responds (c .before .before .before .before .before .before .before .before .before .before .before .before .before .before .before .before .before .before .parse .ensures) (omega arith) (c .before .before .before .before .before .before .before .before .before .before .before .before .before .before .before .letter .given .1) (c .before .before .before .before .before .before .before .before .serve .ensures)
+returns-2 c =
+    let at-serve = c .before .before .before .before .before .before .before .before in
+    let at-letter = at-serve .before .before .before .before .before .before .before in let at-parse = at-letter .before .before .before in
+    line-responds (at-parse .parse .ensures) (omega arith) (at-letter .letter .given .1) (at-serve .serve .ensures)
 
 pub respond-spec : {M : Type 1} → statement M
 respond-spec =

@@ -11,10 +11,16 @@ returns-2 : tie.Need-returns-2
 returns-2 c = converted-short _ _ _ (c .before .before .before .before .before .before .pre) _ (c .before .before .before .lacks-row .ensures) (c .before .before .if1 .left) (c .before .lacks-room .ensures) (c .if2 .taken)
 
 write-converted-requires : tie.Need-write-converted-requires
-write-converted-requires c κs = (c .before .before .before .before .before .before .before .pre, converted-room _ _ _ (c .before .before .before .before .before .before .before .pre) (c .before .before .before .before .before .before .before .args .output .now) (c .before .before .before .before .lacks-row .ensures) (c .before .before .before .if1 .left) (c .before .before .lacks-room .ensures) (c .before .if2 .left))
+write-converted-requires c κs =
+    let at-lacks-room = c .before .before in let at-if1 = at-lacks-room .before in let at-lacks-row = at-if1 .before in
+    let entry = at-lacks-row .before .before .before in
+    (entry .pre, converted-room _ _ _ (entry .pre) (entry .args .output .now) (at-lacks-row .lacks-row .ensures) (at-if1 .if1 .left) (at-lacks-room .lacks-room .ensures) (c .before .if2 .left))
 
 returns-3 : tie.Need-returns-3
-returns-3 c = converted-done _ _ _ (c .before .before .before .before .before .before .before .before .before .before .pre) _ (c .before .before .before .before .before .before .before .lacks-row .ensures) (c .before .before .before .before .before .before .if1 .left) (c .before .before .before .before .before .lacks-room .ensures) (c .before .before .before .before .if2 .left) (c .before .before .write-converted .ensures)
+returns-3 c =
+    let at-write-converted = c .before .before in let at-if2 = at-write-converted .before .before in let at-lacks-room = at-if2 .before in
+    let at-if1 = at-lacks-room .before in let at-lacks-row = at-if1 .before in let entry = at-lacks-row .before .before .before in
+    converted-done _ _ _ (entry .pre) _ (at-lacks-row .lacks-row .ensures) (at-if1 .if1 .left) (at-lacks-room .lacks-room .ensures) (at-if2 .if2 .left) (at-write-converted .write-converted .ensures)
 
 pub convert-found-spec : {M : Type 1} → statement M
 convert-found-spec =

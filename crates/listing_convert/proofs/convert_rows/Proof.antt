@@ -31,13 +31,19 @@ convert-row-requires c κs =
     (c .before .before .before .before .before .before .before .before .before .before .before .before .pre .0, (converting-wide _ _ _ _ _ _ _ v e f, omega (arith, converting-room _ _ _ _ _ _ _ v e f)))
 
 add-number : tie.Need-add-number Inv-loop μ-loop
-add-number c = omega (arith, converting-number _ _ _ _ _ _ _ (c .before .before .before .before .before .before .before .before .before .before .loop .inv .0) (c .before .before .before .before .before .before .before .before .before .before .loop .inv .1) (c .before .before .before .before .before .before .before .reread-line .ensures .found), c .before .before .before .before .before .before .before .before .before .before .before .before .before .before .before .pre .1 .1 .1 .1 .0)
+add-number c =
+    let at-reread-line = c .before .before .before .before .before .before .before in let at-loop = at-reread-line .before .before .before in
+    let entry = at-loop .before .before .before .before .before in
+    omega (arith, converting-number _ _ _ _ _ _ _ (at-loop .loop .inv .0) (at-loop .loop .inv .1) (at-reread-line .reread-line .ensures .found), entry .pre .1 .1 .1 .1 .0)
 
 loop-less : tie.Need-loop-less Inv-loop μ-loop
 loop-less c = let f = c .before .before .before .before .before .before .before .reread-line .ensures .found in omega (arith, f .forward, f .inside)
 
 loop-again : tie.Need-loop-again Inv-loop μ-loop
-loop-again c = (converting-more _ _ _ _ _ _ _ (c .before .before .before .before .before .before .before .before .before .before .loop .inv .0) (c .before .before .before .before .before .before .before .before .before .before .loop .inv .1) (c .before .before .before .before .before .before .before .reread-line .ensures .found) (search needs) (search needs) (c .before .before .convert-row .ensures), c .before .before .before .before .before .before .before .before .before .before .loop .inv .1)
+loop-again c =
+    let at-convert-row = c .before .before in let at-reread-line = at-convert-row .before .before .before .before .before in
+    let at-loop = at-reread-line .before .before .before in
+    (converting-more _ _ _ _ _ _ _ (at-loop .loop .inv .0) (at-loop .loop .inv .1) (at-reread-line .reread-line .ensures .found) (search needs) (search needs) (at-convert-row .convert-row .ensures), at-loop .loop .inv .1)
 
 pub convert-rows-spec : {M : Type 1} → statement M
 convert-rows-spec =

@@ -18,10 +18,16 @@ row-fits-requires : tie.Need-row-fits-requires
 row-fits-requires c κs = simp length-take (omega (arith, c .before .before .before .before .line-at .ensures .found (search needs) .wide, lead-below _ _ _ (c .before .before .before .before .before .before .row-width .ensures) (c .before .before .before .before .before .before .before .before .before .pre .0 .0)))
 
 returns-2 : tie.Need-returns-2
-returns-2 c = row-found _ _ _ _ _ _ (c .before .before .before .before .before .before .before .before .before .before .before .pre .1 .0) (rw (c .before .before .before .before .before .before .before .before .row-width .ensures) at (c .before .before .before .before .before .before .line-at .ensures .found (search needs))) (c .before .before .before .before .before .before .before .before .before .before .before .pre .0 .0) (rw (c .before .before .before .before .before .before .before .before .row-width .ensures) at (c .before .row-fits .ensures)) (c .if2 .taken)
+returns-2 c =
+    let at-line-at = c .before .before .before .before .before .before in let at-row-width = at-line-at .before .before in
+    let entry = at-row-width .before .before .before in
+    row-found _ _ _ _ _ _ (entry .pre .1 .0) (rw (at-row-width .row-width .ensures) at (at-line-at .line-at .ensures .found (search needs))) (entry .pre .0 .0) (rw (at-row-width .row-width .ensures) at (c .before .row-fits .ensures)) (c .if2 .taken)
 
 returns-3 : tie.Need-returns-3
-returns-3 c = row-unfit _ _ _ _ _ _ (c .before .before .before .before .before .before .before .before .before .before .before .pre .1 .0) (rw (c .before .before .before .before .before .before .before .before .row-width .ensures) at (c .before .before .before .before .before .before .line-at .ensures .found (search needs))) (rw (c .before .before .before .before .before .before .before .before .row-width .ensures) at (c .before .row-fits .ensures)) (c .if2 .left)
+returns-3 c =
+    let at-line-at = c .before .before .before .before .before .before in let at-row-width = at-line-at .before .before in
+    let entry = at-row-width .before .before .before in
+    row-unfit _ _ _ _ _ _ (entry .pre .1 .0) (rw (at-row-width .row-width .ensures) at (at-line-at .line-at .ensures .found (search needs))) (rw (at-row-width .row-width .ensures) at (c .before .row-fits .ensures)) (c .if2 .left)
 
 pub row-at-spec : {M : Type 1} → statement M
 row-at-spec =

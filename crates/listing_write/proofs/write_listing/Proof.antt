@@ -26,9 +26,11 @@ put-text-requires c κs = (
 
 returns-4 : tie.Need-returns-4
 returns-4 c =
-    let at = c .before .before .before .before .before .before .before .before in
-    written-all _ _ _ _ (sym (at .before .is-outside .ensures) ∙ at .if1 .left) (sym (c .before .before .before .before .before .before .before .is-rows-short .ensures) ∙ c .before .before .before .before .before .before .if2 .left)
-    (omega (arith, c .before .before .before .before .before .text-length .ensures, c .before .before .before .before .if3 .left)) (c .before .before .put-text .ensures)
+    let at-put-text = c .before .before in let at-if3 = at-put-text .before .before in let at-text-length = at-if3 .before in
+    let at-if2 = at-text-length .before in let at-is-rows-short = at-if2 .before in let at-here = at-is-rows-short .before in
+    let at = at-here in
+    written-all _ _ _ _ (sym (at .before .is-outside .ensures) ∙ at .if1 .left) (sym (at-is-rows-short .is-rows-short .ensures) ∙ at-if2 .if2 .left)
+    (omega (arith, at-text-length .text-length .ensures, at-if3 .if3 .left)) (at-put-text .put-text .ensures)
 
 pub write-listing-spec : {M : Type 1} → statement M
 write-listing-spec =

@@ -12,12 +12,18 @@ returns-2 c = finish-kept _ _ _ _ _ _ _ (c .before .before .if1 .left) (sym (c .
 
 compact-rows-requires : tie.Need-compact-rows-requires
 compact-rows-requires c κs =
-    let s = c .before .before .before .before .before .before .before .before .before .before .before .before .before .before .before .before in
-    (lendable-emptied (s .pre), due-left (s .args .m .header .dead) (s .args .m .header .rows) (s .args .m .header .generation) (sym (c .before .before .before .before .before .before .is-due .ensures) ∙ not-false _ (c .before .before .before .before .before .if2 .left)) (omega (arith, c .before .before .before .before .before .before .before .before .before .struct-known .given .0 .1 .1 .1 .1 .1 .1 .1 .1 .1 .0)))
+    let at-if2 = c .before .before .before .before .before in let at-is-due = at-if2 .before in
+    let at-struct-known = at-is-due .before .before .before in
+    let at-here = at-struct-known .before .before .before .before .before .before .before in
+    let s = at-here in
+    (lendable-emptied (s .pre), due-left (s .args .m .header .dead) (s .args .m .header .rows) (s .args .m .header .generation) (sym (at-is-due .is-due .ensures) ∙ not-false _ (at-if2 .if2 .left)) (omega (arith, at-struct-known .struct-known .given .0 .1 .1 .1 .1 .1 .1 .1 .1 .1 .0)))
 
 returns-3 : tie.Need-returns-3
 returns-3 c =
-    finish-compacted _ _ _ _ _ _ _ (c .before .before .before .before .before .before .before .before .before .before .before .before .before .before .before .before .before .before .if1 .left) (sym (c .before .before .before .before .before .before .before .before .before .before .before .before .before .before .before .before .before .is-due .ensures) ∙ not-false _ (c .before .before .before .before .before .before .before .before .before .before .before .before .before .before .before .before .if2 .left)) _ _ _ _ _ _ (c .before .before .before .before .before .before .before .before .before .before .compact-rows .ensures)
+    let at-compact-rows = c .before .before .before .before .before .before .before .before .before .before in
+    let at-if2 = at-compact-rows .before .before .before .before .before .before in let at-is-due = at-if2 .before in
+    let at-if1 = at-is-due .before in
+    finish-compacted _ _ _ _ _ _ _ (at-if1 .if1 .left) (sym (at-is-due .is-due .ensures) ∙ not-false _ (at-if2 .if2 .left)) _ _ _ _ _ _ (at-compact-rows .compact-rows .ensures)
 
 pub finish-spec : {M : Type 1} → statement M
 finish-spec =

@@ -11,12 +11,18 @@ apply-pending-requires c κs =
 
 finish-requires : tie.Need-finish-requires
 finish-requires c κs =
-    merge-lendable _ _ _ _ _ _ _ _ (c .before .before .before .before .before .before .before .before .before .before .before .before .before .before .before .before .merge-refusal .ensures) (c .before .before .before .before .before .before .before .before .before .before .before .before .before .before .before .if1 .left) _ _ _ _ (c .before .before .before .before .before .before .before .before .before .before .before .apply-pending .ensures)
-    (c .before .before .before .before .before .before .before .before .before .before .rows .given) (c .before .before .before .before .before .before .before .before .keys .given) (c .before .before .before .before .before .before .sorts .given)
+    let at-sorts = c .before .before .before .before .before .before in let at-keys = at-sorts .before .before in
+    let at-rows = at-keys .before .before in let at-apply-pending = at-rows .before in
+    let at-if1 = at-apply-pending .before .before .before .before in let at-merge-refusal = at-if1 .before in
+    merge-lendable _ _ _ _ _ _ _ _ (at-merge-refusal .merge-refusal .ensures) (at-if1 .if1 .left) _ _ _ _ (at-apply-pending .apply-pending .ensures)
+    (at-rows .rows .given) (at-keys .keys .given) (at-sorts .sorts .given)
 
 returns-2 : tie.Need-returns-2
 returns-2 c =
-    merge-done _ _ _ _ _ _ _ _ (c .before .before .before .before .before .before .before .before .before .before .before .before .before .before .before .before .before .before .before .before .before .before .before .before .before .before .before .merge-refusal .ensures) (c .before .before .before .before .before .before .before .before .before .before .before .before .before .before .before .before .before .before .before .before .before .before .before .before .before .before .if1 .left) _ _ _ _ (c .before .before .before .before .before .before .before .before .before .before .before .before .before .before .before .before .before .before .before .before .before .before .apply-pending .ensures) _ _ _ _ _ _ (c .before .before .before .before .before .before .before .before .before .before .finish .ensures)
+    let at-finish = c .before .before .before .before .before .before .before .before .before .before in
+    let at-apply-pending = at-finish .before .before .before .before .before .before .before .before .before .before .before .before in
+    let at-if1 = at-apply-pending .before .before .before .before in let at-merge-refusal = at-if1 .before in
+    merge-done _ _ _ _ _ _ _ _ (at-merge-refusal .merge-refusal .ensures) (at-if1 .if1 .left) _ _ _ _ (at-apply-pending .apply-pending .ensures) _ _ _ _ _ _ (at-finish .finish .ensures)
 
 pub merge-spec : {M : Type 1} → statement M
 merge-spec =

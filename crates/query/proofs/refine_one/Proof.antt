@@ -11,8 +11,10 @@ returns-2 c =
 
 returns-3 : tie.Need-returns-3
 returns-3 c =
-    one-answered _ _ _ _ _ _ _ (c .before .before .before .before .before .before .before .before .before .scan-one .ensures) _ _ (c .before .before .before .before .before .if1 .left)
-    (retained-list _ _ _ _ _ _ (c .before .before .before .before .if2 .left) (c .before .before .write-found .ensures .writes _ _ (kept-all _ _ _ _ _ _ _ (c .before .before .before .before .before .before .before .before .before .scan-one .ensures) (c .before .before .before .before .before .if1 .left))))
+    let at-write-found = c .before .before in let at-if2 = at-write-found .before .before in let at-if1 = at-if2 .before in
+    let at-scan-one = at-if1 .before .before .before .before in
+    one-answered _ _ _ _ _ _ _ (at-scan-one .scan-one .ensures) _ _ (at-if1 .if1 .left)
+    (retained-list _ _ _ _ _ _ (at-if2 .if2 .left) (at-write-found .write-found .ensures .writes _ _ (kept-all _ _ _ _ _ _ _ (at-scan-one .scan-one .ensures) (at-if1 .if1 .left))))
 
 pub refine-one-spec : {M : Type 1} → statement M
 refine-one-spec =

@@ -15,7 +15,10 @@ step-requires : tie.Need-step-requires Inv-loop μ-loop
 step-requires c κs = can-step _ (c .before .before .before .before .before .before .before .before .args .rows .now) _ _ _ _ (c .before .before .before .before .before .before .before .before .pre) _ _ (c .before .before .before .before .loop .inv) (c .before .before .if1 .taken) _ (c .before .is-match .ensures)
 
 loop-again : tie.Need-loop-again Inv-loop μ-loop
-loop-again c = stepped _ (c .before .before .before .before .before .before .before .before .before .before .before .args .rows .now) _ _ _ _ (c .before .before .before .before .before .before .before .before .before .before .before .pre) _ _ (c .before .before .before .before .before .before .before .loop .inv) (c .before .before .before .before .before .if1 .taken) _ (c .before .before .before .before .is-match .ensures) _ _ (c .before .before .step .ensures)
+loop-again c =
+    let at-step = c .before .before in let at-is-match = at-step .before .before in let at-if1 = at-is-match .before in
+    let at-loop = at-if1 .before .before in let entry = at-loop .before .before .before .before in
+    stepped _ (entry .args .rows .now) _ _ _ _ (entry .pre) _ _ (at-loop .loop .inv) (at-if1 .if1 .taken) _ (at-is-match .is-match .ensures) _ _ (at-step .step .ensures)
 
 pub retain-spec : {M : Type 1} → statement M
 retain-spec =

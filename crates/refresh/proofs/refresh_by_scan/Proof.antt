@@ -20,15 +20,22 @@ returns c = refused-full _ _ _ _ _ (accepts (c .before .before .before .before .
 
 stage-marked-requires : tie.Need-stage-marked-requires
 stage-marked-requires c κs =
-    let s = c .before .before .before .before .before .before .before .before .before .before .before .before .before .before .before .before .before .before .before in
+    let at-if1 = c .before .before .before .before .before .before in let at-is-overfull = at-if1 .before in
+    let at-mark-mentioning = at-is-overfull .before .before .before .before in
+    let at-here = at-mark-mentioning .before .before .before .before .before .before .before .before in
+    let s = at-here in
     let a = s .args in
-    let free = sym (c .before .before .before .before .before .before .before .is-overfull .ensures) ∙ c .before .before .before .before .before .before .if1 .left in
-    stageable (a .h) (a .rows .now) (a .pending .now) (a .index .now) _ (accepts s) (c .before .before .before .before .before .before .before .before .before .before .before .mark-mentioning .ensures) free
+    let free = sym (at-is-overfull .is-overfull .ensures) ∙ at-if1 .if1 .left in
+    stageable (a .h) (a .rows .now) (a .pending .now) (a .index .now) _ (accepts s) (at-mark-mentioning .mark-mentioning .ensures) free
 
 returns-2 : tie.Need-returns-2
 returns-2 c =
-    let free = sym (c .before .before .before .before .before .before .before .before .before .before .is-overfull .ensures) ∙ c .before .before .before .before .before .before .before .before .before .if1 .left in
-    done _ _ _ _ _ (accepts (c .before .before .before .before .before .before .before .before .before .before .before .before .before .before .before .before .before .before .before .before .before .before)) (c .before .before .before .before .before .before .before .before .before .before .before .before .before .before .mark-mentioning .ensures) free (c .before .before .before .before .before .before .before .catch-up .ensures) (c .before .before .stage-marked .ensures)
+    let at-stage-marked = c .before .before in let at-catch-up = at-stage-marked .before .before .before .before .before in
+    let at-if1 = at-catch-up .before .before in let at-is-overfull = at-if1 .before in
+    let at-mark-mentioning = at-is-overfull .before .before .before .before in
+    let at-here = at-mark-mentioning .before .before .before .before .before .before .before .before in
+    let free = sym (at-is-overfull .is-overfull .ensures) ∙ at-if1 .if1 .left in
+    done _ _ _ _ _ (accepts (at-here)) (at-mark-mentioning .mark-mentioning .ensures) free (at-catch-up .catch-up .ensures) (at-stage-marked .stage-marked .ensures)
 
 pub refresh-by-scan-spec : {M : Type 1} → statement M
 refresh-by-scan-spec =

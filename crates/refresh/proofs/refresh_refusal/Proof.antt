@@ -48,11 +48,17 @@ returns-5 c = rw (inside (c .before .before .before .before .before .before .bef
 
 returns-6 : tie.Need-returns-6
 unfolding earlyRefusal firstRefusal
-returns-6 c = rw (inside (c .before .before .before .before .before .before .before .before .before), rows-long (c .before .before .before .before .before .before .before), columns-few (c .before .before .before .before .before .before), columns-there (c .before .before .before .before), index-long (c .before .before), sym (c .before .is-old .ensures) ∙ c .if6 .taken)
+returns-6 c =
+    let at-here = c .before .before in let at-here-2 = at-here .before .before in let at-here-3 = at-here-2 .before .before in
+    let at-here-4 = at-here-3 .before in let at-here-5 = at-here-4 .before .before in
+    rw (inside (at-here-5), rows-long (at-here-4), columns-few (at-here-3), columns-there (at-here-2), index-long (at-here), sym (c .before .is-old .ensures) ∙ c .if6 .taken)
 
 returns-7 : tie.Need-returns-7
 unfolding earlyRefusal firstRefusal
-returns-7 c = rw (inside (c .before .before .before .before .before .before .before .before .before), rows-long (c .before .before .before .before .before .before .before), columns-few (c .before .before .before .before .before .before), columns-there (c .before .before .before .before), index-long (c .before .before), sym (c .before .is-old .ensures) ∙ c .if6 .left)
+returns-7 c =
+    let at-here = c .before .before in let at-here-2 = at-here .before .before in let at-here-3 = at-here-2 .before .before in
+    let at-here-4 = at-here-3 .before in let at-here-5 = at-here-4 .before .before in
+    rw (inside (at-here-5), rows-long (at-here-4), columns-few (at-here-3), columns-there (at-here-2), index-long (at-here), sym (c .before .is-old .ensures) ∙ c .if6 .left)
 
 pub refresh-refusal-spec : {M : Type 1} → statement M
 refresh-refusal-spec =

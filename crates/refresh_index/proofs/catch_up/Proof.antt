@@ -25,8 +25,11 @@ fill-requires-2 c κs = (fillable-same (fresh-room _ _ _ _ (c .before .before .b
 
 returns-2 : tie.Need-returns-2
 returns-2 c =
-    caught-restarted _ _ _ _ (c .before .before .before .before .before .before .before .before .before .before .before .before .before .before .pre .0) (sym (c .before .before .before .before .before .before .before .before .before .before .before .before .before .before .pre .1) ∙ c .before .before .before .before .before .before .before .before .before .before .if1 .left) _ _ (c .before .index3 .given ∙ c .before .before .before .before .before .index2 .given)
-    (rw (c .before .before .before .before .before .before .before .heads-at .ensures) at (c .before .before .before .before .before .before .empty-buckets .ensures)) (c .before .before .fill2 .ensures)
+    let at-fill2 = c .before .before in let at-index2 = at-fill2 .before .before .before in let at-empty-buckets = at-index2 .before in
+    let at-heads-at = at-empty-buckets .before in let at-if1 = at-heads-at .before .before .before in
+    let entry = at-if1 .before .before .before .before in
+    caught-restarted _ _ _ _ (entry .pre .0) (sym (entry .pre .1) ∙ at-if1 .if1 .left) _ _ (c .before .index3 .given ∙ at-index2 .index2 .given)
+    (rw (at-heads-at .heads-at .ensures) at (at-empty-buckets .empty-buckets .ensures)) (at-fill2 .fill2 .ensures)
 
 pub catch-up-spec : {M : Type 1} → statement M
 catch-up-spec =

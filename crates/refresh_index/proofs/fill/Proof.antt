@@ -35,9 +35,11 @@ same-length c = c .before .index2 .given ∙ c .before .before .before .before .
 
 returns : tie.Need-returns Inv-loop μ-loop
 returns c =
-    let l = c .before .before .before .before .before .before .loop in
-    let e : l .row ≡ c .before .before .before .before .before .before .before .before .before .before .args .h .rows = omega (arith, c .before .before .before .before .if1 .left) in
-    filled _ _ _ _ _ _ _ _ (c .before .before .before .before .before .before .before .before .before .before .pre .0) (l .inv .1) (rw e at (l .inv .2)) (c .before .before .write-front .ensures)
+    let at-write-front = c .before .before in let at-if1 = at-write-front .before .before in let at-loop = at-if1 .before .before in
+    let entry = at-loop .before .before .before .before in
+    let l = at-loop .loop in
+    let e : l .row ≡ entry .args .h .rows = omega (arith, at-if1 .if1 .left) in
+    filled _ _ _ _ _ _ _ _ (entry .pre .0) (l .inv .1) (rw e at (l .inv .2)) (at-write-front .write-front .ensures)
 
 pub fill-spec : {M : Type 1} → statement M
 fill-spec =

@@ -31,11 +31,17 @@ returns-5 c = rw (eq-eqb _ _ (c .before .before .before .before .before .before 
 
 returns-6 : tie.Need-returns-6
 unfolding usable generationSeen columnsNamed rowsSeen
-returns-6 c = rw (eq-eqb _ _ (c .before .before .before .before .before .before .before .before .before .before .before .before .before .if1 .left), eq-eqb _ _ (c .before .before .before .before .before .before .before .before .before .before .if2 .left), eq-eqb _ _ (c .before .before .before .before .before .before .before .before .if3 .left), sym (c .before .before .before .before .before .before .before .same-key .ensures) ∙ not-false _ (c .before .before .before .before .before .before .if4 .left), le-leb _ _ (c .before .before .before .if5 .left), lt-leb _ _ (c .if6 .taken))
+returns-6 c =
+    let at-if5 = c .before .before .before in let at-if4 = at-if5 .before .before .before in let at-same-key = at-if4 .before in
+    let at-if3 = at-same-key .before in let at-if2 = at-if3 .before .before in let at-if1 = at-if2 .before .before .before in
+    rw (eq-eqb _ _ (at-if1 .if1 .left), eq-eqb _ _ (at-if2 .if2 .left), eq-eqb _ _ (at-if3 .if3 .left), sym (at-same-key .same-key .ensures) ∙ not-false _ (at-if4 .if4 .left), le-leb _ _ (at-if5 .if5 .left), lt-leb _ _ (c .if6 .taken))
 
 returns-7 : tie.Need-returns-7
 unfolding usable generationSeen columnsNamed rowsSeen
-returns-7 c = rw (eq-eqb _ _ (c .before .before .before .before .before .before .before .before .before .before .before .before .before .before .if1 .left), eq-eqb _ _ (c .before .before .before .before .before .before .before .before .before .before .before .if2 .left), eq-eqb _ _ (c .before .before .before .before .before .before .before .before .before .if3 .left), sym (c .before .before .before .before .before .before .before .before .same-key .ensures) ∙ not-false _ (c .before .before .before .before .before .before .before .if4 .left), le-leb _ _ (c .before .before .before .before .if5 .left), le-leb _ _ (c .before .if6 .left))
+returns-7 c =
+    let at-if5 = c .before .before .before .before in let at-if4 = at-if5 .before .before .before in let at-same-key = at-if4 .before in
+    let at-if3 = at-same-key .before in let at-if2 = at-if3 .before .before in let at-if1 = at-if2 .before .before .before in
+    rw (eq-eqb _ _ (at-if1 .if1 .left), eq-eqb _ _ (at-if2 .if2 .left), eq-eqb _ _ (at-if3 .if3 .left), sym (at-same-key .same-key .ensures) ∙ not-false _ (at-if4 .if4 .left), le-leb _ _ (at-if5 .if5 .left), le-leb _ _ (c .before .if6 .left))
 
 mul-if6 : tie.Need-mul-if6
 mul-if6 c = omega (arith, sizes (c .before .before .before .before .before .before .before .before .before .before .before .before .before .before .before .before))

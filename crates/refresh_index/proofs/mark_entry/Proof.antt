@@ -29,8 +29,10 @@ returns-2 c =
 returns-3 : tie.Need-returns-3
 unfolding entryValue
 returns-3 c =
-    let s = c .before .before .before .before .before .before .before .before .before .before .before .before in
-    row-led _ _ _ _ _ _ _ _ (live-by _ _ _ (s .args .entry) _ (sizes s .some-columns) (c .before .before .before .before .before .before .before .is-dead .ensures) ∙ ap not (c .before .before .before .before .before .before .if1 .left)) (sym (c .before .before .before .before .before .cell-named .ensures) ∙ c .before .before .before .before .if2 .left) (omega (arith, sizes s, lies s)) (c .before .before .mark .ensures)
+    let at-mark = c .before .before in let at-if2 = at-mark .before .before in let at-cell-named = at-if2 .before in
+    let at-if1 = at-cell-named .before in let at-is-dead = at-if1 .before in let at-here = at-is-dead .before .before .before .before .before in
+    let s = at-here in
+    row-led _ _ _ _ _ _ _ _ (live-by _ _ _ (s .args .entry) _ (sizes s .some-columns) (at-is-dead .is-dead .ensures) ∙ ap not (at-if1 .if1 .left)) (sym (at-cell-named .cell-named .ensures) ∙ at-if2 .if2 .left) (omega (arith, sizes s, lies s)) (at-mark .mark .ensures)
 
 pub mark-entry-spec : {M : Type 1} → statement M
 mark-entry-spec =

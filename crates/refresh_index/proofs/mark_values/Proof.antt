@@ -21,20 +21,26 @@ mark-chain-requires c κs = let s = c .before .before .before .before .before .b
 
 add-marked : tie.Need-add-marked Inv-loop μ-loop
 add-marked c =
-    let s = c .before .before .before .before .before .before .before .before .before .before .before .before .before .before .before .before .before .before in
-    let l = c .before .before .before .before .before .before .before .before .before .before .before .loop in
-    let m = value-new _ _ _ _ (s .args .values .now) (l .i) (c .before .before .before .before .before .before .before .before .before .before .loop-test .taken) (l .inv .3) (c .before .before .mark-chain .ensures) in
-    omega (arith, marks-few m (s .pre .2) (λ w. c .before .before .before .before .before .before .before .before .before .before .before .before .slice-known2 .given w .fits))
+    let at-mark-chain = c .before .before in let at-loop-test = at-mark-chain .before .before .before .before .before .before .before .before in
+    let at-loop = at-loop-test .before in let at-slice-known2 = at-loop .before in
+    let at-here = at-slice-known2 .before .before .before .before .before .before in
+    let s = at-here in
+    let l = at-loop .loop in
+    let m = value-new _ _ _ _ (s .args .values .now) (l .i) (at-loop-test .loop-test .taken) (l .inv .3) (at-mark-chain .mark-chain .ensures) in
+    omega (arith, marks-few m (s .pre .2) (λ w. at-slice-known2 .slice-known2 .given w .fits))
 
 loop-again : tie.Need-loop-again Inv-loop μ-loop
 loop-again c =
-    let s = c .before .before .before .before .before .before .before .before .before .before .before .before .before .before .before .before .before .before in
-    let l = c .before .before .before .before .before .before .before .before .before .before .before .loop in
-    let k = c .before .before .before .before .before .before .before .before .before .before .loop-test .taken in (
+    let at-mark-chain = c .before .before in let at-is-repeated = at-mark-chain .before .before .before .before .before in
+    let at-loop-test = at-is-repeated .before .before .before in let at-loop = at-loop-test .before in
+    let at-here = at-loop .before .before .before .before .before .before .before in
+    let s = at-here in
+    let l = at-loop .loop in
+    let k = at-loop-test .loop-test .taken in (
       omega (arith, k),
       c .before .words .given ∙ l .inv .1,
-      rw (c .before .before .before .before .before .before .before .is-repeated .ensures .1) (noted-on (s .args .values .now) (l .inv .2)),
-      value-new _ _ _ _ (s .args .values .now) (l .i) k (l .inv .3) (c .before .before .mark-chain .ensures),
+      rw (at-is-repeated .is-repeated .ensures .1) (noted-on (s .args .values .now) (l .inv .2)),
+      value-new _ _ _ _ (s .args .values .now) (l .i) k (l .inv .3) (at-mark-chain .mark-chain .ensures),
     )
 
 loop-again-2 : tie.Need-loop-again-2 Inv-loop μ-loop

@@ -34,13 +34,15 @@ push-entry-requires c κs = let a = fits c in let e = c .before .before .before 
 
 loop-again : tie.Need-loop-again Inv-loop μ-loop
 loop-again c =
-    let s = c .before .before .before .before .before .before .before .before .before .before .before in
-    let l = c .before .before .before .before .before .before .loop in (
+    let at-push-entry = c .before .before in let at-cell-named = at-push-entry .before .before in let at-loop-test = at-cell-named .before in
+    let at-loop = at-loop-test .before in let at-heads-at = at-loop .before in let at-here = at-heads-at .before .before .before .before in
+    let s = at-here in
+    let l = at-loop .loop in (
       omega arith,
       c .before .index .given ∙ l .inv .1,
       push-then (l .inv .2)
-          (push-one _ _ _ _ _ (s .pre .0) _ _ (s .pre .1) (c .before .before .before .before .before .loop-test .taken) _ (l .inv .1) _ (c .before .before .before .before .cell-named .ensures) _
-          (rw (c .before .before .before .before .before .before .before .heads-at .ensures) at (c .before .before .push-entry .ensures))),
+          (push-one _ _ _ _ _ (s .pre .0) _ _ (s .pre .1) (at-loop-test .loop-test .taken) _ (l .inv .1) _ (at-cell-named .cell-named .ensures) _
+          (rw (at-heads-at .heads-at .ensures) at (at-push-entry .push-entry .ensures))),
     )
 
 returns : tie.Need-returns Inv-loop μ-loop

@@ -38,7 +38,7 @@ make-calls-spec =
     (λ c. omega (arith, framed (c .before .before))) (λ c. omega (arith, framed (c .before .before))) (λ c. omega (arith, framed (c .before .before))) (λ c. omega (arith, framed (c .before .before)))
     (λ c. omega (arith, framed (c .before .before))) (λ c. omega (arith, framed (c .before .before))) (λ c. omega (arith, framed (c .before .before)))
     (λ c κs. search needs)
-    (λ c. omega (arith, c .before .before .before .before .before .before .before .before .before .before .before .before .before .before .before .before .before .before .before .before .before .before .before .before .before .before .before .before .before .before .before .before .before .before .before .before .before .good .1 .0, framed (c .before .before .before .before .before .before .before .before .before .before .before .before .before .before .before .before .before .before .before .before .before .before .before .before .before)))
+    (λ c. let at-here = c .before .before .before .before .before .before .before .before .before .before .before .before .before .before .before .before .before .before .before .before .before .before .before .before .before in let at-good = at-here .before .before .before .before .before .before .before .before .before .before .before .before in omega (arith, at-good .good .1 .0, framed (at-here)))
     (λ c. omega (arith, framed (c .before .before .before .before .before .before .before .before .before .before .before .before .before .before .before .before .before .before .before .before .before .before .before .before .before)))
     (λ c.
     going-again (c .before .before .before .before .before .before .before .before .before .before .before .before .before .before .before .before .before .before .before .before .before .before .before .before .before .before .before .before .loop .inv) (framed (c .before .before .before .before .before .before .before .before .before .before .before .before .before .before .before .before .before .before .before .before .before .before .before .before .before))

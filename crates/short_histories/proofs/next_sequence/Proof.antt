@@ -16,7 +16,10 @@ write-raised-requires c κs = ((to-raise (c .before .before .before .before .bef
 
 returns-4 : tie.Need-returns-4
 returns-4 c =
-    raised-written _ _ (to-raise (c .before .before .before .before .before .before .before .before .before .is-known .ensures) (c .before .before .before .before .before .before .before .before .if1 .left) (c .before .before .before .before .before .before .before .raised-end .ensures)) _ _ (c .before .before .before .before .before .before .raised-length .ensures) (c .before .before .before .before .before .if2 .left) (c .before .before .before .before .if3 .left) _ (c .before .before .write-raised .ensures)
+    let at-write-raised = c .before .before in let at-if3 = at-write-raised .before .before in let at-if2 = at-if3 .before in
+    let at-raised-length = at-if2 .before in let at-raised-end = at-raised-length .before in let at-if1 = at-raised-end .before in
+    let at-is-known = at-if1 .before in
+    raised-written _ _ (to-raise (at-is-known .is-known .ensures) (at-if1 .if1 .left) (at-raised-end .raised-end .ensures)) _ _ (at-raised-length .raised-length .ensures) (at-if2 .if2 .left) (at-if3 .if3 .left) _ (at-write-raised .write-raised .ensures)
 
 pub next-sequence-spec : {M : Type 1} → statement M
 next-sequence-spec =

@@ -21,9 +21,11 @@ returns-3 c =
 
 returns-4 : tie.Need-returns-4
 returns-4 c =
-    let s = c .before .before .before .before .before .before .before .before .before .before .before .before in
-    read-whole _ _ _ _ _ (c .before .before .before .before .before .before .before .before .kind-words .ensures) (s .pre .0 .most-keys) _ _ (c .before .before .before .before .before .key-place .ensures) (c .before .compact-hash .ensures) (c .if3 .left)
-    (c .before .before .before .before .before .before .before .before .before .if1 .left) (c .before .before .before .before .before .before .if2 .left) (s .pre .1) (s .pre .0 .fits)
+    let at-key-place = c .before .before .before .before .before in let at-if2 = at-key-place .before in let at-kind-words = at-if2 .before .before in
+    let at-if1 = at-kind-words .before in let at-here = at-if1 .before .before .before in
+    let s = at-here in
+    read-whole _ _ _ _ _ (at-kind-words .kind-words .ensures) (s .pre .0 .most-keys) _ _ (at-key-place .key-place .ensures) (c .before .compact-hash .ensures) (c .if3 .left)
+    (at-if1 .if1 .left) (at-if2 .if2 .left) (s .pre .1) (s .pre .0 .fits)
 
 pub record-words-spec : {M : Type 1} → statement M
 record-words-spec =

@@ -35,13 +35,20 @@ slice-write-base : tie.Need-slice-write-base Inv-loop μ-loop
 slice-write-base c = words-in (c .before .before .before .before .before .before .before .before .before .before .before .before .before .pre) (c .before .before .before .before .before .before .before .before .loop .inv) (c .before .before .before .before .before .before .if1 .taken) _ (c .before .before .before .before .block .ensures) .1
 
 keep-block-requires : tie.Need-keep-block-requires Inv-loop μ-loop
-keep-block-requires c κs = the-block (c .before .before .before .before .before .before .before .before .before .before .before .before .before .before .before .pre) (c .before .before .before .before .before .before .before .before .before .before .loop .inv) (c .before .before .before .before .before .before .before .before .if1 .taken) _ (c .before .before .before .before .before .before .block .ensures) _ (c .before .before .different-bits .ensures)
+keep-block-requires c κs =
+    let at-different-bits = c .before .before in let at-block = at-different-bits .before .before .before .before in
+    let at-if1 = at-block .before .before in let at-loop = at-if1 .before .before in let entry = at-loop .before .before .before .before .before in
+    the-block (entry .pre) (at-loop .loop .inv) (at-if1 .if1 .taken) _ (at-block .block .ensures) _ (at-different-bits .different-bits .ensures)
 
 loop-less : tie.Need-loop-less Inv-loop μ-loop
 loop-less c = omega (arith, c .before .before .before .before .before .before .before .before .before .before .before .block .ensures, c .before .before .before .before .before .before .before .before .before .before .before .before .before .if1 .taken)
 
 loop-again : tie.Need-loop-again Inv-loop μ-loop
-loop-again c = iteration-on (c .before .before .before .before .before .before .before .before .before .before .before .before .before .before .before .before .before .before .before .before .pre) (c .before .before .before .before .before .before .before .before .before .before .before .before .before .before .before .loop .inv) (c .before .before .before .before .before .before .before .before .before .before .before .before .before .if1 .taken) _ (c .before .before .before .before .before .before .before .before .before .before .before .block .ensures) _ (c .before .before .before .before .before .before .before .different-bits .ensures) (c .before .before .before .before .keep-block .ensures)
+loop-again c =
+    let at-keep-block = c .before .before .before .before in let at-different-bits = at-keep-block .before .before .before in
+    let at-block = at-different-bits .before .before .before .before in let at-if1 = at-block .before .before in
+    let at-loop = at-if1 .before .before in let entry = at-loop .before .before .before .before .before in
+    iteration-on (entry .pre) (at-loop .loop .inv) (at-if1 .if1 .taken) _ (at-block .block .ensures) _ (at-different-bits .different-bits .ensures) (at-keep-block .keep-block .ensures)
 
 same-length : tie.Need-same-length Inv-loop μ-loop
 same-length c = c .before .before .loop .inv .closing .rows-same

@@ -18,7 +18,9 @@ compact-rows-requires c κs = compact-lendable _ _ _ _ _ _ _ (c .before .before 
 
 returns-3 : tie.Need-returns-3
 returns-3 c =
-    compact-done _ _ _ _ _ _ _ (c .before .before .before .before .before .before .before .before .before .before .before .before .before .before .before .before .before .before .before .compact-refusal .ensures) (c .before .before .before .before .before .before .before .before .before .before .before .before .before .before .before .before .before .before .if1 .left) _ _ _ _ _ _ (c .before .before .before .before .before .before .before .before .before .before .compact-rows .ensures)
+    let at-compact-rows = c .before .before .before .before .before .before .before .before .before .before in
+    let at-if1 = at-compact-rows .before .before .before .before .before .before .before .before in let at-compact-refusal = at-if1 .before in
+    compact-done _ _ _ _ _ _ _ (at-compact-refusal .compact-refusal .ensures) (at-if1 .if1 .left) _ _ _ _ _ _ (at-compact-rows .compact-rows .ensures)
 
 pub compact-spec : {M : Type 1} → statement M
 compact-spec =

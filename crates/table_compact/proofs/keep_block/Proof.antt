@@ -26,8 +26,10 @@ keep-row-requires c κs = let b = c .before .before .before .before .before .bef
 
 add-kept : tie.Need-add-kept Inv-loop μ-loop
 add-kept c =
-    let b = c .before .before .before .before .before .before .before .before .before .before .before .before .pre in
-    omega (arith, going-keep b (c .before .before .before .before .before .before .before .before .before .loop .inv b) (c .before .before .before .before .before .before .before .before .loop-test .taken) .moves-down, row-in-block b (c .before .before .before .before .before .before .before .before .before .loop .inv b) (c .before .before .before .before .before .before .before .before .loop-test .taken), b .movable .within .count, b .movable .within .most)
+    let at-loop-test = c .before .before .before .before .before .before .before .before in let at-loop = at-loop-test .before in
+    let entry = at-loop .before .before .before in
+    let b = entry .pre in
+    omega (arith, going-keep b (at-loop .loop .inv b) (at-loop-test .loop-test .taken) .moves-down, row-in-block b (at-loop .loop .inv b) (at-loop-test .loop-test .taken), b .movable .within .count, b .movable .within .most)
 
 loop-less : tie.Need-loop-less Inv-loop μ-loop
 loop-less c = let w = c .before .before .before .before .before .before .before .before .before .loop .word in omega (arith, and-le-r w (w - 1), c .before .before .before .before .before .before .before .before .loop-test .taken)

@@ -20,7 +20,9 @@ mul-append-entry : tie.Need-mul-append-entry
 mul-append-entry c = omega (arith, from-place (c .before .before .before .before .before .before .before .before .before .before .before .before .pre), to-place (c .before .before .before .before .before .before .before .before .before .before .before .before .pre))
 
 slice-read-append-entry : tie.Need-slice-read-append-entry
-slice-read-append-entry c = omega (arith, from-place (c .before .before .before .before .before .before .before .before .before .before .before .before .before .pre), to-place (c .before .before .before .before .before .before .before .before .before .before .before .before .before .pre), c .before .before .before .before .before .before .before .before .before .before .before .before .before .pre .sort-column)
+slice-read-append-entry c =
+    let entry = c .before .before .before .before .before .before .before .before .before .before .before .before .before in
+    omega (arith, from-place (entry .pre), to-place (entry .pre), entry .pre .sort-column)
 
 returns : tie.Need-returns
 returns c = row-kept (c .before .before .before .before .before .before .before .before .before .before .before .before .before .before .before .before .pre) _ _ _ (c .before .before .before .before .before .before .before .before .move-down .ensures) (c .before .before .append-entry .ensures)

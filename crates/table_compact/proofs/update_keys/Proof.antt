@@ -8,13 +8,19 @@ rebuild-requires : tie.Need-rebuild-requires
 rebuild-requires c κs = lead-fits _ (c .before .before .before .before .index-shape2 .ensures) (c .before .before .before .before .before .before .before .before .before .before .pre .2)
 
 returns : tie.Need-returns
-returns c = let a = c .before .before .before .before .before .before .before .before .before .before .before .before .before .args in led-rebuilt (a .h) (a .n) _ (c .before .before .before .before .before .before .before .before .index-shape .ensures) _ (c .before .before .before .before .before .before .before .index-shape2 .ensures) (c .before .before .before .before .if1 .taken) (c .before .before .rebuild .ensures)
+returns c =
+    let at-rebuild = c .before .before in let at-if1 = at-rebuild .before .before in let at-index-shape2 = at-if1 .before .before .before in
+    let at-index-shape = at-index-shape2 .before in let entry = at-index-shape .before .before .before .before .before in
+    let a = entry .args in led-rebuilt (a .h) (a .n) _ (at-index-shape .index-shape .ensures) _ (at-index-shape2 .index-shape2 .ensures) (at-if1 .if1 .taken) (at-rebuild .rebuild .ensures)
 
 renumber-requires : tie.Need-renumber-requires
 renumber-requires c κs = lead-ranked _ (c .before .before .before .before .before .index-shape .ensures) (c .before .before .before .before .before .before .before .before .before .before .pre .0) (c .before .before .before .before .before .before .before .before .before .before .pre .1)
 
 returns-2 : tie.Need-returns-2
-returns-2 c = let a = c .before .before .before .before .before .before .before .before .before .before .before .before .before .args in led-renumbered (a .h) (a .n) _ (c .before .before .before .before .before .before .before .before .index-shape .ensures) _ (c .before .before .before .before .before .before .before .index-shape2 .ensures) (c .before .before .before .before .if1 .left) (c .before .before .renumber .ensures)
+returns-2 c =
+    let at-renumber = c .before .before in let at-if1 = at-renumber .before .before in let at-index-shape2 = at-if1 .before .before .before in
+    let at-index-shape = at-index-shape2 .before in let entry = at-index-shape .before .before .before .before .before in
+    let a = entry .args in led-renumbered (a .h) (a .n) _ (at-index-shape .index-shape .ensures) _ (at-index-shape2 .index-shape2 .ensures) (at-if1 .if1 .left) (at-renumber .renumber .ensures)
 
 pub update-keys-spec : {M : Type 1} → statement M
 update-keys-spec =

@@ -27,14 +27,18 @@ empty-requires c κs =
 
 add-n : tie.Need-add-n
 add-n c =
-    let a = c .before .before .before .before .before .before .before .before .before .before .before .args in
-    let k = clear-accepted (a .h) (length (a .keys .now)) (sym (c .before .before .before .before .before .before .before .before .before .clear-refusal .ensures) ∙ c .before .before .before .before .before .before .before .before .if1 .left) in
-    omega (arith, next-fits (a .h .generation) (a .h .rows) (omega (arith, c .struct-known2 .given)) (k .last-empty) (omega (arith, c .before .before .before .before .before .before .if2 .left)))
+    let at-if2 = c .before .before .before .before .before .before in let at-if1 = at-if2 .before .before in let at-clear-refusal = at-if1 .before in
+    let entry = at-clear-refusal .before .before in
+    let a = entry .args in
+    let k = clear-accepted (a .h) (length (a .keys .now)) (sym (at-clear-refusal .clear-refusal .ensures) ∙ at-if1 .if1 .left) in
+    omega (arith, next-fits (a .h .generation) (a .h .rows) (omega (arith, c .struct-known2 .given)) (k .last-empty) (omega (arith, at-if2 .if2 .left)))
 
 returns-3 : tie.Need-returns-3
 returns-3 c =
-    let a = c .before .before .before .before .before .before .before .before .before .before .before .args in
-    clear-all (a .h) (a .keys .now) _ (sym (c .before .before .before .before .before .before .before .before .before .clear-refusal .ensures) ∙ c .before .before .before .before .before .before .before .before .if1 .left) (omega (arith, c .before .before .before .before .before .before .if2 .left)) (rw (c .before .before .before .before .before .size-class-for .ensures) at (c .before .before .before .empty .ensures))
+    let at-empty = c .before .before .before in let at-size-class-for = at-empty .before .before in let at-if2 = at-size-class-for .before in
+    let at-if1 = at-if2 .before .before in let at-clear-refusal = at-if1 .before in let entry = at-clear-refusal .before .before in
+    let a = entry .args in
+    clear-all (a .h) (a .keys .now) _ (sym (at-clear-refusal .clear-refusal .ensures) ∙ at-if1 .if1 .left) (omega (arith, at-if2 .if2 .left)) (rw (at-size-class-for .size-class-for .ensures) at (at-empty .empty .ensures))
 
 pub clear-spec : {M : Type 1} → statement M
 clear-spec =

@@ -20,7 +20,10 @@ returns-2 : tie.Need-returns-2
 returns-2 c = cell-none _ _ _ _ _ _ _ (c .before .before .before .before .index-shape .ensures) (c .before .before .before .compact-hash .ensures) (c .before .before .look-up .ensures) _ _ (c .before .before .before .before .before .before .cell-refusal .ensures) (c .before .before .before .before .before .if1 .left) (c .enum-told .given .1)
 
 returns-3 : tie.Need-returns-3
-returns-3 c = cell-found _ _ _ _ _ _ _ (c .before .before .before .before .before .before .before .index-shape .ensures) (c .before .before .before .before .before .before .compact-hash .ensures) (c .before .before .before .before .before .look-up .ensures) _ _ (c .before .before .before .before .before .before .before .before .before .cell-refusal .ensures) (c .before .before .before .before .before .before .before .before .if1 .left) _ _ (c .before .before .before .found .given .1)
+returns-3 c =
+    let at-found = c .before .before .before in let at-look-up = at-found .before .before in let at-compact-hash = at-look-up .before in
+    let at-index-shape = at-compact-hash .before in let at-if1 = at-index-shape .before in let at-cell-refusal = at-if1 .before in
+    cell-found _ _ _ _ _ _ _ (at-index-shape .index-shape .ensures) (at-compact-hash .compact-hash .ensures) (at-look-up .look-up .ensures) _ _ (at-cell-refusal .cell-refusal .ensures) (at-if1 .if1 .left) _ _ (at-found .found .given .1)
 
 pub get-row-column-spec : {M : Type 1} → statement M
 get-row-column-spec =

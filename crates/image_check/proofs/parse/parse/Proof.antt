@@ -14,8 +14,11 @@ returns-5 c =
 
 returns-6 : tie.Need-returns-6
 returns-6 c =
-    parsed-whole _ _ (c .before .before .before .before .before .before .before .header-in .ensures) _ (c .before .before .layout-for .ensures) (c .before .before .before .before .before .before .before .before .before .before .if1 .left) (c .before .before .before .before .before .before .before .before .before .is-marked .ensures .yes (not-false _ (c .before .before .before .before .before .before .before .before .if2 .left)))
-    (sym (c .before .before .before .before .before .before .is-outside .ensures) ∙ c .before .before .before .before .before .if3 .left) (c .before .before .before .if4 .left) (c .before .is-whole .ensures .yes (not-false _ (c .if5 .left)))
+    let at-layout-for = c .before .before in let at-if4 = at-layout-for .before in let at-if3 = at-if4 .before .before in
+    let at-is-outside = at-if3 .before in let at-header-in = at-is-outside .before in let at-if2 = at-header-in .before in
+    let at-is-marked = at-if2 .before in let at-if1 = at-is-marked .before in
+    parsed-whole _ _ (at-header-in .header-in .ensures) _ (at-layout-for .layout-for .ensures) (at-if1 .if1 .left) (at-is-marked .is-marked .ensures .yes (not-false _ (at-if2 .if2 .left)))
+    (sym (at-is-outside .is-outside .ensures) ∙ at-if3 .if3 .left) (at-if4 .if4 .left) (c .before .is-whole .ensures .yes (not-false _ (c .if5 .left)))
 
 pub parse-spec : {M : Type 1} → statement M
 parse-spec =

@@ -21,11 +21,14 @@ home-away-requires c κs =
 
 loop-again : tie.Need-loop-again Inv-loop μ-loop
 loop-again c =
-    let l = c .before .before .before .before .before .before .before .before .before in
+    let at-select = c .before .before in let at-home-away = at-select .before in let at-if1 = at-home-away .before in
+    let at-names-row = at-if1 .before in let at-next-slot = at-names-row .before .before in let at-loop-test = at-next-slot .before in
+    let at-here = at-loop-test .before in
+    let l = at-here in
     let f = l .before .before .before .before .before .pre .0 in
-    turn _ _ _ _ _ _ _ _ _ _ (l .loop .inv) _ (c .before .before .before .before .before .before .before .next-slot .ensures) (omega (arith, c .before .before .before .before .before .before .before .before .loop-test .taken)) (f .long)
-    (sym (c .before .before .before .before .before .names-row .ensures) ∙ not-false _ (c .before .before .before .before .if1 .left)) _ _ _ _ (c .before .before .before .home-away .ensures)
-    (c .before .before .select .ensures) (c .before .select2 .ensures) (c .select3 .ensures)
+    turn _ _ _ _ _ _ _ _ _ _ (l .loop .inv) _ (at-next-slot .next-slot .ensures) (omega (arith, at-loop-test .loop-test .taken)) (f .long)
+    (sym (at-names-row .names-row .ensures) ∙ not-false _ (at-if1 .if1 .left)) _ _ _ _ (at-home-away .home-away .ensures)
+    (at-select .select .ensures) (c .before .select2 .ensures) (c .select3 .ensures)
 
 pub close-hole-spec : {M : Type 1} → statement M
 close-hole-spec =

@@ -7,7 +7,10 @@ open-table-requires : tie.Need-open-table-requires
 open-table-requires c κs = form-open _ _ (c .before .before .before .if1 .taken) (c .before .before .before .before .before .before .before .before .before .pre .0)
 
 returns-3 : tie.Need-returns-3
-returns-3 c = as-letter (compact-letter (c .before .before .before .before .before .before .before .before .before .before .before .before .before .before .before .before .before .pre .1) (c .before .before .before .before .before .before .before .before .before .before .before .if1 .left) (c .before .before .before .before .before .before .before .before .before .before .if2 .left)) (c .before .before .before .before .before .before .compact .ensures .serving _ _)
+returns-3 c =
+    let at-compact = c .before .before .before .before .before .before in let at-if2 = at-compact .before .before .before .before in
+    let at-if1 = at-if2 .before in let entry = at-if1 .before .before .before .before .before .before in
+    as-letter (compact-letter (entry .pre .1) (at-if1 .if1 .left) (at-if2 .if2 .left)) (at-compact .compact .ensures .serving _ _)
 
 pub remake-spec : {M : Type 1} → statement M
 remake-spec =

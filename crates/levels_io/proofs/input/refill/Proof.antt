@@ -6,7 +6,8 @@ use Rattle.levels_io.proofs.input.refill.Tie as tie
 
 returns : tie.Need-returns
 returns c =
-    refilled (c .before .before .before .before .before .before .before .before .args .chunk .now) (c .before .before .before .before .before .before .before .before .args .input) _ _ (c .before .before .before .before .before .before .before .before .pre .0) (search needs) (rw (toZ-ofZ (record { sfits = c .before .before .before .before .before .read .ok })) (c .before .before .before .before .before .read .ensures)) (c .before .count .ensures .1) (c .before .count .ensures .0 .0) (omega (arith, c .before .before .before .before .before .before .before .before .pre .1))
+    let at-count = c .before in let at-read = at-count .before .before .before .before in let entry = at-read .before .before .before in
+    refilled (entry .args .chunk .now) (entry .args .input) _ _ (entry .pre .0) (search needs) (rw (toZ-ofZ (record { sfits = at-read .read .ok })) (at-read .read .ensures)) (at-count .count .ensures .1) (at-count .count .ensures .0 .0) (omega (arith, entry .pre .1))
 
 pub refill-spec : {M : Type 1} → statement M
 refill-spec =

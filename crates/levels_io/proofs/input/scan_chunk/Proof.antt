@@ -23,7 +23,10 @@ push-requires : tie.Need-push-requires Inv-loop μ-loop
 push-requires c κs = omega (arith, c .before .before .before .before .loop .inv .inside, c .before .before .before .before .loop .inv .same-length)
 
 loop-again : tie.Need-loop-again Inv-loop μ-loop
-loop-again c = scanning-again _ _ (c .before .before .before .before .before .before .before .loop .inv) (c .before .before .before .before .before .before .loop-test .taken) (c .before .before .before .before .before .before .before .before .before .before .pre .1 .1) (c .before .before .before .before .if1 .left) (c .before .line .given) (c .before .before .push .ensures)
+loop-again c =
+    let at-push = c .before .before in let at-if1 = at-push .before .before in let at-loop-test = at-if1 .before .before in
+    let at-loop = at-loop-test .before in let entry = at-loop .before .before .before in
+    scanning-again _ _ (at-loop .loop .inv) (at-loop-test .loop-test .taken) (entry .pre .1 .1) (at-if1 .if1 .left) (c .before .line .given) (at-push .push .ensures)
 
 same-length-2 : tie.Need-same-length-2 Inv-loop μ-loop
 same-length-2 c = c .before .loop .inv .same-length

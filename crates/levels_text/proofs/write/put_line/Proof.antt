@@ -11,7 +11,9 @@ put-numbers-requires c κs = omega (arith, length-line (c .before .before .befor
 
 put-requires-2 : tie.Need-put-requires-2
 put-requires-2 c κs =
-    omega (arith, c .before .before .before .put-numbers .ensures .counted, c .before .before .before .before .before .before .before .put .ensures .counted, length-line (c .before .before .before .before .before .before .before .before .before .before .before .args .letter) (c .before .before .before .before .before .before .before .before .before .before .before .args .numbers .now), c .before .before .before .before .before .before .before .before .before .before .before .pre)
+    let at-put-numbers = c .before .before .before in let at-put = at-put-numbers .before .before .before .before in
+    let entry = at-put .before .before .before .before in
+    omega (arith, at-put-numbers .put-numbers .ensures .counted, at-put .put .ensures .counted, length-line (entry .args .letter) (entry .args .numbers .now), entry .pre)
 
 returns : tie.Need-returns
 returns c = appended-line _ (c .before .before .before .before .before .before .before .before .before .before .put .ensures) (c .before .before .before .before .before .before .put-numbers .ensures) (c .before .before .put2 .ensures)

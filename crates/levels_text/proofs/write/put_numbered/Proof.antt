@@ -20,8 +20,10 @@ put-numbers-requires c κs =
 
 put-requires-2 : tie.Need-put-requires-2
 put-requires-2 c κs =
-    let at = c .before .before .before .before .before .before .before .before .before .before .before .before .before .before .before in
-    omega (arith, length-numbered (at .args .letter) (at .args .number) (at .args .numbers .now), at .pre, c .before .before .before .before .before .before .before .before .before .before .before .put .ensures .counted, c .before .before .before .before .before .before .before .put-number .ensures .counted, c .before .before .before .put-numbers .ensures .counted)
+    let at-put-numbers = c .before .before .before in let at-put-number = at-put-numbers .before .before .before .before in
+    let at-put = at-put-number .before .before .before .before in let at-here = at-put .before .before .before .before in
+    let at = at-here in
+    omega (arith, length-numbered (at .args .letter) (at .args .number) (at .args .numbers .now), at .pre, at-put .put .ensures .counted, at-put-number .put-number .ensures .counted, at-put-numbers .put-numbers .ensures .counted)
 
 returns : tie.Need-returns
 returns c = appended-numbered _ _ (c .before .before .before .before .before .before .before .before .before .before .before .before .before .before .put .ensures) (c .before .before .before .before .before .before .before .before .before .before .put-number .ensures) (c .before .before .before .before .before .before .put-numbers .ensures) (c .before .before .put2 .ensures)

@@ -8,13 +8,21 @@ enters : (c : tie.After-entries) → let a = c .before .before .before .before .
 enters c = entering (c .before .before .before .before .before .before .before .before .before .before .before .before .pre) (entered-of _ _ _ _ _ (c .before .before .before .before .admit .ensures) _ (c .entries .given .1) .room)
 
 returns : tie.Need-returns
-returns c = grew-rebuilt _ _ _ _ _ _ _ _ (entered-of _ _ _ _ _ (c .before .before .before .before .before .before .before .before .before .before .before .before .before .before .before .before .before .admit .ensures) _ (c .before .before .before .before .before .before .before .before .before .before .before .before .before .entries .given .1)) _ _ (c .before .keys .given) (c .before .before .before .before .before .before .before .before .before .write-row .ensures) (sym (c .before .before .before .before .before .before .is-outgrown .ensures) ∙ c .before .before .before .before .before .if1 .taken) _ (c .before .before .rebuild-grown .ensures)
+returns c =
+    let at-rebuild-grown = c .before .before in let at-if1 = at-rebuild-grown .before .before .before in let at-is-outgrown = at-if1 .before in
+    let at-write-row = at-is-outgrown .before .before .before in let at-entries = at-write-row .before .before .before .before in
+    let at-admit = at-entries .before .before .before .before in
+    grew-rebuilt _ _ _ _ _ _ _ _ (entered-of _ _ _ _ _ (at-admit .admit .ensures) _ (at-entries .entries .given .1)) _ _ (c .before .keys .given) (at-write-row .write-row .ensures) (sym (at-is-outgrown .is-outgrown .ensures) ∙ at-if1 .if1 .taken) _ (at-rebuild-grown .rebuild-grown .ensures)
 
 returns-2 : tie.Need-returns-2
 returns-2 c = stayed-of _ _ _ _ _ _ _ (stop-of _ _ _ _ _ (c .before .before .before .before .before .admit .ensures) _ (c .before .number .given .1))
 
 returns-3 : tie.Need-returns-3
-returns-3 c = grew-stepped _ _ _ _ _ _ _ _ (entered-of _ _ _ _ _ (c .before .before .before .before .before .before .before .before .before .before .before .before .before .before .before .before .before .before .admit .ensures) _ (c .before .before .before .before .before .before .before .before .before .before .before .before .before .before .entries .given .1)) _ _ (c .before .before .keys2 .given) (c .before .before .before .before .before .before .before .before .before .before .write-row .ensures) (sym (c .before .before .before .before .before .before .before .is-outgrown .ensures) ∙ c .before .before .before .before .before .before .if1 .left) _ (c .before .before .before .before .before .index-shape .ensures) _ (c .before .before .before .put .ensures) _ (c .grown .ensures)
+returns-3 c =
+    let at-keys2 = c .before .before in let at-put = at-keys2 .before in let at-index-shape = at-put .before .before in
+    let at-if1 = at-index-shape .before in let at-is-outgrown = at-if1 .before in let at-write-row = at-is-outgrown .before .before .before in
+    let at-entries = at-write-row .before .before .before .before in let at-admit = at-entries .before .before .before .before in
+    grew-stepped _ _ _ _ _ _ _ _ (entered-of _ _ _ _ _ (at-admit .admit .ensures) _ (at-entries .entries .given .1)) _ _ (at-keys2 .keys2 .given) (at-write-row .write-row .ensures) (sym (at-is-outgrown .is-outgrown .ensures) ∙ at-if1 .if1 .left) _ (at-index-shape .index-shape .ensures) _ (at-put .put .ensures) _ (c .grown .ensures)
 
 pub insert-new-spec : {M : Type 1} → statement M
 insert-new-spec =

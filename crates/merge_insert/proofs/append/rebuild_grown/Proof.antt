@@ -9,9 +9,11 @@ rebuild-requires c κs = let s = c .before .before .before .before .before in re
 
 returns : tie.Need-returns
 returns c =
+    let at-rebuild = c .before .before in let at-index-shape = at-rebuild .before .before in let at-grown = at-index-shape .before in
+    let entry = at-grown .before .before .before in
     record {
-      answer = ap Appended (c .before .before .before .before .before .grown .ensures);
-      rebuilt = rebuilt-grown (c .before .before .before .before .before .before .before .before .args .h) _ _ _ _ _ _ (c .before .before .before .before .before .grown .result) (c .before .before .before .before .before .grown .ensures) _ (c .before .before .before .before .index-shape .ensures) (c .before .before .rebuild .ensures);
+      answer = ap Appended (at-grown .grown .ensures);
+      rebuilt = rebuilt-grown (entry .args .h) _ _ _ _ _ _ (at-grown .grown .result) (at-grown .grown .ensures) _ (at-index-shape .index-shape .ensures) (at-rebuild .rebuild .ensures);
     }
 
 pub rebuild-grown-spec : {M : Type 1} → statement M

@@ -18,21 +18,30 @@ write-row-requires c κs =
 
 returns : tie.Need-returns
 returns c =
-    let a = c .before .before .before .before .before .before .before .before .before .before .before .before .before .before .before .before .before .before .before .before .before .before .before .before .before .before .before .before .before .before .args in
-    replaced-rebuilt _ _ _ _ _ _ _ _ (entered-of _ _ _ _ _ (c .before .before .before .before .before .before .before .before .before .before .before .before .before .before .before .before .before .before .before .before .before .before .admit .ensures) _ (c .before .before .before .before .before .before .before .before .before .before .before .before .before .before .before .before .before .before .entries .given .1)) _ _ (c .before .keys .given) (a .old) (a .slot)
-    (c .before .before .before .before .before .before .before .before .before .write-row .ensures ∙ ap (λ (l : List ℕ). splice l (a .h .rows * a .h .columns) (a .cells .now)) (c .before .before .before .before .before .before .before .before .before .before .before .before .before .before .set-stale .ensures .cells))
-    (sym (c .before .before .before .before .before .before .is-outgrown .ensures) ∙ c .before .before .before .before .before .if1 .taken) _ (c .before .before .rebuild-grown .ensures)
+    let at-rebuild-grown = c .before .before in let at-if1 = at-rebuild-grown .before .before .before in let at-is-outgrown = at-if1 .before in
+    let at-write-row = at-is-outgrown .before .before .before in let at-set-stale = at-write-row .before .before .before .before .before in
+    let at-entries = at-set-stale .before .before .before .before in let at-admit = at-entries .before .before .before .before in
+    let entry = at-admit .before .before .before .before .before .before .before .before in
+    let a = entry .args in
+    replaced-rebuilt _ _ _ _ _ _ _ _ (entered-of _ _ _ _ _ (at-admit .admit .ensures) _ (at-entries .entries .given .1)) _ _ (c .before .keys .given) (a .old) (a .slot)
+    (at-write-row .write-row .ensures ∙ ap (λ (l : List ℕ). splice l (a .h .rows * a .h .columns) (a .cells .now)) (at-set-stale .set-stale .ensures .cells))
+    (sym (at-is-outgrown .is-outgrown .ensures) ∙ at-if1 .if1 .taken) _ (at-rebuild-grown .rebuild-grown .ensures)
 
 returns-2 : tie.Need-returns-2
 returns-2 c = stayed-of _ _ _ _ _ _ _ (stop-of _ _ _ _ _ (c .before .before .before .before .before .admit .ensures) _ (c .before .number .given .1))
 
 returns-3 : tie.Need-returns-3
 returns-3 c =
-    let s = c .before .before .before .before .before .before .before .before .before .before .before .before .before .before .before .before .before .before .before .before .before .before .before .before .before .before .before .before .before .before in
+    let at-keys2 = c .before .before in let at-replace = at-keys2 .before in let at-if1 = at-replace .before .before in
+    let at-is-outgrown = at-if1 .before in let at-write-row = at-is-outgrown .before .before .before in
+    let at-set-stale = at-write-row .before .before .before .before .before in let at-entries = at-set-stale .before .before .before .before in
+    let at-admit = at-entries .before .before .before .before in
+    let at-here = at-admit .before .before .before .before .before .before .before .before in
+    let s = at-here in
     let a = s .args in
-    replaced-stepped _ _ _ _ _ _ _ _ (entered-of _ _ _ _ _ (c .before .before .before .before .before .before .before .before .before .before .before .before .before .before .before .before .before .before .before .before .before .before .admit .ensures) _ (c .before .before .before .before .before .before .before .before .before .before .before .before .before .before .before .before .before .before .entries .given .1)) _ _ (c .before .before .keys2 .given) (a .old) (a .slot)
-    (c .before .before .before .before .before .before .before .before .before .write-row .ensures ∙ ap (λ (l : List ℕ). splice l (a .h .rows * a .h .columns) (a .cells .now)) (c .before .before .before .before .before .before .before .before .before .before .before .before .before .before .set-stale .ensures .cells))
-    (sym (c .before .before .before .before .before .before .is-outgrown .ensures) ∙ c .before .before .before .before .before .if1 .left) (s .pre .2) (c .before .before .before .replace .ensures) _ (c .grown .ensures)
+    replaced-stepped _ _ _ _ _ _ _ _ (entered-of _ _ _ _ _ (at-admit .admit .ensures) _ (at-entries .entries .given .1)) _ _ (at-keys2 .keys2 .given) (a .old) (a .slot)
+    (at-write-row .write-row .ensures ∙ ap (λ (l : List ℕ). splice l (a .h .rows * a .h .columns) (a .cells .now)) (at-set-stale .set-stale .ensures .cells))
+    (sym (at-is-outgrown .is-outgrown .ensures) ∙ at-if1 .if1 .left) (s .pre .2) (at-replace .replace .ensures) _ (c .grown .ensures)
 
 pub replace-row-spec : {M : Type 1} → statement M
 replace-row-spec =

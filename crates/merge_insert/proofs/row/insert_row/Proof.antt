@@ -22,24 +22,35 @@ insert-new-requires c κs =
 
 insert-known-requires : tie.Need-insert-known-requires
 insert-known-requires c κs =
-    let p = c .before .before .before .before .before .before .before .before .before .before .before .before .before .before .before .before .before .before .before .pre in
-    let k = c .before .before .before .before .before .before .before .before .before .index-shape .ensures in
-    let f = c .before .before .before .before .before .before .look-up .ensures in
-    (p .0, p .1, found-row _ _ _ _ _ _ _ (p .0) (p .1) _ k _ f _ _ (c .before .before .before .before .old .given .1), found-slot _ _ _ _ _ _ _ (p .0) (p .1) _ k _ f _ _ (c .before .before .before .before .old .given .1))
+    let at-old = c .before .before .before .before in let at-look-up = at-old .before .before in
+    let at-index-shape = at-look-up .before .before .before in
+    let entry = at-index-shape .before .before .before .before .before .before .before .before .before .before in
+    let p = entry .pre in
+    let k = at-index-shape .index-shape .ensures in
+    let f = at-look-up .look-up .ensures in
+    (p .0, p .1, found-row _ _ _ _ _ _ _ (p .0) (p .1) _ k _ f _ _ (at-old .old .given .1), found-slot _ _ _ _ _ _ _ (p .0) (p .1) _ k _ f _ _ (at-old .old .given .1))
 
 returns-2 : tie.Need-returns-2
 returns-2 c =
-    let p = c .before .before .before .before .before .before .before .before .before .before .before .before .before .before .before .before .before .before .before .before .before .before .before .before .before .before .before .pre in
-    let d = c .before .before .before .before .before .before .insert-new in
-    inserts-new _ _ _ _ _ _ _ (p .0) (p .1) _ (c .before .before .before .before .before .before .before .before .before .before .before .before .before .before .before .before .before .index-shape .ensures) _ (c .before .before .before .before .before .before .before .before .before .before .before .before .before .before .look-up .ensures) _ (c .before .before .before .before .before .before .before .before .before .before .before .before .before .before .before .before .before .before .before .before .before .is-stale .ensures) (c .before .before .before .before .before .before .before .before .before .before .before .before .before .before .before .before .before .before .before .before .if1 .left)
-    (d .last .1 .0) (d .last .1 .1 .0) (d .last .1 .1 .1 .0) (c .before .before .before .before .before .before .before .before .before .before .before .before .enum-told .given .1) (d .result) (d .ensures)
+    let at-insert-new = c .before .before .before .before .before .before in
+    let at-enum-told = at-insert-new .before .before .before .before .before .before in let at-look-up = at-enum-told .before .before in
+    let at-index-shape = at-look-up .before .before .before in let at-if1 = at-index-shape .before .before .before in
+    let at-is-stale = at-if1 .before in let entry = at-is-stale .before .before .before .before .before .before in
+    let p = entry .pre in
+    let d = at-insert-new .insert-new in
+    inserts-new _ _ _ _ _ _ _ (p .0) (p .1) _ (at-index-shape .index-shape .ensures) _ (at-look-up .look-up .ensures) _ (at-is-stale .is-stale .ensures) (at-if1 .if1 .left)
+    (d .last .1 .0) (d .last .1 .1 .0) (d .last .1 .1 .1 .0) (at-enum-told .enum-told .given .1) (d .result) (d .ensures)
 
 returns-3 : tie.Need-returns-3
 returns-3 c =
-    let p = c .before .before .before .before .before .before .before .before .before .before .before .before .before .before .before .before .before .before .before .before .before .before .before .before .before .before .pre in
-    let d = c .before .before .before .before .before .before .insert-known in
-    inserts-known _ _ _ _ _ _ _ (p .0) (p .1) _ (c .before .before .before .before .before .before .before .before .before .before .before .before .before .before .before .before .index-shape .ensures) _ (c .before .before .before .before .before .before .before .before .before .before .before .before .before .look-up .ensures) _ (c .before .before .before .before .before .before .before .before .before .before .before .before .before .before .before .before .before .before .before .before .is-stale .ensures) (c .before .before .before .before .before .before .before .before .before .before .before .before .before .before .before .before .before .before .before .if1 .left)
-    (d .last .1 .0) (d .last .1 .1 .0) (d .last .1 .1 .1 .0) _ _ (c .before .before .before .before .before .before .before .before .before .before .before .old .given .1) (d .result) (d .ensures)
+    let at-insert-known = c .before .before .before .before .before .before in let at-old = at-insert-known .before .before .before .before .before in
+    let at-look-up = at-old .before .before in let at-index-shape = at-look-up .before .before .before in
+    let at-if1 = at-index-shape .before .before .before in let at-is-stale = at-if1 .before in
+    let entry = at-is-stale .before .before .before .before .before .before in
+    let p = entry .pre in
+    let d = at-insert-known .insert-known in
+    inserts-known _ _ _ _ _ _ _ (p .0) (p .1) _ (at-index-shape .index-shape .ensures) _ (at-look-up .look-up .ensures) _ (at-is-stale .is-stale .ensures) (at-if1 .if1 .left)
+    (d .last .1 .0) (d .last .1 .1 .0) (d .last .1 .1 .1 .0) _ _ (at-old .old .given .1) (d .result) (d .ensures)
 
 pub insert-row-spec : {M : Type 1} → statement M
 insert-row-spec =

@@ -21,8 +21,11 @@ write-row-requires c κs = survivor-fits _ _ _ _ _ _ _ (c .before .before .befor
 
 returns-2 : tie.Need-returns-2
 returns-2 c =
-    let a = c .before .before .before .before .before .before .before .before .before .before .before .before .before .before .before .before .before .before .args in
-    survivor-made (a .h) (a .rows .now) (a .pending .now) (a .out .now) (a .old) (a .from) _ (c .before .before .before .before .before .before .before .before .before .surviving-row .ensures) _ (c .before .before .before .before .before .same-cells .ensures) (c .before .before .before .before .if2 .left) (c .before .before .before .before .before .before .before .before .before .before .if1 .taken) _ (c .before .before .write-row .ensures)
+    let at-write-row = c .before .before in let at-if2 = at-write-row .before .before in let at-same-cells = at-if2 .before in
+    let at-surviving-row = at-same-cells .before .before .before .before in let at-if1 = at-surviving-row .before in
+    let entry = at-if1 .before .before .before .before .before .before .before .before in
+    let a = entry .args in
+    survivor-made (a .h) (a .rows .now) (a .pending .now) (a .out .now) (a .old) (a .from) _ (at-surviving-row .surviving-row .ensures) _ (at-same-cells .same-cells .ensures) (at-if2 .if2 .left) (at-if1 .if1 .taken) _ (at-write-row .write-row .ensures)
 
 returns-3 : tie.Need-returns-3
 returns-3 c =

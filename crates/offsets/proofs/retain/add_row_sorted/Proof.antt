@@ -16,7 +16,10 @@ push-id-requires-2 : tie.Need-push-id-requires-2
 push-id-requires-2 c κs = let s = sure _ _ _ (c .before .before .before .before .before .before .before .before .before .before .before .before .pre) in (omega (arith, s .room (c .before .before .before .before .before .before .before .if2 .left), c .before .before .before .fill-from-dense .kept .0), s .few)
 
 returns-4 : tie.Need-returns-4
-returns-4 c = rw (c .before .before .push-id2 .ensures .0, c .before .before .push-id2 .ensures .1) (adds-gap _ _ _ _ (c .before .before .before .before .before .before .before .before .before .before .before .before .if1 .left) (c .before .before .before .before .before .before .before .before .before .before .if2 .left) (c .before .before .before .before .before .before .before .before .if3 .left) (c .before .before .before .before .before .before .fill-from-dense .ensures))
+returns-4 c =
+    let at-push-id2 = c .before .before in let at-fill-from-dense = at-push-id2 .before .before .before .before in
+    let at-if3 = at-fill-from-dense .before .before in let at-if2 = at-if3 .before .before in let at-if1 = at-if2 .before .before in
+    rw (at-push-id2 .push-id2 .ensures .0, at-push-id2 .push-id2 .ensures .1) (adds-gap _ _ _ _ (at-if1 .if1 .left) (at-if2 .if2 .left) (at-if3 .if3 .left) (at-fill-from-dense .fill-from-dense .ensures))
 
 pub add-row-sorted-spec : {M : Type 1} → statement M
 add-row-sorted-spec =

@@ -8,10 +8,16 @@ returns-3 : tie.Need-returns-3
 returns-3 c = refused-form _ _ _ (sym (c .before .before .before .before .before .is-outside .ensures) ∙ c .before .before .before .before .if1 .left) (sym (c .before .before .before .is-rows-short .ensures) ∙ c .before .before .if2 .left) (sym (c .before .is-well-formed .ensures) ∙ not-true _ (c .if3 .taken))
 
 returns-4 : tie.Need-returns-4
-returns-4 c = refused-past _ _ _ (sym (c .before .before .before .before .before .before .before .is-outside .ensures) ∙ c .before .before .before .before .before .before .if1 .left) (sym (c .before .before .before .before .before .is-rows-short .ensures) ∙ c .before .before .before .before .if2 .left) (sym (c .before .before .before .is-well-formed .ensures) ∙ not-false _ (c .before .before .if3 .left)) (sym (c .before .is-past-rows .ensures) ∙ c .if4 .taken)
+returns-4 c =
+    let at-if3 = c .before .before in let at-is-well-formed = at-if3 .before in let at-if2 = at-is-well-formed .before in
+    let at-is-rows-short = at-if2 .before in let at-if1 = at-is-rows-short .before in let at-is-outside = at-if1 .before in
+    refused-past _ _ _ (sym (at-is-outside .is-outside .ensures) ∙ at-if1 .if1 .left) (sym (at-is-rows-short .is-rows-short .ensures) ∙ at-if2 .if2 .left) (sym (at-is-well-formed .is-well-formed .ensures) ∙ not-false _ (at-if3 .if3 .left)) (sym (c .before .is-past-rows .ensures) ∙ c .if4 .taken)
 
 returns-5 : tie.Need-returns-5
-returns-5 c = refused-not _ _ _ (sym (c .before .before .before .before .before .before .before .is-outside .ensures) ∙ c .before .before .before .before .before .before .if1 .left) (sym (c .before .before .before .before .before .is-rows-short .ensures) ∙ c .before .before .before .before .if2 .left) (sym (c .before .before .before .is-well-formed .ensures) ∙ not-false _ (c .before .before .if3 .left)) (sym (c .before .is-past-rows .ensures) ∙ c .if4 .left)
+returns-5 c =
+    let at-if3 = c .before .before in let at-is-well-formed = at-if3 .before in let at-if2 = at-is-well-formed .before in
+    let at-is-rows-short = at-if2 .before in let at-if1 = at-is-rows-short .before in let at-is-outside = at-if1 .before in
+    refused-not _ _ _ (sym (at-is-outside .is-outside .ensures) ∙ at-if1 .if1 .left) (sym (at-is-rows-short .is-rows-short .ensures) ∙ at-if2 .if2 .left) (sym (at-is-well-formed .is-well-formed .ensures) ∙ not-false _ (at-if3 .if3 .left)) (sym (c .before .is-past-rows .ensures) ∙ c .if4 .left)
 
 pub subset-refusal-spec : {M : Type 1} → statement M
 subset-refusal-spec =

@@ -5,16 +5,25 @@ use Rattle.replay_queries.proofs.run.execute_query.Statement.{statement
 use Rattle.replay_queries.proofs.run.execute_query.Tie as tie
 
 returns : tie.Need-returns
-returns c = execute-first _ (c .before .before .before .before .before .before .before .before .before .before .before .before .before .before .pre .0) (c .before .before .before .before .before .before .before .before .before .before .before .before .before .before .pre .1) (c .before .before .before .before .before .if1 .taken) (c .before .before .execute .ensures)
+returns c =
+    let at-execute = c .before .before in let at-if1 = at-execute .before .before .before in
+    let entry = at-if1 .before .before .before .before .before .before .before .before .before in
+    execute-first _ (entry .pre .0) (entry .pre .1) (at-if1 .if1 .taken) (at-execute .execute .ensures)
 
 slice-aggregate-execute-2 : tie.Need-slice-aggregate-execute-2
 slice-aggregate-execute-2 c = lent-count _ _ (omega (arith, c .before .before .before .before .before .before .before .before .before .before .before .before .pre .0, c .before .before .before .before .before .before .before .before .before .before .before .before .pre .1))
 
 returns-2 : tie.Need-returns-2
-returns-2 c = execute-second _ (c .before .before .before .before .before .before .before .before .before .before .before .before .before .before .before .before .pre .0) (c .before .before .before .before .before .before .before .before .before .before .before .before .before .before .before .before .pre .1) (c .before .before .before .before .before .if2 .taken) (c .before .before .execute2 .ensures)
+returns-2 c =
+    let at-execute2 = c .before .before in let at-if2 = at-execute2 .before .before .before in
+    let entry = at-if2 .before .before .before .before .before .before .before .before .before .before .before in
+    execute-second _ (entry .pre .0) (entry .pre .1) (at-if2 .if2 .taken) (at-execute2 .execute2 .ensures)
 
 returns-3 : tie.Need-returns-3
-returns-3 c = execute-neither _ (c .before .before .before .before .before .before .before .before .before .before .before .before .before .before .before .pre .0) (c .before .before .before .before .before .before .before .before .before .before .before .before .before .before .before .pre .1) (c .before .before .before .before .before .before .if1 .left) (c .before .before .before .before .if2 .left) (c .before .before .execute3 .ensures)
+returns-3 c =
+    let at-execute3 = c .before .before in let at-if2 = at-execute3 .before .before in let at-if1 = at-if2 .before .before in
+    let entry = at-if1 .before .before .before .before .before .before .before .before .before in
+    execute-neither _ (entry .pre .0) (entry .pre .1) (at-if1 .if1 .left) (at-if2 .if2 .left) (at-execute3 .execute3 .ensures)
 
 pub execute-query-spec : {M : Type 1} → statement M
 execute-query-spec =
