@@ -1,4 +1,4 @@
--- The loop iterations of `different_bits`. Assumes nothing.
+-- The loop iterations of `bits_of_different_cells`. Assumes nothing.
 use Rattle.bitmap.proofs.Prelude.{ℕ, _+_, _*_, _^_, _≤_, _<_, _≡_, refl, sym, ap, _∙_, true, false, not, List, zero-mul, suc-mul, add-one, arith, length, getD, eq-eqb, ne-eqb, row-in, bitmapWord-yes, bitmapWord-no, bitmapWord-lt}
 use Rattle.row_buffer.specs.Ranks.{bitmapWord}
 use Rattle.bitmap.specs.inner.Marking.{Spaced, otherAt}

@@ -16,7 +16,13 @@ pub fn block(left: u32) -> u32
 }
 
 // A bitmap word: the bits of the positions whose cell is different from `than`.
-pub fn different_bits(cells: &[u32], from: usize, stride: usize, count: u32, than: u32) -> u64
+pub fn bits_of_different_cells(
+    cells: &[u32],
+    from: usize,
+    stride: usize,
+    count: u32,
+    than: u32,
+) -> u64
     requires { ⌜ Spaced (now cells) from stride count ⌝ }
     ensures { λ r. ⌜ r ≡ bitmapWord (otherAt (now (cells .entry)) from stride than) count ⌝ }
 {

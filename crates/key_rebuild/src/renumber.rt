@@ -8,8 +8,8 @@ ghost use Rattle.row_buffer.specs.Ranks.{bitmapWord};
 ghost use Rattle.bitmap.specs.inner.Marking.{Spaced, otherAt};
 ghost use Rattle.key_index.specs.Slots.{slots};
 ghost use Rattle.key_rebuild.specs.inner.Renumbering.{renumbered, Ranked, Block, BlockRenumbered};
+use bitmap::word::bits_of_different_cells;
 use bitmap::word::block;
-use bitmap::word::different_bits;
 use key_index::IndexShape;
 use key_index::MOST_ROWS;
 use key_index::ROW_RANGE;
@@ -60,7 +60,7 @@ fn taken_bits(store: &[u32], from: usize, count: u32) -> u64
     ensures { λ r. ⌜ r ≡ bitmapWord (otherAt (now (store .entry)) from 1 0) count ⌝ }
 {
     if count < 2 * HALF {
-        return different_bits(store, from, 1, count, 0);
+        return bits_of_different_cells(store, from, 1, count, 0);
     }
     let low = half_bits(store, from) as u64;
     let high = half_bits(store, from + HALF as usize) as u64;

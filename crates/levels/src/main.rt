@@ -19,7 +19,7 @@ use levels_io::output::count;
 use levels_io::output::flush;
 use levels_io::output::is_written;
 use levels_io::output::make_room;
-use levels_io::output::nothing;
+use levels_io::output::no_write;
 use levels_io::output::report_failure;
 use table::Header;
 use table_open::no_table;
@@ -135,7 +135,7 @@ fn advance(
     LineProgress {
         input: rest,
         length: 0,
-        handed: nothing(),
+        handed: no_write(),
         is_line: false,
         is_over: true,
     }

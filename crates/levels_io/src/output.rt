@@ -41,11 +41,11 @@ pub fn make_room(text: &[u8], used: usize, room: usize) -> WriteResult
     if text.len() - used < room {
         return flush(text, used);
     }
-    nothing()
+    no_write()
 }
 
 // Passes nothing to `write`.
-pub fn nothing() -> WriteResult
+pub fn no_write() -> WriteResult
     ensures { λ r. ⌜ r .count ≡ 0 ⌝ }
     ensures { λ r. ⌜ r .«is_written» ≡ true ⌝ }
 {

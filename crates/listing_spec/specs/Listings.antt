@@ -1,6 +1,6 @@
 -- Listings as text (document 01, "The program `levels`"; document 02, change 11): the form that L prints, and the new form, which
 -- has row numbers. A definition that takes a Bool takes true for the new form; for a conversion it is the form of the given text. L
--- and U print such texts (`levels_spec` laws `plain-listed`, `numbered-listed`). Bytes are numbers, in ASCII. Assumes nothing.
+-- and U print such texts (`levels_spec` laws `plain-text-parses`, `numbered-text-parses`). Bytes are numbers, in ASCII. Assumes nothing.
 --
 -- In the old form and in the new, of the same table:
 --

@@ -27,7 +27,7 @@ fn ruled_column(keys: u32, sort: u32, column: usize) -> bool
 }
 
 // A cell's signed number plus 2147483648. Flipping the top bit turns the order of signed numbers into that of unsigned ones.
-fn lifted(cell: u32) -> u32
+fn flip_sign_bit(cell: u32) -> u32
     ensures { λ r. ⌜ r ≡ (cell + 2147483648) % 4294967296 ⌝ }
 {
     cell ^ 0x8000_0000
@@ -36,7 +36,7 @@ fn lifted(cell: u32) -> u32
 fn signed_less(a: u32, b: u32) -> bool
     ensures { λ r. ⌜ r ≡ ltZ (rules.signed a) (rules.signed b) ⌝ }
 {
-    lifted(a) < lifted(b)
+    flip_sign_bit(a) < flip_sign_bit(b)
 }
 
 fn smaller(a: u32, b: u32) -> u32

@@ -1,5 +1,5 @@
 -- The intersection of two lists, one step at a time: a block, an id, an id that is common, a search by strides. Assumes nothing.
-use Rattle.offsets_intersect.proofs.Prelude.{ℕ, zero, suc, _+_, _-_, _≤_, _<_, _≡_, refl, sym, ap, _∙_, inl, inr, Bool, true, false, not, _&&_, List, [], _∷_, _++_, append-assoc, append-nil, decLt, add-one, arith, eqb, length, take, drop, getD, set, length-take, length-drop, length-set, take-append-drop, drop-of-length-le, length-take-le, drop-cons, drop-drop, getD-take, getD-drop, not-true, eqb-false, splice, filter, rising, elem, splice-alike, set-splice, front-splice, drop-splice, split, and-left, and-right, filter-append, filter-yes, rising-at, rising-drop, elem-at, elem-notBelow, filter-nothing, Wrote, common, Lacks, Apart, ApartAt, SkippedTo, MergedTo, true≢false, notBelow-le, notBelow-past, notBelow-mono, elem-in-notBelow, scanPlace, scan, Scanned, Fitting, Searchable, firstNotBelow, notBelow-below}
+use Rattle.offsets_intersect.proofs.Prelude.{ℕ, zero, suc, _+_, _-_, _≤_, _<_, _≡_, refl, sym, ap, _∙_, inl, inr, Bool, true, false, not, _&&_, List, [], _∷_, _++_, append-assoc, append-nil, decLt, add-one, arith, eqb, length, take, drop, getD, set, length-take, length-drop, length-set, take-append-drop, drop-of-length-le, length-take-le, drop-cons, drop-drop, getD-take, getD-drop, not-true, eqb-false, splice, filter, rising, elem, splice-alike, set-splice, front-splice, drop-splice, split, and-left, and-right, filter-append, filter-yes, rising-at, rising-drop, elem-at, elem-notBelow, filter-all-fail, Wrote, common, Lacks, Apart, ApartAt, SkippedTo, MergedTo, true≢false, notBelow-le, notBelow-past, notBelow-mono, elem-in-notBelow, scanPlace, scan, Scanned, Fitting, Searchable, firstNotBelow, notBelow-below}
 use Rattle.offsets.specs.declared.search.Scan.the-variants.{Hit, Next}
 use Rattle.offsets_intersect.proofs.Common.{common-comm}
 
@@ -39,7 +39,7 @@ module _ (ids others : List ℕ) (i o k : ℕ) where
 
       none : filter among (take k (drop i ids)) ≡ []
       none =
-          filter-nothing among 0 (take k (drop i ids))
+          filter-all-fail among 0 (take k (drop i ids))
           (λ j a.
           let b : j < k = (let n = length-take k (drop i ids) in omega arith) in
           rw (getD-take k (drop i ids) j 0 b, getD-drop i ids j 0) (lacks j b))
@@ -216,7 +216,7 @@ module _ {ids others output output′ : List ℕ} {i o n : ℕ} (w : MergedTo id
   unfolding common
   mergedTo-others-end h k =
       wrote (omega (arith, w .few, w .within, w .same))
-      (rw (drop-of-length-le others {i = o} k) (filter-nothing (λ id. elem id []) 0 (drop i ids) (λ j a. unfold elem in refl)))
+      (rw (drop-of-length-le others {i = o} k) (filter-all-fail (λ id. elem id []) 0 (drop i ids) (λ j a. unfold elem in refl)))
 
 -- ---- the test of a block
 

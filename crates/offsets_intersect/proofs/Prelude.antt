@@ -15,7 +15,7 @@ pub use borrow.Author.Tests.{le-leb, lt-leb, not-true, eqb-false, ltb-true, ltb-
 pub use Rattle.lists.specs.Laws.Filter.{split, and-left, and-right, length-filter, count-le, filter-append, filter-yes}
 pub use Rattle.lists.specs.Laws.Parts.{splice-nil, splice-alike, set-splice, front-splice, drop-splice}
 pub use Rattle.lists.specs.Laws.Rising.{rising-at, filter-elem-comm, rising-drop, elem-at}
-pub use Rattle.lists.specs.Laws.Search.{notBelow-le, notBelow-past, notBelow-mono, elem-notBelow, elem-in-notBelow, filter-within-places, put-more, filter-nothing, notBelow-below}
+pub use Rattle.lists.specs.Laws.Search.{notBelow-le, notBelow-past, notBelow-mono, elem-notBelow, elem-in-notBelow, filter-within-places, put-more, filter-all-fail, notBelow-below}
 pub use Rattle.lists.specs.Lists.{splice, rising, within}
 unfoldable pub use Rattle.lists.specs.Lists.{filter, elem}
 pub use Rattle.offsets.specs.Answers.{subsetOf, Answered, intersectRefusal}

@@ -83,7 +83,7 @@ fn close_up(
         let count = bitmap::word::block(h.rows - first);
         next += count;
         let from = (first * h.columns) as usize;
-        let word = bitmap::word::different_bits(
+        let word = bitmap::word::bits_of_different_cells(
             rows,
             from,
             h.columns as usize,

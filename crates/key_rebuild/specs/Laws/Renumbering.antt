@@ -15,7 +15,7 @@ use Rattle.lists.specs.Laws.Rows.{length-rowsOf, getD-rowsOf, rowsOf-take}
 use Rattle.lists.specs.Laws.Front.{getD-mapFront, drop-mapFront}
 use Rattle.constraints.specs.Constraints.{isLive}
 use Rattle.row_buffer.specs.Ranks.{liveAt, newNumber}
-use Rattle.row_buffer.specs.Laws.Rows.{liveAt-in, number-live, number-dead, number-rises, number-back}
+use Rattle.row_buffer.specs.Laws.Rows.{liveAt-in, number-live, number-dead, number-rises, number-onto}
 use Rattle.key_index.specs.declared.IndexShape.{IndexShape}
 use Rattle.key_index.specs.Slots.{LiveAt, keyAt, slots, word, home, slotFrom, ReachableAt, KeysSound}
 use Rattle.key_index.specs.Laws.Ring.{word-row, word-same, word-some, names-none, names-word, slot-below}
@@ -153,7 +153,7 @@ module _ (t : IndexShape) (rows : List ℕ) where
   -- each number below the count of live rows among the first n is the number of one of them
   pub live-back : (n k : ℕ) → k < liveBelow t rows n → (i : ℕ) × (i < n) × (isLive (rowAt (t .columns) i rows) ≡ true) × (liveBelow t rows i ≡ k)
   live-back n k h =
-      let b = number-back isLive (firsts n) n k (omega (arith, below-number n n (omega arith))) in
+      let b = number-onto isLive (firsts n) n k (omega (arith, below-number n n (omega arith))) in
       (b .0, b .1, sym (live-among n (b .0) (b .1)) ∙ b .2, below-number n (b .0) (omega (arith, b .1)) ∙ b .3)
 
 -- The result of a compaction: each live row is at its new number, and there are no other rows.

@@ -20,8 +20,8 @@ returns-4 c =
     (record {
       same-input = refl;
       no-length = refl;
-      none-handed = c .nothing .ensures .0;
-      written = c .nothing .ensures .1;
+      none-handed = c .no-write .ensures .0;
+      written = c .no-write .ensures .1;
       no-line = refl;
       is-over = refl;
     })

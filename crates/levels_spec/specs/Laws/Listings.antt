@@ -14,11 +14,11 @@ module _ (p : Plain) (proper : Proper p) (cells : all liveFits (p .rows) ≡ tru
       (proper .widths) (proper .live-first) cells
 
   -- "the new form, which `levels` prints for a line U"
-  pub numbered-listed : ParsesAs true (listText true p) (some (listingOf true p))
+  pub numbered-text-parses : ParsesAs true (listText true p) (some (listingOf true p))
   unfolding listText
-  numbered-listed = listed true
+  numbered-text-parses = listed true
 
   -- the old form, which it prints for L
-  pub plain-listed : ParsesAs false (listText false p) (some (listingOf false p))
+  pub plain-text-parses : ParsesAs false (listText false p) (some (listingOf false p))
   unfolding listText
-  plain-listed = listed false
+  plain-text-parses = listed false

@@ -10,7 +10,7 @@ use Rattle.levels_text.specs.Lines.{fields, isDecimal, isLine, letter, numbers,
 use Rattle.listing_spec.specs.Listings.{Listing, areNumbers, ParsesAs}
 use Rattle.levels_spec.specs.Response.{LineResult, printing, replied, openNumber, opens, calls, queries, listText, served, onTable, result, lineResult}
 use Rattle.levels_spec.specs.Session.{programLengths, linesIn, session, printed}
-use Rattle.levels_spec.specs.Laws.Listings.{listingOf, plain-listed, numbered-listed}
+use Rattle.levels_spec.specs.Laws.Listings.{listingOf, plain-text-parses, numbered-text-parses}
 use Rattle.levels_spec.specs.Laws.Cells.{Fits, opened-fits, staged-fits, merged-fits, compacted-fits, cleared-fits, after-fits}
 use mathlib.Core.Option.{Option·elim}
 
@@ -166,8 +166,8 @@ line-lists true p = refl
 line-lists false p = refl
 
 listed-shown : (numbered : Bool) (p : Plain) → Listable p → ParsesAs numbered (listText numbered p) (some (listingOf numbered p))
-listed-shown true p k = numbered-listed p (k .proper) (k .fits .rows)
-listed-shown false p k = plain-listed p (k .proper) (k .fits .rows)
+listed-shown true p k = numbered-text-parses p (k .proper) (k .fits .rows)
+listed-shown false p k = plain-text-parses p (k .proper) (k .fits .rows)
 
 session-append : (t : Option Plain) (before after : List (List ℕ)) → session t (before ++ after) ≡ session t before ++ session (tableAfter t before) after
 unfolding session tableAfter

@@ -110,14 +110,14 @@ filter-within-places l a b e h = rw (← notBelow-count a l e, ← notBelow-coun
 -- ---- filtering from a position on
 
 module _ {A : Type 0} (test : A → Bool) (d : A) where
-  pub filter-nothing : (l : List A) → ((i : ℕ) → i < length l → test (getD l i d) ≡ false) → filter test l ≡ []
-  filter-nothing [] f = unfold filter in refl
-  filter-nothing (x ∷ xs) f = filter-no test x xs (f 0 (omega arith)) ∙ filter-nothing xs (λ i h. f (suc i) (suc-le-suc h))
+  pub filter-all-fail : (l : List A) → ((i : ℕ) → i < length l → test (getD l i d) ≡ false) → filter test l ≡ []
+  filter-all-fail [] f = unfold filter in refl
+  filter-all-fail (x ∷ xs) f = filter-no test x xs (f 0 (omega arith)) ∙ filter-all-fail xs (λ i h. f (suc i) (suc-le-suc h))
 
   -- no element from position i on passes
   pub filter-stop : (l : List A) (i : ℕ) → ((k : ℕ) → i ≤ k → k < length l → test (getD l k d) ≡ false) → filter test (take i l) ≡ filter test l
   filter-stop l i f =
-      let none : filter test (drop i l) ≡ [] = filter-nothing (drop i l) (λ k h. rw (getD-drop i l k d) (f (i + k) (omega arith) (let n = length-drop i l in omega arith))) in
+      let none : filter test (drop i l) ≡ [] = filter-all-fail (drop i l) (λ k h. rw (getD-drop i l k d) (f (i + k) (omega arith) (let n = length-drop i l in omega arith))) in
       sym
       (ap (filter test) (sym (take-append-drop i l))
       ∙ filter-append test (take i l) (drop i l)

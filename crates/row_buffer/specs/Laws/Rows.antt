@@ -167,10 +167,10 @@ module _ {A : Type 0} (live : A → Bool) where
       omega (arith, number-live rows i e)
 
   -- each number below that of row n is the number of an earlier live row
-  pub number-back : (rows : List A) (n k : ℕ) → k < newNumber live rows n → (i : ℕ) × (i < n) × (liveAt live rows i ≡ true) × (newNumber live rows i ≡ k)
-  number-back rows zero k h = absurd (omega (arith, number-zero rows))
-  number-back rows (suc n) k h = elim (decLt k (newNumber live rows n)) [
-    | yes b ↦ let g = number-back rows n k b in (g .0, omega (arith, g .1), g .2, g .3)
+  pub number-onto : (rows : List A) (n k : ℕ) → k < newNumber live rows n → (i : ℕ) × (i < n) × (liveAt live rows i ≡ true) × (newNumber live rows i ≡ k)
+  number-onto rows zero k h = absurd (omega (arith, number-zero rows))
+  number-onto rows (suc n) k h = elim (decLt k (newNumber live rows n)) [
+    | yes b ↦ let g = number-onto rows n k b in (g .0, omega (arith, g .1), g .2, g .3)
     | no b ↦ elim (split (liveAt live rows n)) [
       | inl e ↦ let d : newNumber live rows (suc n) ≡ newNumber live rows n + 1 = number-digit rows n ∙ rw e in (n, omega arith, e, omega arith)
       | inr e ↦ let d : newNumber live rows (suc n) ≡ newNumber live rows n + 0 = number-digit rows n ∙ rw e in absurd (omega arith)

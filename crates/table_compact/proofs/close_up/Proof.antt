@@ -38,7 +38,7 @@ keep-block-requires : tie.Need-keep-block-requires Inv-loop μ-loop
 keep-block-requires c κs =
     let at-different-bits = c .before .before in let at-block = at-different-bits .before .before .before .before in
     let at-if1 = at-block .before .before in let at-loop = at-if1 .before .before in let entry = at-loop .before .before .before .before .before in
-    the-block (entry .pre) (at-loop .loop .inv) (at-if1 .if1 .taken) _ (at-block .block .ensures) _ (at-different-bits .different-bits .ensures)
+    the-block (entry .pre) (at-loop .loop .inv) (at-if1 .if1 .taken) _ (at-block .block .ensures) _ (at-different-bits .bits-of-different-cells .ensures)
 
 loop-less : tie.Need-loop-less Inv-loop μ-loop
 loop-less c = omega (arith, c .before .before .before .before .before .before .before .before .before .before .before .block .ensures, c .before .before .before .before .before .before .before .before .before .before .before .before .before .if1 .taken)
@@ -48,7 +48,7 @@ loop-again c =
     let at-keep-block = c .before .before .before .before in let at-different-bits = at-keep-block .before .before .before in
     let at-block = at-different-bits .before .before .before .before in let at-if1 = at-block .before .before in
     let at-loop = at-if1 .before .before in let entry = at-loop .before .before .before .before .before in
-    iteration-on (entry .pre) (at-loop .loop .inv) (at-if1 .if1 .taken) _ (at-block .block .ensures) _ (at-different-bits .different-bits .ensures) (at-keep-block .keep-block .ensures)
+    iteration-on (entry .pre) (at-loop .loop .inv) (at-if1 .if1 .taken) _ (at-block .block .ensures) _ (at-different-bits .bits-of-different-cells .ensures) (at-keep-block .keep-block .ensures)
 
 same-length : tie.Need-same-length Inv-loop μ-loop
 same-length c = c .before .before .loop .inv .closing .rows-same

@@ -4,7 +4,7 @@ use Rattle.levels_io.proofs.output.make_room.Statement.{statement}
 use Rattle.levels_io.proofs.output.make_room.Tie as tie
 
 returns-2 : tie.Need-returns-2
-returns-2 c = inr (c .nothing .ensures .0, c .nothing .ensures .1, omega (arith, c .before .if1 .left, c .before .before .before .pre))
+returns-2 c = inr (c .no-write .ensures .0, c .no-write .ensures .1, omega (arith, c .before .if1 .left, c .before .before .before .pre))
 
 pub make-room-spec : {M : Type 1} → statement M
 make-room-spec =

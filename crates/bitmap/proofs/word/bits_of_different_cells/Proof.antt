@@ -1,8 +1,8 @@
--- `bitmap::word::different_bits` meets its contract. Assumes nothing.
+-- `bitmap::word::bits_of_different_cells` meets its contract. Assumes nothing.
 use Rattle.bitmap.proofs.Prelude.{_-_, arith}
 use Rattle.bitmap.proofs.MarkSteps.{Marked, marked-begin, word-below, place-in, marked-other, marked-same, marked-end}
-use Rattle.bitmap.proofs.word.different_bits.Statement.{statement}
-use Rattle.bitmap.proofs.word.different_bits.Tie as tie
+use Rattle.bitmap.proofs.word.bits_of_different_cells.Statement.{statement}
+use Rattle.bitmap.proofs.word.bits_of_different_cells.Tie as tie
 
 abbrev Inv-loop : tie.InvT-loop
 Inv-loop cells from stride count than word₀ at₀ bit₀ word at bit = Marked cells from stride count than word at bit
@@ -43,8 +43,8 @@ loop-again-2 c = marked-same _ _ _ _ _ (c .before .before .before .before .befor
 returns : tie.Need-returns Inv-loop μ-loop
 returns c = marked-end _ _ _ _ _ (c .before .before .before .pre) _ _ _ (c .before .loop .inv) (c .loop-test .left)
 
-pub different-bits-spec : {M : Type 1} → statement M
-different-bits-spec =
+pub bits-of-different-cells-spec : {M : Type 1} → statement M
+bits-of-different-cells-spec =
     tie.close
     (tie.spec
     Inv-loop
