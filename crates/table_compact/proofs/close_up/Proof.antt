@@ -25,8 +25,8 @@ mul-from c = omega (arith, cells-in (c .before .before .before .before .before .
 cast-from : tie.Need-cast-from Inv-loop μ-loop
 cast-from c = omega (arith, cells-in (c .before .before .before .before .before .before .before .before .before .before .pre) (c .before .before .before .before .before .loop .inv) (c .before .before .before .if1 .taken) _ (c .before .block .ensures))
 
-different-bits-requires : tie.Need-different-bits-requires Inv-loop μ-loop
-different-bits-requires c κs = spaced (c .before .before .before .before .before .before .before .before .before .before .before .before .pre) (c .before .before .before .before .before .before .before .loop .inv) (c .before .before .before .before .before .if1 .taken) _ (c .before .before .before .block .ensures)
+bits-of-different-cells-requires : tie.Need-bits-of-different-cells-requires Inv-loop μ-loop
+bits-of-different-cells-requires c κs = spaced (c .before .before .before .before .before .before .before .before .before .before .before .before .pre) (c .before .before .before .before .before .before .before .loop .inv) (c .before .before .before .before .before .if1 .taken) _ (c .before .before .before .block .ensures)
 
 slice-write-live : tie.Need-slice-write-live Inv-loop μ-loop
 slice-write-live c = words-in (c .before .before .before .before .before .before .before .before .before .before .before .before .before .pre) (c .before .before .before .before .before .before .before .before .loop .inv) (c .before .before .before .before .before .before .if1 .taken) _ (c .before .before .before .before .block .ensures) .0
@@ -36,19 +36,19 @@ slice-write-base c = words-in (c .before .before .before .before .before .before
 
 keep-block-requires : tie.Need-keep-block-requires Inv-loop μ-loop
 keep-block-requires c κs =
-    let at-different-bits = c .before .before in let at-block = at-different-bits .before .before .before .before in
+    let at-bits-of-different-cells = c .before .before in let at-block = at-bits-of-different-cells .before .before .before .before in
     let at-if1 = at-block .before .before in let at-loop = at-if1 .before .before in let entry = at-loop .before .before .before .before .before in
-    the-block (entry .pre) (at-loop .loop .inv) (at-if1 .if1 .taken) _ (at-block .block .ensures) _ (at-different-bits .bits-of-different-cells .ensures)
+    the-block (entry .pre) (at-loop .loop .inv) (at-if1 .if1 .taken) _ (at-block .block .ensures) _ (at-bits-of-different-cells .bits-of-different-cells .ensures)
 
 loop-less : tie.Need-loop-less Inv-loop μ-loop
 loop-less c = omega (arith, c .before .before .before .before .before .before .before .before .before .before .before .block .ensures, c .before .before .before .before .before .before .before .before .before .before .before .before .before .if1 .taken)
 
 loop-again : tie.Need-loop-again Inv-loop μ-loop
 loop-again c =
-    let at-keep-block = c .before .before .before .before in let at-different-bits = at-keep-block .before .before .before in
-    let at-block = at-different-bits .before .before .before .before in let at-if1 = at-block .before .before in
+    let at-keep-block = c .before .before .before .before in let at-bits-of-different-cells = at-keep-block .before .before .before in
+    let at-block = at-bits-of-different-cells .before .before .before .before in let at-if1 = at-block .before .before in
     let at-loop = at-if1 .before .before in let entry = at-loop .before .before .before .before .before in
-    iteration-on (entry .pre) (at-loop .loop .inv) (at-if1 .if1 .taken) _ (at-block .block .ensures) _ (at-different-bits .bits-of-different-cells .ensures) (at-keep-block .keep-block .ensures)
+    iteration-on (entry .pre) (at-loop .loop .inv) (at-if1 .if1 .taken) _ (at-block .block .ensures) _ (at-bits-of-different-cells .bits-of-different-cells .ensures) (at-keep-block .keep-block .ensures)
 
 same-length : tie.Need-same-length Inv-loop μ-loop
 same-length c = c .before .before .loop .inv .closing .rows-same
@@ -70,5 +70,5 @@ close-up-spec =
     tie.close
     (tie.spec
     Inv-loop μ-loop loop-holds sub-block (λ c κs. search needs) add-next mul-from cast-from (λ c. search needs)
-    different-bits-requires (λ c. search needs) (λ c. search needs) slice-write-live (λ c. search needs) slice-write-base
+    bits-of-different-cells-requires (λ c. search needs) (λ c. search needs) slice-write-live (λ c. search needs) slice-write-base
     keep-block-requires loop-less loop-again same-length same-length-2 same-length-3 same-length-4 returns)
