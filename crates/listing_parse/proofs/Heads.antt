@@ -1,5 +1,5 @@
 -- The ways through `head_at` and `scan_text`. Assumes nothing.
-use Rattle.listing_parse.proofs.Prelude.{ℕ, _-_, _≤_, _<_, _≡_, refl, sym, ap, _∙_, Bool, true, false, cond, not, _&&_, and-false, false≢true, inl, inr, split, List, [], _∷_, _++_, map, append-nil, append-assoc, arith, length-append, getD-at, lineOf, line-ended, shown-text, text-shown, length, take, drop, getD, List·getD-eq-default, eq-eqb, ne-eqb, le-leb, lt-leb, lt-ltb, le-ltb, leb, eqb, getD-take, length-take-le, take-suc, ℕ-discrete, bounds-columns, Survey, lineFrom, Found, LineAt, and-true, lineIn}
+use Rattle.listing_parse.proofs.Prelude.{ℕ, _-_, _≤_, _<_, _≡_, refl, sym, ap, _∙_, Bool, true, false, cond, not, _&&_, and-false, false≢true, inl, inr, split, List, [], _∷_, _++_, map, append-nil, append-assoc, arith, length-append, getD-at, lineOf, line-ended, shown-text, text-shown, length, take, drop, getD, List·getD-eq-default, eq-eqb, ne-eqb, le-leb, lt-leb, lt-ltb, leb, eqb, getD-take, length-take-le, take-suc, ℕ-discrete, bounds-columns, Survey, lineFrom, Found, LineAt, and-true}
 use Rattle.lists.specs.Lists.{flatten}
 use Rattle.levels_text.specs.Written.{textLine}
 use Rattle.listing_spec.specs.Listings.{listingText, headLetter, headWidth, keepsBounds, isHead}

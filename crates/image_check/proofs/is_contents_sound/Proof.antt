@@ -23,8 +23,7 @@ returns-3 : tie.Need-returns-3
 returns-3 c =
     let at-if2 = c .before .before in let at-build-unique = at-if2 .before .before .before in
     let at-index-shape = at-build-unique .before .before .before in let at-if1 = at-index-shape .before in let at-rows-sound = at-if1 .before in
-    let at-here = at-rows-sound .before .before .before .before .before .before in
-    let s = at-here in
+    let s = at-rows-sound .before .before .before .before .before .before in
     sound-by-pending _ (s .args .l) (s .pre .0) _ (at-index-shape .index-shape .ensures) _ _ (at-build-unique .build-unique .ensures) (not-false _ (at-if2 .if2 .left))
     (at-rows-sound .rows-sound .ensures .yes (not-false _ (at-if1 .if1 .left))) _ (c .pending-whole .ensures)
 

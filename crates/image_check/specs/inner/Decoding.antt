@@ -10,7 +10,7 @@ use Rattle.sort_entries.specs.inner.Checks.{Decides}
 use Rattle.table.specs.Sound.{indexShapeOf}
 use Rattle.image_spec.specs.Image.{SoundImage}
 use Rattle.image_spec.specs.Contracts.{Decoded, checkReply}
-use Rattle.image_check.specs.declared.Layout.{Layout}
+use Rattle.image_check.specs.declared.parse.Layout.{Layout}
 use Rattle.image_check.specs.inner.Parsed.{part, imageIn, IsAt}
 use Rattle.image_check.specs.declared.Decoding.{Decoding}
 use Rattle.image_check.specs.declared.Decoding.the-variants.{Refused, Sound}

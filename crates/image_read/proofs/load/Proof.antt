@@ -20,8 +20,7 @@ write-keys-requires c κs =
     let at-index-shape = c .before .before in let at-write-parts = at-index-shape .before .before .before .before .before .before .before in
     let at-if1 = at-write-parts .before .before .before .before in let at-load-refusal = at-if1 .before in
     let at-with-capacity = at-load-refusal .before in
-    let at-here = at-with-capacity .before .before .before .before .before .before .before .before in
-    let s = at-here in
+    let s = at-with-capacity .before .before .before .before .before .before .before .before in
     let a = s .args in (
       keys-fit _ (a .l) (a .capacity) (body (a .rows .now) (a .keys .now) (a .sorts .now)) (a .pending .now) _ (at-with-capacity .with-capacity .ensures) _ (at-load-refusal .load-refusal .ensures) (at-if1 .if1 .left) (s .pre .0)
           _ _ _ (at-write-parts .write-parts .ensures) _ (at-index-shape .index-shape .ensures),
@@ -35,8 +34,7 @@ returns-2 c =
     let at-write-parts = at-index-shape .before .before .before .before .before .before .before in
     let at-if1 = at-write-parts .before .before .before .before in let at-load-refusal = at-if1 .before in
     let at-with-capacity = at-load-refusal .before in
-    let at-here = at-with-capacity .before .before .before .before .before .before .before .before in
-    let s = at-here in
+    let s = at-with-capacity .before .before .before .before .before .before .before .before in
     let a = s .args in
     loading-done _ (a .l) (a .capacity) (body (a .rows .now) (a .keys .now) (a .sorts .now)) (a .pending .now) _ (at-with-capacity .with-capacity .ensures) _ (at-load-refusal .load-refusal .ensures) (at-if1 .if1 .left) (s .pre .0)
     _ _ _ (at-write-parts .write-parts .ensures) _ (at-index-shape .index-shape .ensures) _ (at-write-keys .write-keys .ensures) (c .before .keys .given)

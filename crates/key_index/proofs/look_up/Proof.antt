@@ -32,8 +32,7 @@ named-ahead c = leads-some _ _ _ _ _ _ (few (c .before .before .before .before .
 returns-3 : tie.Need-returns-3
 returns-3 c =
     let at-bits-ahead = c .before .before .before in let at-if1 = at-bits-ahead .before .before .before in let at-is-hit = at-if1 .before in
-    let at-home-slot = at-is-hit .before .before in let at-here = at-home-slot .before .before .before .before .before in
-    let s = at-here in
+    let at-home-slot = at-is-hit .before .before in let s = at-home-slot .before .before .before .before .before in
     let h = at-home-slot .home-slot in
     let a = at-bits-ahead .bits-ahead in
     let w = passed-to _ _ _ _ _ (few s) (h .result) (a .result) (h .ensures .0) (at-is-hit .is-hit .ensures .no (at-if1 .if1 .left)) (a .ensures) in

@@ -18,8 +18,7 @@ put-new-requires c κs =
 returns-2 : tie.Need-returns-2
 returns-2 c =
     let at-put-new = c .before .before in let at-row-hash = at-put-new .before .before .before in let at-if1 = at-row-hash .before .before in
-    let at-is-dead = at-if1 .before in let at-here = at-is-dead .before .before .before .before in
-    let s = at-here in
+    let at-is-dead = at-if1 .before in let s = at-is-dead .before .before .before .before in
     let t = s .args .t in
     new-row-live t (s .args .rows .now) (s .args .store .now) (s .args .row) (s .pre .0) (s .pre .1) (sym (at-is-dead .is-dead .ensures) ∙ at-if1 .if1 .left) _ (at-row-hash .row-hash .ensures) _ _
     (rw (key-part t (s .args .rows .now) (s .args .row) (s .pre .0 .within .most-keys)) at (at-put-new .put-new .ensures))

@@ -27,8 +27,7 @@ put-text-requires c κs = (
 returns-4 : tie.Need-returns-4
 returns-4 c =
     let at-put-text = c .before .before in let at-if3 = at-put-text .before .before in let at-text-length = at-if3 .before in
-    let at-if2 = at-text-length .before in let at-is-rows-short = at-if2 .before in let at-here = at-is-rows-short .before in
-    let at = at-here in
+    let at-if2 = at-text-length .before in let at-is-rows-short = at-if2 .before in let at = at-is-rows-short .before in
     written-all _ _ _ _ (sym (at .before .is-outside .ensures) ∙ at .if1 .left) (sym (at-is-rows-short .is-rows-short .ensures) ∙ at-if2 .if2 .left)
     (omega (arith, at-text-length .text-length .ensures, at-if3 .if3 .left)) (at-put-text .put-text .ensures)
 

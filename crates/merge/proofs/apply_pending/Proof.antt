@@ -12,20 +12,13 @@ remove-all-requires-2 c κs =
 
 insert-all-requires : tie.Need-insert-all-requires
 insert-all-requires c κs =
-    let at-remove-all2 = c .before .before .before .before .before .before .before in
-    let at-remove-all = at-remove-all2 .before .before .before .before .before .before .before in
-    let at-here = at-remove-all .before .before .before .before .before .before .before in
-    let s = at-here in
-    third-ready _ _ _ _ _ (s .pre .0) (s .pre .1) (omega arith) _ _ _ (at-remove-all .remove-all .ensures) _ _ _ (at-remove-all2 .remove-all2 .ensures) (omega arith) (omega arith)
+    let s = c .before .before .before .before .before .before .before .before .before .before .before .before .before .before .before .before .before .before .before .before .before in
+    third-ready _ _ _ _ _ (s .pre .0) (s .pre .1) (omega arith) _ _ _ (c .before .before .before .before .before .before .before .before .before .before .before .before .before .before .remove-all .ensures) _ _ _ (c .before .before .before .before .before .before .before .remove-all2 .ensures) (omega arith) (omega arith)
 
 returns : tie.Need-returns
 returns c =
-    let at-insert-all = c .before .before .before .before .before .before in
-    let at-remove-all2 = at-insert-all .before .before .before .before .before .before .before .before in
-    let at-remove-all = at-remove-all2 .before .before .before .before .before .before .before in
-    let at-here = at-remove-all .before .before .before .before .before .before .before in
-    let s = at-here in
-    passed _ _ _ _ _ (s .pre .0) (s .pre .1) (omega arith) _ _ _ (at-remove-all .remove-all .ensures) _ _ _ (at-remove-all2 .remove-all2 .ensures) _ _ _ _ (at-insert-all .insert-all .ensures)
+    let s = c .before .before .before .before .before .before .before .before .before .before .before .before .before .before .before .before .before .before .before .before .before .before .before .before .before .before .before .before in
+    passed _ _ _ _ _ (s .pre .0) (s .pre .1) (omega arith) _ _ _ (c .before .before .before .before .before .before .before .before .before .before .before .before .before .before .before .before .before .before .before .before .before .remove-all .ensures) _ _ _ (c .before .before .before .before .before .before .before .before .before .before .before .before .before .before .remove-all2 .ensures) _ _ _ _ (c .before .before .before .before .before .before .insert-all .ensures)
 
 pub apply-pending-spec : {M : Type 1} → statement M
 apply-pending-spec =

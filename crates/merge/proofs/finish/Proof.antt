@@ -14,8 +14,7 @@ compact-rows-requires : tie.Need-compact-rows-requires
 compact-rows-requires c κs =
     let at-if2 = c .before .before .before .before .before in let at-is-due = at-if2 .before in
     let at-struct-known = at-is-due .before .before .before in
-    let at-here = at-struct-known .before .before .before .before .before .before .before in
-    let s = at-here in
+    let s = at-struct-known .before .before .before .before .before .before .before in
     (lendable-emptied (s .pre), due-left (s .args .m .header .dead) (s .args .m .header .rows) (s .args .m .header .generation) (sym (at-is-due .is-due .ensures) ∙ not-false _ (at-if2 .if2 .left)) (omega (arith, at-struct-known .struct-known .given .0 .1 .1 .1 .1 .1 .1 .1 .1 .1 .0)))
 
 returns-3 : tie.Need-returns-3

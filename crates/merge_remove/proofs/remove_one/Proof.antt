@@ -25,8 +25,7 @@ returns-2 c =
 returns-3 : tie.Need-returns-3
 returns-3 c =
     let at-kill = c .before .before .before .before in let at-if1 = at-kill .before .before .before in let at-is-spared = at-if1 .before in
-    let at-found = at-is-spared .before .before in let at-here = at-found .before .before in
-    let f = at-here in
+    let at-found = at-is-spared .before .before in let f = at-found .before .before in
     dead-one _ _ _ _ _ _ (f .before .before .before .index-shape .ensures) _ (f .find-windowed .ensures) _ _ (at-found .found .given .1) _ _ _
     (omega (arith, f .before .before .before .before .before .before .before .pre .0 .long)) (at-kill .kill .ensures)
     _ _ (sym (at-is-spared .is-spared .ensures) ∙ at-if1 .if1 .left)

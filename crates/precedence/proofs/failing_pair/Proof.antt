@@ -20,8 +20,8 @@ returns c = λ sound differ. let s = c .before .before .before .before .before .
 returns-2 : tie.Need-returns-2 Inv-loop μ-loop
 returns-2 c =
     let at-loop-test = c .before .before .before .before in let at-loop = at-loop-test .before in let at-if1 = at-loop .before in
-    let at-is-dead = at-if1 .before in let at-here = at-is-dead .before .before .before .before .before in
-    λ sound differ. let s = at-here in place-fails _ _ _ _ _ _ (at-is-dead .is-dead .ensures) (lies s .some-columns) (at-if1 .if1 .left) _ _ (at-loop-test .loop-test .taken) (at-loop .loop .inv .1 sound differ) (pair-fails _ _ _ _ _ _ (at-loop-test .loop-test .taken) (sym (c .before .meets-pair .ensures sound differ) ∙ not-true _ (c .if2 .taken)))
+    let at-is-dead = at-if1 .before in let s = at-is-dead .before .before .before .before .before in
+    λ sound differ. place-fails _ _ _ _ _ _ (at-is-dead .is-dead .ensures) (lies s .some-columns) (at-if1 .if1 .left) _ _ (at-loop-test .loop-test .taken) (at-loop .loop .inv .1 sound differ) (pair-fails _ _ _ _ _ _ (at-loop-test .loop-test .taken) (sym (c .before .meets-pair .ensures sound differ) ∙ not-true _ (c .if2 .taken)))
 
 loop-again : tie.Need-loop-again Inv-loop μ-loop
 loop-again c = (omega arith, λ sound differ. sym (pair-met _ _ _ _ _ _ (c .before .before .before .before .loop-test .taken) (sym (c .before .meets-pair .ensures sound differ) ∙ not-false _ (c .if2 .left))) ∙ c .before .before .before .before .before .loop .inv .1 sound differ)

@@ -17,8 +17,8 @@ returns c = found-none _ _ _ _ _ _ _ (c .before .before .before .before .index-s
 returns-2 : tie.Need-returns-2
 returns-2 c =
     let at-found = c .before .before .before .before in let at-look-up = at-found .before .before in let at-compact-hash = at-look-up .before in
-    let at-index-shape = at-compact-hash .before in let at-here = at-index-shape .before .before .before .before in
-    let s = at-here in found-at _ _ _ _ _ _ _ (at-index-shape .index-shape .ensures) (at-look-up .look-up .ensures) (at-compact-hash .compact-hash .ensures) _ (s .pre .0) _ _ (at-found .found .given .1)
+    let at-index-shape = at-compact-hash .before in let s = at-index-shape .before .before .before .before in
+    found-at _ _ _ _ _ _ _ (at-index-shape .index-shape .ensures) (at-look-up .look-up .ensures) (at-compact-hash .compact-hash .ensures) _ (s .pre .0) _ _ (at-found .found .given .1)
 
 pub is-filed-by-spec : {M : Type 1} → statement M
 is-filed-by-spec =

@@ -22,8 +22,7 @@ stage-marked-requires : tie.Need-stage-marked-requires
 stage-marked-requires c κs =
     let at-if1 = c .before .before .before .before .before .before in let at-is-overfull = at-if1 .before in
     let at-mark-mentioning = at-is-overfull .before .before .before .before in
-    let at-here = at-mark-mentioning .before .before .before .before .before .before .before .before in
-    let s = at-here in
+    let s = at-mark-mentioning .before .before .before .before .before .before .before .before in
     let a = s .args in
     let free = sym (at-is-overfull .is-overfull .ensures) ∙ at-if1 .if1 .left in
     stageable (a .h) (a .rows .now) (a .pending .now) (a .index .now) _ (accepts s) (at-mark-mentioning .mark-mentioning .ensures) free

@@ -43,8 +43,7 @@ add-marked : tie.Need-add-marked Inv-loop μ-loop
 add-marked c =
     let at-mark-entry = c .before .before in let at-loop-test = at-mark-entry .before .before .before in let at-loop = at-loop-test .before in
     let at-slice-known = at-loop .before .before .before .before .before .before .before in
-    let at-here = at-slice-known .before .before .before .before in
-    let s = at-here in
+    let s = at-slice-known .before .before .before .before in
     let l = at-loop .loop in
     let g = chain-step _ _ _ (s .args .value) _ (l .limit) (l .link) (at-loop-test .loop-test .taken) (omega (arith, leb-true)) (l .inv .2) (at-mark-entry .mark-entry .ensures) in
     omega (arith, going-few g (s .pre .2) (λ w. at-slice-known .slice-known .given w .fits))

@@ -30,8 +30,7 @@ returns-3 : tie.Need-returns-3
 unfolding entryValue
 returns-3 c =
     let at-mark = c .before .before in let at-if2 = at-mark .before .before in let at-cell-named = at-if2 .before in
-    let at-if1 = at-cell-named .before in let at-is-dead = at-if1 .before in let at-here = at-is-dead .before .before .before .before .before in
-    let s = at-here in
+    let at-if1 = at-cell-named .before in let at-is-dead = at-if1 .before in let s = at-is-dead .before .before .before .before .before in
     row-led _ _ _ _ _ _ _ _ (live-by _ _ _ (s .args .entry) _ (sizes s .some-columns) (at-is-dead .is-dead .ensures) ∙ ap not (at-if1 .if1 .left)) (sym (at-cell-named .cell-named .ensures) ∙ at-if2 .if2 .left) (omega (arith, sizes s, lies s)) (at-mark .mark .ensures)
 
 pub mark-entry-spec : {M : Type 1} → statement M

@@ -23,8 +23,7 @@ add-marked : tie.Need-add-marked Inv-loop μ-loop
 add-marked c =
     let at-mark-chain = c .before .before in let at-loop-test = at-mark-chain .before .before .before .before .before .before .before .before in
     let at-loop = at-loop-test .before in let at-slice-known2 = at-loop .before in
-    let at-here = at-slice-known2 .before .before .before .before .before .before in
-    let s = at-here in
+    let s = at-slice-known2 .before .before .before .before .before .before in
     let l = at-loop .loop in
     let m = value-new _ _ _ _ (s .args .values .now) (l .i) (at-loop-test .loop-test .taken) (l .inv .3) (at-mark-chain .mark-chain .ensures) in
     omega (arith, marks-few m (s .pre .2) (λ w. at-slice-known2 .slice-known2 .given w .fits))
@@ -33,8 +32,7 @@ loop-again : tie.Need-loop-again Inv-loop μ-loop
 loop-again c =
     let at-mark-chain = c .before .before in let at-is-repeated = at-mark-chain .before .before .before .before .before in
     let at-loop-test = at-is-repeated .before .before .before in let at-loop = at-loop-test .before in
-    let at-here = at-loop .before .before .before .before .before .before .before in
-    let s = at-here in
+    let s = at-loop .before .before .before .before .before .before .before in
     let l = at-loop .loop in
     let k = at-loop-test .loop-test .taken in (
       omega (arith, k),

@@ -35,8 +35,7 @@ push-entry-requires c κs = let a = fits c in let e = c .before .before .before 
 loop-again : tie.Need-loop-again Inv-loop μ-loop
 loop-again c =
     let at-push-entry = c .before .before in let at-cell-named = at-push-entry .before .before in let at-loop-test = at-cell-named .before in
-    let at-loop = at-loop-test .before in let at-heads-at = at-loop .before in let at-here = at-heads-at .before .before .before .before in
-    let s = at-here in
+    let at-loop = at-loop-test .before in let at-heads-at = at-loop .before in let s = at-heads-at .before .before .before .before in
     let l = at-loop .loop in (
       omega arith,
       c .before .index .given ∙ l .inv .1,

@@ -8,8 +8,7 @@ returns-2 : tie.Need-returns-2
 returns-2 c =
     let at-make-calls = c .before .before .before .before .before .before .before .before .before .before .before .before .before .before in
     let at-opened2 = at-make-calls .before .before .before .before .before .before .before .before .before in
-    let at-here = at-opened2 .before .before .before in
-    let t = at-here in
+    let t = at-opened2 .before .before .before in
     replay-made _ _ _ (t .before .open-table .ensures) _ _ _ _ _ _ (at-opened2 .opened2 .given .1) (t .keys .given) (at-make-calls .make-calls .ensures)
 
 pub replay-spec : {M : Type 1} → statement M

@@ -22,8 +22,7 @@ returns-3 c =
 returns-4 : tie.Need-returns-4
 returns-4 c =
     let at-key-place = c .before .before .before .before .before in let at-if2 = at-key-place .before in let at-kind-words = at-if2 .before .before in
-    let at-if1 = at-kind-words .before in let at-here = at-if1 .before .before .before in
-    let s = at-here in
+    let at-if1 = at-kind-words .before in let s = at-if1 .before .before .before in
     read-whole _ _ _ _ _ (at-kind-words .kind-words .ensures) (s .pre .0 .most-keys) _ _ (at-key-place .key-place .ensures) (c .before .compact-hash .ensures) (c .if3 .left)
     (at-if1 .if1 .left) (at-if2 .if2 .left) (s .pre .1) (s .pre .0 .fits)
 

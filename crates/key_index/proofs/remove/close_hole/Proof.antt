@@ -23,8 +23,7 @@ loop-again : tie.Need-loop-again Inv-loop μ-loop
 loop-again c =
     let at-select = c .before .before in let at-home-away = at-select .before in let at-if1 = at-home-away .before in
     let at-names-row = at-if1 .before in let at-next-slot = at-names-row .before .before in let at-loop-test = at-next-slot .before in
-    let at-here = at-loop-test .before in
-    let l = at-here in
+    let l = at-loop-test .before in
     let f = l .before .before .before .before .before .pre .0 in
     turn _ _ _ _ _ _ _ _ _ _ (l .loop .inv) _ (at-next-slot .next-slot .ensures) (omega (arith, at-loop-test .loop-test .taken)) (f .long)
     (sym (at-names-row .names-row .ensures) ∙ not-false _ (at-if1 .if1 .left)) _ _ _ _ (at-home-away .home-away .ensures)

@@ -21,8 +21,7 @@ put-numbers-requires c κs =
 put-requires-2 : tie.Need-put-requires-2
 put-requires-2 c κs =
     let at-put-numbers = c .before .before .before in let at-put-number = at-put-numbers .before .before .before .before in
-    let at-put = at-put-number .before .before .before .before in let at-here = at-put .before .before .before .before in
-    let at = at-here in
+    let at-put = at-put-number .before .before .before .before in let at = at-put .before .before .before .before in
     omega (arith, length-numbered (at .args .letter) (at .args .number) (at .args .numbers .now), at .pre, at-put .put .ensures .counted, at-put-number .put-number .ensures .counted, at-put-numbers .put-numbers .ensures .counted)
 
 returns : tie.Need-returns

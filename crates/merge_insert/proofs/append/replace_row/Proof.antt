@@ -36,8 +36,7 @@ returns-3 c =
     let at-is-outgrown = at-if1 .before in let at-write-row = at-is-outgrown .before .before .before in
     let at-set-stale = at-write-row .before .before .before .before .before in let at-entries = at-set-stale .before .before .before .before in
     let at-admit = at-entries .before .before .before .before in
-    let at-here = at-admit .before .before .before .before .before .before .before .before in
-    let s = at-here in
+    let s = at-admit .before .before .before .before .before .before .before .before in
     let a = s .args in
     replaced-stepped _ _ _ _ _ _ _ _ (entered-of _ _ _ _ _ (at-admit .admit .ensures) _ (at-entries .entries .given .1)) _ _ (at-keys2 .keys2 .given) (a .old) (a .slot)
     (at-write-row .write-row .ensures ∙ ap (λ (l : List ℕ). splice l (a .h .rows * a .h .columns) (a .cells .now)) (at-set-stale .set-stale .ensures .cells))

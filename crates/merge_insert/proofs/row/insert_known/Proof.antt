@@ -14,8 +14,7 @@ returns-2 : tie.Need-returns-2
 returns-2 c =
     let at-replace-row = c .before .before .before .before .before .before in
     let at-if1 = at-replace-row .before .before .before .before .before .before .before in let at-make-row = at-if1 .before .before in
-    let at-here = at-make-row .before .before .before .before .before .before .before in
-    let s = at-here in
+    let s = at-make-row .before .before .before .before .before .before .before in
     let p = s .pre in
     let d = at-replace-row .replace-row in
     known-of _ _ _ _ _ _ _ (p .0) (p .1) (p .2) _ refl _ _ (at-make-row .make-row .ensures) (not-false _ (at-if1 .if1 .left)) (s .args .hash) (s .args .slot)
