@@ -6,7 +6,7 @@ use mathlib.Core.List.{List, foldl}
 use lib.Dec.{eqb}
 pub mod Hash
 
--- "a row whose first cell is 4294967295 is dead"
+-- "a row whose first cell is 4294967295 is dead (`is_stale`)": the argument is that cell; `constraints` `isLive` takes the row
 unfoldable pub isDead : ℕ → Bool
 isDead first = eqb first 4294967295
 
@@ -29,6 +29,7 @@ mixed hash cell =
     (product / 2 ^ 31 + product % 2 ^ 32) % 2 ^ 32
 
 -- "any hash of the key cells alone will do": ours has 32 bits, repeated in both halves of the 64, so that the compact hash has all of
--- them. Only Cells/Hash.antt unfolds this definition; no other proof depends on which hash it is.
+-- them. Only Cells/Hash.antt, which has laws and no definition to believe, unfolds this
+-- one; no other proof depends on which hash it is.
 pub keyHash : List ℕ → ℕ
 keyHash key = foldl mixed 0 key * (2 ^ 32 + 1)

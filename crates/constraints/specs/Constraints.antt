@@ -8,12 +8,14 @@ use Rattle.lists.specs.Lists.{all}
 use Rattle.cells.specs.Cells.{isDead}
 use Rattle.constraints.specs.declared.Constraint.{Constraint}
 
--- not "kind above 5 or a column that does not exist". Kind 0 names two columns.
+-- A condition is known if its kind is at most 5 and its column exists; for kind 0 its value must be a column too. The paper's 6 is for
+-- the others: "kind above 5 or a column that does not exist"
 unfoldable pub known : ℕ → Constraint → Bool
 known columns c =
     leb (c .kind) 5 && ltb (c .column) columns && (not (eqb (c .kind) 0) || ltb (c .value) columns)
 
--- "Kinds 1 to 5 compare a column with a value: equal, less, greater, at most, at least, unsigned"
+-- "Kinds 1 to 5 compare a column with a value: equal, less, greater, at most, at least, unsigned". The last case is kind 5: `met`
+-- handles kind 0, and other kinds are not known
 unfoldable pub compares : ℕ → ℕ → ℕ → Bool
 compares kind cell value =
     cond (eqb kind 1) (eqb cell value)

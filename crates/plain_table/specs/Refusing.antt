@@ -1,7 +1,7 @@
 -- The refusals of each call (document 01, "Operations and what each turns away"), as lists of checks over the numbers that they
 -- read: an opening's numbers, the generation, the row count, the pending words used, and the lengths of the lent stores. A plain
--- table and a header share these checks; the result of test 1 is a parameter, since it differs. Each function returns the first
--- number that applies, 0 if none. Assumes nothing.
+-- table and a header share these checks. The argument `outside` is whether test 1 applies, since a header and a plain table test it
+-- differently. Each function returns the first number that applies, 0 if none. Assumes nothing.
 use Prim.Native.Nat.{ℕ, _+_, _*_, _/_}
 use mathlib.Core.Bool.{Bool, false, not, _&&_, _||_}
 use mathlib.Core.List.{[], _∷_}
@@ -39,7 +39,8 @@ noSuchRow rows (insert cells) = false
 noSuchRow rows (removeKey key) = false
 noSuchRow rows (removeRow row key) = leb rows row
 
--- "fewer free pending words than the record takes"; also if the number of words used would not fit a u32
+-- "fewer free pending words than the record takes". Ours, not the paper's (docs/DECISIONS.md, "Pending words beyond a u32"): also if
+-- the number of words used would not fit a u32
 unfoldable pub overfull : ℕ → ℕ → ℕ → Bool
 overfull used pending words = ltb pending (used + words) || ltb 4294967295 (used + words)
 
@@ -56,7 +57,7 @@ stageChecks outside o count used pending r =
 unfoldable pub mergeChecks : Bool → Opening → Lengths → ℕ
 mergeChecks outside o l = firstRefusal (check outside 1 ∷ check (storesShort o l || wordsShort o l) 2 ∷ [])
 
--- *Compact*: 1, 2, 10
+-- *Compact* (`rehash`): 1, 2, 10
 unfoldable pub compactChecks : Bool → Opening → ℕ → Lengths → ℕ
 compactChecks outside o generation l =
     firstRefusal (check outside 1 ∷ check (storesShort o l || wordsShort o l) 2 ∷ check (eqb generation 4294967295) 10 ∷ [])

@@ -1,5 +1,5 @@
 -- Queries on rows (document 01, "Operations": refine by one and by a list, any match, page). They use only the header and the row
--- store, so their contracts hold for any table. Assumes nothing.
+-- store, so their contracts hold for any table. A store without a primed name is lent shared and does not change. Assumes nothing.
 use Prim.Native.Nat.{ℕ, _+_, _-_, _<_, min}
 use mathlib.Core.Path.{_≡_}
 use mathlib.Core.Bool.{Bool, cond, not, _||_}
@@ -71,11 +71,11 @@ unfoldable pub refineListReply : Header → List ℕ → Subset → List Constra
 refineListReply h rows subset conditions output =
     reply (refineRefusal h (length rows) subset conditions output) (narrowed (matches h rows conditions) subset)
 
--- "Visits n ids from the start place ..
+-- *Page* (`scan_generic_bounded`): "Visits n ids from the start place"
 unfoldable pub visited : Subset → ℕ → ℕ → List ℕ
 visited subset start n = take n (drop start (members subset))
 
--- .. writes the live matching ones"
+-- "writes the live matching ones"
 unfoldable pub pageIds : Header → List ℕ → Subset → ℕ → ℕ → List Constraint → List ℕ
 pageIds h rows subset start n conditions = filter (matches h rows conditions) (visited subset start n)
 
@@ -83,7 +83,7 @@ pageIds h rows subset start n conditions = filter (matches h rows conditions) (v
 unfoldable pub nextPlace : Subset → ℕ → ℕ → NextPlace
 nextPlace subset start n = cond (ltb (start + n) (size subset)) (At (start + n)) None
 
--- a page answers how many ids were written, how many of those visited have a dead row, and the next place
+-- "answers how many were written and the next place or *none*", and (change 1) how many of the visited ids have a dead row
 unfoldable pub pageReply : Header → List ℕ → Subset → ℕ → ℕ → List Constraint → ℕ → Reply Page
 pageReply h rows subset start n conditions output =
     reply (pageRefusal h (length rows) subset start n conditions output)

@@ -1,6 +1,7 @@
 -- The contracts of the entry points, on every input and on a table that shows a plain table. A function's `ensures` is the record
 -- that is named after its operation, over the lent stores before and after the call; a history of calls consists of these records.
--- First come the stores as records, and when they represent a plain table (`Represents`). Assumes nothing.
+-- A store without a primed name is lent shared, or not lent, and does not change. First come the stores as records, and when they
+-- represent a plain table (`Represents`). Assumes nothing.
 use Prim.Native.Nat.{ℕ, _+_, _*_, _/_, _<_}
 use mathlib.Core.Path.{_≡_}
 use mathlib.Core.Bool.{true, false, cond, not, _||_}
@@ -120,7 +121,7 @@ mergeOf p =
     record { header = headerOf (m .table); status = m .status; place = m .place; added = added p; kept = mergeKeeps p; dropped = mergeDrops p }
 
 -- a store after a merge, given its contents after the removals and inserts; a compaction, if there is one, writes over those. After a
--- compaction every row is live, so that no cells of dead rows are kept (`[]` below)
+-- compaction every row is live, so `rows-after` below gives `rowStore` an empty list of old rows
 unfoldable pub mergedStore : Plain → (List ℕ → List ℕ) → List ℕ → List ℕ
 mergedStore p compaction written = cond (compactsAfter (applied p .status) (applied p .table)) (compaction written) written
 
