@@ -27,11 +27,6 @@ use Rattle.image_check.specs.declared.Decoding.{Decoding}
 use Rattle.image_check.specs.declared.Decoding.the-variants.{Refused, Sound}
 use Rattle.image_check.specs.inner.Decoding.{SlotsBuilt, ContentsChecked, DecodingIs}
 
--- in a sound key store, the check of the whole decides that keys differ
-pub differ-decided : (h : Header) (rows store : List ℕ) → KeysSound (rowsAlone h) rows store → (r : Bool) → Decides (KeyStoreSound (rowsAlone h) rows store) r
-    → Decides (KeysDiffer h rows) r
-differ-decided h rows store s r d = record { yes = λ e. d .yes e .keys-differ; no = λ e k. d .no e (record { keys-sound = s; keys-differ = k }) }
-
 -- ---- `is_contents_sound`
 
 module _ (words : List ℕ) (l : Layout) (t : IsAt words l) where

@@ -4,28 +4,22 @@ use Rattle.levels.proofs.step.Statement.{statement}
 use Rattle.levels.proofs.step.Tie as tie
 
 returns : tie.Need-returns
-returns c =
-    let at-count = c .before .before .before in let at-advance = at-count .before .before .before in
-    let entry = at-advance .before .before .before .before .before .before .before in (
-      stepped-silent _ _ _ _ _ _ _ _ _ _ (ap (λ (n : ℕ). entry .args .state .used - n) (at-count .count .ensures)) (search needs) (entry .pre) (at-advance .advance .ensures) (not-true _ (c .if1 .taken)),
-      step-shorter (λ e. search needs) (at-advance .advance .ensures),
-    )
+returns c = (
+  stepped-silent _ _ _ _ _ _ _ _ _ _ (ap (λ (n : ℕ). c .before .before .before .before .before .before .before .before .before .before .before .before .before .args .state .used - n) (c .before .before .before .count .ensures)) (search needs) (c .before .before .before .before .before .before .before .before .before .before .before .before .before .pre) (c .before .before .before .before .before .before .advance .ensures) (not-true _ (c .if1 .taken)),
+  step-shorter (λ e. search needs) (c .before .before .before .before .before .before .advance .ensures),
+)
 
 append-answer-requires : tie.Need-append-answer-requires
 append-answer-requires c κs =
-    let at-if1 = c .before .before .before .before .before .before .before in let at-count = at-if1 .before .before .before in
-    let at-advance = at-count .before .before .before in let entry = at-advance .before .before .before .before .before .before .before in
-    let room = room-for-line (entry .pre .text-in) (search needs) (at-advance .advance .ensures) (not-false _ (at-if1 .if1 .left)) in
-    (omega (arith, room .0), (search needs, omega (arith, room .1, at-count .count .ensures)))
+    let room = room-for-line (c .before .before .before .before .before .before .before .before .before .before .before .before .before .before .before .before .before .before .before .before .pre .text-in) (search needs) (c .before .before .before .before .before .before .before .before .before .before .before .before .before .advance .ensures) (not-false _ (c .before .before .before .before .before .before .before .if1 .left)) in
+    (omega (arith, room .0), (search needs, omega (arith, room .1, c .before .before .before .before .before .before .before .before .before .before .count .ensures)))
 
 returns-2 : tie.Need-returns-2
 returns-2 c =
-    let at-if1 = c .before .before .before .before .before .before .before .before .before in let at-count = at-if1 .before .before .before in
-    let at-advance = at-count .before .before .before in let entry = at-advance .before .before .before .before .before .before .before in
-    let a = entry .args in
+    let a = c .before .before .before .before .before .before .before .before .before .before .before .before .before .before .before .before .before .before .before .before .before .before .args in
     let s = stores (a .state .header) (a .rows .now) (a .keys .now) (a .sorts .now) (a .pending .now) in (
-      stepped-line s _ _ _ _ _ _ _ _ _ (search needs) (lent-program s (search needs) (search needs) (search needs) (search needs)) (ap (λ (n : ℕ). a .state .used - n) (at-count .count .ensures)) (c .before .append-answer .ensures) (at-advance .advance .ensures) (not-false _ (at-if1 .if1 .left)),
-      step-shorter (λ e. absurd (false≢true (sym e ∙ not-false _ (at-if1 .if1 .left)))) (at-advance .advance .ensures),
+      stepped-line s _ _ _ _ _ _ _ _ _ (search needs) (lent-program s (search needs) (search needs) (search needs) (search needs)) (ap (λ (n : ℕ). a .state .used - n) (c .before .before .before .before .before .before .before .before .before .before .before .before .count .ensures)) (c .before .append-answer .ensures) (c .before .before .before .before .before .before .before .before .before .before .before .before .before .before .before .advance .ensures) (not-false _ (c .before .before .before .before .before .before .before .before .before .if1 .left)),
+      step-shorter (λ e. absurd (false≢true (sym e ∙ not-false _ (c .before .before .before .before .before .before .before .before .before .if1 .left)))) (c .before .before .before .before .before .before .before .before .before .before .before .before .before .before .before .advance .ensures),
     )
 
 pub step-spec : {M : Type 1} → statement M
