@@ -142,7 +142,7 @@ pub extern "C" fn mouldgrey_to_numbered(
 ) -> u32
     ensures { λ r. ⌜ Answers (λ answer. ListingConverted false (now (text .entry)) (now (output .entry)) answer (now (output .exit))) textView encodeNumber (now (length .entry)) r (now (length .exit)) ⌝ }
 {
-    let answer = listing_convert::to_numbered(text, output);
+    let answer = listing_read::to_numbered(text, output);
     store_length(answer, length)
 }
 
@@ -155,7 +155,7 @@ pub extern "C" fn mouldgrey_from_numbered(
 ) -> u32
     ensures { λ r. ⌜ Answers (λ answer. ListingConverted true (now (text .entry)) (now (output .entry)) answer (now (output .exit))) textView encodeNumber (now (length .entry)) r (now (length .exit)) ⌝ }
 {
-    let answer = listing_convert::from_numbered(text, output);
+    let answer = listing_read::from_numbered(text, output);
     store_length(answer, length)
 }
 

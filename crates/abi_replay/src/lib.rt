@@ -1,4 +1,5 @@
-// The two lists of the order's term 3 as C functions: an opening with a list of calls, and a list of queries.
+// Lists of calls and of queries as C functions: the two of the order's term 3, an opening with a list of calls and a list of queries;
+// and all short histories.
 ghost use mathlib.Core.Path.{_≡_};
 ghost use Prim.Native.Nat.{min};
 ghost use lib.ListN.{getD};
@@ -12,8 +13,9 @@ ghost use Rattle.table.specs.Numbers.{tableView};
 ghost use Rattle.table.specs.Contracts.{body, compactionWords};
 ghost use Rattle.replay.specs.Replays.{Replayed};
 ghost use Rattle.replay_queries.specs.RunQueries.{RunMade};
-ghost use Rattle.abi.specs.Encoding.{decodeHeader, decodeSubset, encodeHeader, Stored, Answers};
-ghost use Rattle.abi_replay.specs.Encoding.{encodeRun};
+ghost use Rattle.abi.specs.Encoding.{decodeHeader, decodeSubset, encodeHeader, Stored, Answers, encodeNumber, encodeOption};
+ghost use Rattle.abi_replay.specs.Encoding.{encodeRun, encodeCall};
+ghost use Rattle.short_histories.specs.Sequences.{stepView, positionView, sequenceView, StepAnswered, PositionAnswered, SequenceFound, NextFound};
 use abi::decode_header;
 use abi::decode_subset;
 use abi::encode_bool;
@@ -21,6 +23,9 @@ use abi::places;
 use abi::store_table;
 use refusals::ACCEPTED;
 use replay_queries::RunAnswer;
+use short_histories::PositionAnswer;
+use short_histories::SequenceAnswer;
+use short_histories::StepAnswer;
 
 // The largest count of queries that fits a word; a larger count is stored as this one.
 const MOST_TAKEN: u32 = 4294967295;
@@ -106,4 +111,100 @@ pub extern "C" fn mouldgrey_run_queries(
     let start = decode_subset(subset);
     let run = replay_queries::run::run_queries(h, rows, sorts, start, ids, queries, first, second);
     store_run(run, answer)
+}
+
+// Kinds of steps.
+const INSERT: u32 = 0;
+
+const REMOVE: u32 = 1;
+
+const MERGE: u32 = 2;
+
+fn store_step(answer: StepAnswer, words: &mut [u32; 4]) -> u32
+    ensures { λ r. ⌜ Stored stepView encodeCall answer (now (words .entry)) r (now (words .exit)) ⌝ }
+{
+    match answer {
+        StepAnswer::Refused(number) => number,
+        StepAnswer::Insert(key, stamp, third) => {
+            *words = [INSERT, key, stamp, third];
+            ACCEPTED
+        }
+        StepAnswer::Remove(key) => {
+            *words = [REMOVE, key, 0, 0];
+            ACCEPTED
+        }
+        StepAnswer::Merge => {
+            *words = [MERGE, 0, 0, 0];
+            ACCEPTED
+        }
+    }
+}
+
+fn store_position(answer: PositionAnswer, position: &mut [u32; 1]) -> u32
+    ensures { λ r. ⌜ Stored positionView encodeNumber answer (now (position .entry)) r (now (position .exit)) ⌝ }
+{
+    match answer {
+        PositionAnswer::Refused(number) => number,
+        PositionAnswer::Position(found) => {
+            *position = [found];
+            ACCEPTED
+        }
+    }
+}
+
+fn store_sequence(answer: SequenceAnswer, words: &mut [u32; 2]) -> u32
+    ensures { λ r. ⌜ Stored sequenceView encodeOption answer (now (words .entry)) r (now (words .exit)) ⌝ }
+{
+    match answer {
+        SequenceAnswer::Refused(number) => number,
+        SequenceAnswer::None => {
+            *words = [0, 0];
+            ACCEPTED
+        }
+        SequenceAnswer::Written(steps) => {
+            *words = [1, steps];
+            ACCEPTED
+        }
+    }
+}
+
+// The call of a step, in four words: 0, key, stamp, third cell; 1, key, 0, 0; 2, 0, 0, 0.
+#[no_mangle]
+pub extern "C" fn mouldgrey_step_at(step: u32, answer: &mut [u32; 4]) -> u32
+    ensures { λ r. ⌜ Answers (StepAnswered step) stepView encodeCall (now (answer .entry)) r (now (answer .exit)) ⌝ }
+{
+    store_step(short_histories::step_at(step), answer)
+}
+
+#[no_mangle]
+pub extern "C" fn mouldgrey_position_of(sequence: &[u32], position: &mut [u32; 1]) -> u32
+    ensures { λ r. ⌜ Answers (PositionAnswered (now (sequence .entry))) positionView encodeNumber (now (position .entry)) r (now (position .exit)) ⌝ }
+{
+    store_position(short_histories::position_of(sequence), position)
+}
+
+// The answer is two words: found, length.
+#[no_mangle]
+pub extern "C" fn mouldgrey_sequence_at(
+    position: u32,
+    output: &mut [u32],
+    answer: &mut [u32; 2],
+) -> u32
+    ensures { λ r. ⌜ Answers (λ a. SequenceFound position (now (output .entry)) a (now (output .exit))) sequenceView encodeOption (now (answer .entry)) r (now (answer .exit)) ⌝ }
+{
+    let found = short_histories::sequence_at(position, output);
+    store_sequence(found, answer)
+}
+
+// The answer is two words: found, length; 0 and 0 after the last sequence.
+#[no_mangle]
+pub extern "C" fn mouldgrey_next_sequence(
+    sequence: &[u32],
+    output: &mut [u32],
+    answer: &mut [u32; 2],
+) -> u32
+    ensures { λ r. ⌜ Answers (λ a. NextFound (now (sequence .entry)) (now (output .entry)) a (now (output .exit))) sequenceView encodeOption (now (answer .entry)) r (now (answer .exit)) ⌝ }
+{
+    let found = short_histories::next_sequence(sequence, output);
+    store_sequence(found, answer)
 }

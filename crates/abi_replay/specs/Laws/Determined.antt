@@ -5,6 +5,7 @@ use mathlib.Core.Path.{_≡_}
 use mathlib.Core.Bool.{true, false}
 use mathlib.Core.Logic.{_⊎_}
 use mathlib.Core.List.{List}
+use mathlib.Core.Option.{Option}
 use lib.ListN.{getD}
 use Rattle.plain_table.specs.Staged.{openingIn}
 use Rattle.lists.specs.Lists.{any}
@@ -22,9 +23,12 @@ use Rattle.replay.specs.Replays.{Replayed}
 use Rattle.replay.specs.Laws.Determined.{ReplayLeft, SameReplay, replayed-determined}
 use Rattle.replay_queries.specs.RunQueries.{RunMade}
 use Rattle.replay_queries.specs.Laws.Determined.{RunLeft, SameRun, run-made-determined}
-use Rattle.abi.specs.Encoding.{encodeHeader, Answers}
+use Rattle.refusals.specs.Laws.Determined.{Same}
+use Rattle.short_histories.specs.Sequences.{stepView, positionView, sequenceView, StepAnswered, PositionAnswered, SequenceAnswered}
+use Rattle.abi.specs.Encoding.{encodeHeader, Answers, encodeNumber, encodeOption}
 use Rattle.abi.specs.Laws.Determined.{SameOutcome, answers-determined}
-use Rattle.abi_replay.specs.Encoding.{encodeRun}
+use Rattle.abi_replay.specs.Encoding.{encodeRun, encodeCall}
+use Rattle.short_histories.specs.Laws.Determined as library
 
 abbrev replayLeft : TableAnswer → Body → List ℕ → CompactionWords → List ℕ → ReplayLeft
 replayLeft answer b pending w index = record { answer = answer; body = b; pending = pending; words = w; index = index }
@@ -53,3 +57,18 @@ module _ (h : Header) (rows sorts : List ℕ) (start : Subset) (ids : List ℕ) 
       → SameOutcome accepted (λ x y. SameRun h rows sorts start ids queries first second (runLeft x first₁ second₁) (runLeft y first₂ second₂)) r₁ r₂ words₁ words₂
   run-queries-determined first₁ second₁ first₂ second₂ =
       answers-determined (λ x y. run-made-determined h rows sorts start ids queries first second (runLeft x first₁ second₁) (runLeft y first₂ second₂))
+
+module _ {words words₁ words₂ : List ℕ} {r₁ r₂ : ℕ} where
+  pub step-at-determined : (step : ℕ) → Answers (StepAnswered step) stepView encodeCall words r₁ words₁ → Answers (StepAnswered step) stepView encodeCall words r₂ words₂
+      → SameOutcome stepView (λ x y. x ≡ y) r₁ r₂ words₁ words₂
+  step-at-determined step = answers-determined (λ x y. library.step-determined step)
+
+  pub position-of-determined : (sequence : List ℕ) → Answers (PositionAnswered sequence) positionView encodeNumber words r₁ words₁ → Answers (PositionAnswered sequence) positionView encodeNumber words r₂ words₂
+      → SameOutcome positionView (λ x y. x ≡ y) r₁ r₂ words₁ words₂
+  position-of-determined sequence = answers-determined (λ x y. library.position-determined sequence)
+
+  -- the sequence at a position, and the next one
+  pub sequence-found-determined : (refusal : ℕ) (found : Option (List ℕ)) (output output₁ output₂ : List ℕ)
+      → Answers (λ a. SequenceAnswered refusal found output a output₁) sequenceView encodeOption words r₁ words₁ → Answers (λ a. SequenceAnswered refusal found output a output₂) sequenceView encodeOption words r₂ words₂
+      → SameOutcome sequenceView (λ x y. Same x y output₁ output₂) r₁ r₂ words₁ words₂
+  sequence-found-determined refusal found output output₁ output₂ = answers-determined (λ x y. library.sequence-determined)

@@ -1,4 +1,0 @@
-mod Prelude
-pub mod Lengths
-pub mod Converting
-pub mod Answers
