@@ -1,14 +1,21 @@
 // Rows of cells, one after another in a lent store: the part of `RowBuffer` of row_buffer/mod.rs that a table uses, and the new
-// numbers of rows in a compaction. `at`, `to` and `from` are positions of a row's first cell in the store. Each function requires
-// that the row is inside the store.
+// numbers of rows in a compaction. `at`, `to` and `from` are positions of a row's first cell in the store. Each function on a store
+// requires that the row is inside it.
 ghost use mathlib.Core.Path.{_≡_};
-ghost use Prim.Native.Nat.{_+_, _^_, _≤_, _<_};
+ghost use Prim.Native.Nat.{_+_, _*_, _^_, _≤_, _<_};
 ghost use mathlib.Core.List.{_++_};
 ghost use lib.ListN.{length, take, drop, getD};
 ghost use Rattle.lists.specs.Lists.{splice, same};
 ghost use Rattle.cells.specs.Cells.{isDead};
 ghost use Rattle.row_buffer.specs.inner.Rows.{Staled};
 ghost use Rattle.row_buffer.specs.Ranks.{setBelow};
+
+// The position of a row's first cell in a store of rows of this many columns.
+pub fn row_start(row: u32, columns: u32) -> usize
+    ensures { λ r. ⌜ r ≡ row * columns ⌝ }
+{
+    row as usize * columns as usize
+}
 
 // The row at `at` is dead.
 pub fn is_dead(rows: &[u32], at: usize) -> bool
