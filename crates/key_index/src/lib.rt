@@ -10,6 +10,7 @@ ghost use Rattle.key_index.specs.Slots.{keyAt, sizeClass, sizeClassFor, 
 ghost use Rattle.key_index.specs.inner.Ring.{spread, tagged, namesRow};
 ghost use Rattle.key_index.specs.inner.Index.{SlotsFit, RowsIn, Fits, RowsFit, HitIs, FoundIs, PutIs, NewPutIs, EmptyIs};
 ghost use Rattle.key_index.specs.inner.Window.{isFree, hasBits, someOf, Ahead, FreeSoon, TakenRun};
+use row_buffer::row_start;
 
 pub mod remove; // remove.rt: a row removed by backward-shift deletion
 
@@ -96,7 +97,7 @@ pub fn row_hash(t: IndexShape, rows: &[u32], row: u32) -> u32
     requires { ⌜ (RowsIn t (now rows)) × (row < t .rows) ⌝ }
     ensures { λ r. ⌜ r ≡ compactHash (keyHash (keyAt t (now (rows .entry)) row)) ⌝ }
 {
-    let from = (row * t.columns) as usize;
+    let from = row_start(row, t.columns);
     let to = from + t.keys as usize;
     cells::compact_hash(&rows[from..to])
 }
@@ -138,7 +139,7 @@ pub fn is_hit(t: IndexShape, rows: &[u32], key: &[u32], hash: u32, word: u32) ->
         return false;
     }
     let row = word % ROW_RANGE - 1;
-    let at = (row * t.columns) as usize;
+    let at = row_start(row, t.columns);
     row_buffer::same_key(rows, at, key)
 }
 

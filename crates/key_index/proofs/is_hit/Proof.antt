@@ -18,7 +18,7 @@ returns-3 c =
     let n = row (c .before .before) in
     let i = a .word % 2 ^ 17 - 1 in
     hit-cells (a .t) (a .rows .now) (a .key .now) (a .hash) (a .word) i (few s) (c .before .before .before .before .if1 .left) (n .some) refl (n .row) _
-    (c .same-key .ensures
+    (rw (c .before .row-start .ensures) at (c .same-key .ensures)
     ∙ ap (λ (k : ℕ). same (take k (drop (i * a .t .columns) (a .rows .now))) (a .key .now)) (s .pre .1)
     ∙ ap (λ (k : List ℕ). same k (a .key .now)) (sym (key-row (a .t .columns) i (a .t .keys) (a .rows .now) (s .pre .0 .most-keys))))
 
@@ -28,6 +28,6 @@ is-hit-spec =
     (tie.spec
     (λ c. hit-bits _ _ _ _ _ _ (few (c .before .before .before)) (c .if1 .taken)) (λ c κs. search needs)
     (λ c. hit-nameless _ _ _ _ _ _ (few (c .before .before .before .before .before)) (sym (c .before .names-row .ensures) ∙ not-true _ (c .if2 .taken)))
-    (λ c. omega (arith, row c)) (λ c. omega (arith, row (c .before))) (λ c. omega (arith, row (c .before)))
+    (λ c. omega (arith, row c)) (λ c κs. search needs)
     (λ c κs. let p = c .before .before .before .before .before .before .pre in omega (arith, row (c .before), p .0 .most-keys, p .1))
     returns-3)
