@@ -12,6 +12,7 @@ use constraints::EQUAL;
 use constraints::GREATER;
 use constraints::LESS;
 use offsets::search::binary_search_cells;
+use row_buffer::row_start;
 
 // Appends the entry of a row that is appended, or kept by a compaction, if its value rises. Returns the new number of entries.
 pub fn append_entry(sorts: &mut [u32], entries: u32, value: u32, row: u32) -> u32
@@ -205,7 +206,7 @@ fn cell_sound(store: &[u32], columns: u32, sort: u32, rows: u32, row: u32, value
     requires { ⌜ row < rows ⌝ }
     ensures { λ r. ⌜ r ≡ cellSound (now (store .entry)) columns sort row value ⌝ }
 {
-    let at = (row * columns) as usize;
+    let at = row_start(row, columns);
     if cells::is_stale(store[at]) {
         return true;
     }

@@ -13,14 +13,16 @@ inside s =
     (omega (arith, s .pre .0), omega (arith, s .pre .0), s .pre .0 .column)
 
 returns : tie.Need-returns
-returns c = dead-row _ _ _ _ _ (omega (arith, c .before .before .before .before .pre)) (sym (c .before .is-stale .ensures) ∙ c .if1 .taken)
+returns c = dead-row _ _ _ _ _ (omega (arith, c .before .before .before .before .before .pre)) (sym (rw (c .before .before .before .row-start .ensures) at (c .before .is-stale .ensures)) ∙ c .if1 .taken)
 
 returns-2 : tie.Need-returns-2
-returns-2 c = live-row _ _ _ _ _ (c .before .before .before .before .before .pre .0 .column) (sym (c .before .before .is-stale .ensures) ∙ c .before .if1 .left)
+returns-2 c =
+    let e = c .before .before .before .before .row-start .ensures in
+    rw e (live-row _ _ _ _ _ (c .before .before .before .before .before .before .pre .0 .column) (sym (rw e at (c .before .before .is-stale .ensures)) ∙ c .before .if1 .left))
 
 pub cell-sound-spec : {M : Type 1} → statement M
 cell-sound-spec =
     tie.close
     (tie.spec
-    (λ c. omega (arith, inside (c .before))) (λ c. omega (arith, inside (c .before))) (λ c. omega (arith, inside (c .before))) (λ c. omega (arith, inside (c .before .before))) (λ c κs. search needs) returns (λ c. omega (arith, inside (c .before .before .before .before))) (λ c. omega (arith, inside (c .before .before .before .before)))
-    (λ c. omega (arith, inside (c .before .before .before .before .before))) returns-2)
+    (λ c κs. search needs) (λ c. omega (arith, inside (c .before .before))) (λ c. omega (arith, inside (c .before .before .before))) (λ c κs. search needs) returns (λ c. omega (arith, inside (c .before .before .before .before .before))) (λ c. omega (arith, inside (c .before .before .before .before .before)))
+    (λ c. omega (arith, inside (c .before .before .before .before .before .before))) returns-2)
