@@ -4,6 +4,7 @@ ghost use Prim.Native.Nat.{_<_};
 ghost use Rattle.key_index.specs.inner.Index.{Fits, RowsFit};
 ghost use Rattle.key_rebuild.specs.inner.Rebuilding.{RowPut, Rebuilt, NewRowPut, UniqueBuilt};
 use key_index::IndexShape;
+use row_buffer::row_start;
 
 pub mod renumber; // renumber.rt: new row numbers after a compaction
 
@@ -12,7 +13,7 @@ fn put_row(t: IndexShape, rows: &[u32], store: &mut [u32], row: u32)
     requires { ⌜ Fits t (now rows) (now store) × (row < t .rows) ⌝ }
     ensures { λ _. ⌜ RowPut t (now (rows .entry)) (now (store .entry)) row (now (store .exit)) ⌝ }
 {
-    let at = (row * t.columns) as usize;
+    let at = row_start(row, t.columns);
     if row_buffer::is_dead(rows, at) {
         return;
     }
@@ -38,7 +39,7 @@ fn put_new_row(t: IndexShape, rows: &[u32], store: &mut [u32], row: u32) -> bool
     requires { ⌜ RowsFit t (now rows) (now store) × (row < t .rows) ⌝ }
     ensures { λ r. ⌜ NewRowPut t (now (rows .entry)) (now (store .entry)) row r (now (store .exit)) ⌝ }
 {
-    let from = (row * t.columns) as usize;
+    let from = row_start(row, t.columns);
     if row_buffer::is_dead(rows, from) {
         return true;
     }
