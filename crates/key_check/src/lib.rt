@@ -11,13 +11,14 @@ ghost use Rattle.key_check.specs.inner.Check.{isLiveRow, takenCount, Rea
 use key_index::IndexShape;
 use key_index::home_slot;
 use key_index::slot_word;
+use row_buffer::row_start;
 
 // Whether a row is live.
 fn row_live(t: IndexShape, rows: &[u32], row: u32) -> bool
     requires { ⌜ RowsIn t (now rows) × (row < t .rows) ⌝ }
     ensures { λ r. ⌜ r ≡ isLiveRow t (now (rows .entry)) row ⌝ }
 {
-    let from = (row * t.columns) as usize;
+    let from = row_start(row, t.columns);
     let to = from + t.columns as usize;
     constraints::is_live(&rows[from..to])
 }
@@ -70,7 +71,7 @@ fn is_found(t: IndexShape, rows: &[u32], store: &[u32], row: u32) -> bool
     requires { ⌜ (Fits t (now rows) (now store)) × (row < t .rows) ⌝ }
     ensures { λ r. ⌜ Decides (Own t (now (rows .entry)) (now (store .entry)) row) r ⌝ }
 {
-    let from = (row * t.columns) as usize;
+    let from = row_start(row, t.columns);
     let to = from + t.keys as usize;
     let hash = cells::compact_hash(&rows[from..to]);
     is_reached(t, rows, store, &rows[from..to], hash, row)

@@ -10,12 +10,12 @@ lies s = row-inside _ _ _ (s .pre .0) (s .pre .1)
 returns : tie.Need-returns
 returns c =
     let s = c .before .before .before .before .before in
-    c .is-live .ensures ∙ row-part (s .args .t) (s .args .rows .now) (s .args .row)
+    rw (c .before .before .before .row-start .ensures) at (c .is-live .ensures) ∙ row-part (s .args .t) (s .args .rows .now) (s .args .row)
 
 pub row-live-spec : {M : Type 1} → statement M
 row-live-spec =
     tie.close
     (tie.spec
-    (λ c. omega (arith, lies (c .before .before))) (λ c. omega (arith, lies (c .before .before))) (λ c. search needs)
+    (λ c κs. search needs) (λ c. search needs)
     (λ c. omega (arith, lies (c .before .before .before))) (λ c. omega (arith, lies (c .before .before .before))) (λ c. search needs) (λ c. search needs)
     (λ c. omega (arith, lies (c .before .before .before))) (λ c κs. search needs) returns)
