@@ -5,6 +5,7 @@ use constraints::Constraint;
 use constraints::EQUAL_COLUMNS;
 use key_index::Found;
 use refusals::ACCEPTED;
+use row_buffer::row_start;
 use table::CellAnswer;
 use table::Header;
 use table::RangeAnswer;
@@ -46,7 +47,7 @@ pub fn get_row_column(h: Header, rows: &[u32], keys: &[u32], key: &[u32], column
     match found {
         Found::None => CellAnswer::None,
         Found::At(row, slot) => {
-            let at = (row * h.columns + column) as usize;
+            let at = row_start(row, h.columns) + column as usize;
             CellAnswer::Cell(rows[at])
         }
     }
