@@ -9,6 +9,7 @@ use key_index::Found;
 use refusals::ACCEPTED;
 use refusals::NO_SUCH_COLUMN;
 use refusals::PAIR_COUNT;
+use row_buffer::row_start;
 use table::Header;
 use table::index_shape;
 use table::refusing::lookup_refusal;
@@ -55,7 +56,7 @@ fn is_filed_by(h: Header, rows: &[u32], keys: &[u32], key: &[u32], latest: u32) 
     match found {
         Found::None => false,
         Found::At(row, slot) => {
-            let at = (row * h.columns + h.sort) as usize;
+            let at = row_start(row, h.columns) + h.sort as usize;
             rows[at] <= latest
         }
     }
@@ -66,7 +67,7 @@ fn is_row_filed(h: Header, rows: &[u32], keys: &[u32], column: u32, row: u32, va
     requires { ⌜ Tested h (now rows) (now keys) × (column < h .keys) × (row < h .rows) ⌝ }
     ensures { λ r. ⌜ OnTable h (now (rows .entry)) (now (keys .entry)) (r ≡ rowFiled h (now (rows .entry)) column row value) ⌝ }
 {
-    let from = (row * h.columns) as usize;
+    let from = row_start(row, h.columns);
     let width = h.keys as usize;
     let mut key = [0u32; 8];
     row_buffer::write_row(&mut key, 0, &rows[from..from + width]);
@@ -88,7 +89,7 @@ fn meets_pair(
     requires { ⌜ Tested h (now rows) (now keys) × (column < h .keys) × (row < h .rows) ⌝ }
     ensures { λ r. ⌜ OnTable h (now (rows .entry)) (now (keys .entry)) (r ≡ rowMeets h (now (rows .entry)) column row (record { first = first; second = second })) ⌝ }
 {
-    let at = (row * h.columns + column) as usize;
+    let at = row_start(row, h.columns) + column as usize;
     if rows[at] != first {
         return true;
     }
@@ -108,7 +109,7 @@ fn failing_pair(
     ensures { λ r. ⌜ OnTable h (now (rows .entry)) (now (keys .entry)) (PlaceIs (length (now (pairs .entry)) / 2) (rowFailing h (now (rows .entry)) column (now (pairs .entry)) row) r) ⌝ }
 {
     let count = pairs.len() / 2;
-    let from = (row * h.columns) as usize;
+    let from = row_start(row, h.columns);
     if row_buffer::is_dead(rows, from) {
         return count;
     }

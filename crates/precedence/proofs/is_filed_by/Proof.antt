@@ -5,7 +5,7 @@ use Rattle.precedence.proofs.is_filed_by.Statement.{statement}
 use Rattle.precedence.proofs.is_filed_by.Tie as tie
 
 -- the row that was found
-lies : (c : tie.After-struct-known) → let a = c .before .before .before .before .before .before .before .before .before .before .args in RowInStore (a .h) (a .rows .now) (c .before .before .found .given .0 .0)
+lies : (c : tie.After-row-start) → let a = c .before .before .before .before .before .before .before .before .before .before .args in RowInStore (a .h) (a .rows .now) (c .before .before .found .given .0 .0)
 lies c = found-in-store _ _ _ _ _ _ _ (c .before .before .before .before .before .before .index-shape .ensures) (c .before .before .before .before .look-up .ensures) (c .before .before .before .before .before .before .before .before .before .before .pre .0) _ _ (c .before .before .found .given .1)
 
 look-up-requires : tie.Need-look-up-requires
@@ -18,12 +18,12 @@ returns-2 : tie.Need-returns-2
 returns-2 c =
     let at-found = c .before .before .before .before in let at-look-up = at-found .before .before in let at-compact-hash = at-look-up .before in
     let at-index-shape = at-compact-hash .before in let s = at-index-shape .before .before .before .before in
-    found-at _ _ _ _ _ _ _ (at-index-shape .index-shape .ensures) (at-look-up .look-up .ensures) (at-compact-hash .compact-hash .ensures) _ (s .pre .0) _ _ (at-found .found .given .1)
+    rw (c .before .before .row-start .ensures) (found-at _ _ _ _ _ _ _ (at-index-shape .index-shape .ensures) (at-look-up .look-up .ensures) (at-compact-hash .compact-hash .ensures) _ (s .pre .0) _ _ (at-found .found .given .1))
 
 pub is-filed-by-spec : {M : Type 1} → statement M
 is-filed-by-spec =
     tie.close
     (tie.spec
     (λ c κs. search needs) (λ c κs. search needs) look-up-requires (λ c. search needs) (λ c. search needs)
-    (λ c. omega (arith, lies c)) (λ c. omega (arith, lies (c .before))) (λ c. omega (arith, lies (c .before)))
+    (λ c κs. search needs) (λ c. search needs) (λ c. omega (arith, lies (c .before)))
     (λ c. omega (arith, lies (c .before))) (λ c. omega (arith, lies (c .before .before))) returns returns-2)

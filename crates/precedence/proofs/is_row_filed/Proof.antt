@@ -8,16 +8,19 @@ lies : (s : tie.Start) → RowInStore (s .args .h) (s .args .rows .now) (s .args
 lies s = row-in-store _ _ _ (s .pre .0) _ (s .pre .2)
 
 part-is-filed-by-end : tie.Need-part-is-filed-by-end
-part-is-filed-by-end c = let s = c .before .before .before .before .before .before .before .before .before .before .before in key-fits _ _ _ (s .pre .0) _ _ _ (s .pre .1) (s .pre .2) _ _ (c .before .before .before .before .write-row .ensures) refl
+part-is-filed-by-end c = let s = c .before .before .before .before .before .before .before .before .before .before .before in key-fits _ _ _ (s .pre .0) _ _ _ (s .pre .1) (s .pre .2) _ _ (rw (c .before .before .before .before .before .before .before .before .row-start .ensures) at (c .before .before .before .before .write-row .ensures)) refl
 
 returns : tie.Need-returns
-returns c = let s = c .before .before .before .before .before .before .before .before .before .before .before .before .before in filed-row _ _ _ (s .pre .0) _ _ _ (s .pre .1) (s .pre .2) _ _ _ (key-made _ _ _ (s .pre .0) _ _ _ (s .pre .1) (s .pre .2) _ _ (c .before .before .before .before .before .before .write-row .ensures)) refl (c .is-filed-by .ensures)
+returns c =
+    let s = c .before .before .before .before .before .before .before .before .before .before .before .before .before in
+    let e = c .before .before .before .before .before .before .before .before .before .before .row-start .ensures in
+    filed-row _ _ _ (s .pre .0) _ _ _ (s .pre .1) (s .pre .2) _ _ _ (key-made _ _ _ (s .pre .0) _ _ _ (s .pre .1) (s .pre .2) _ _ (rw e at (c .before .before .before .before .before .before .write-row .ensures))) (rw e) (c .is-filed-by .ensures)
 
 pub is-row-filed-spec : {M : Type 1} → statement M
 is-row-filed-spec =
     tie.close
     (tie.spec
-    (λ c. omega (arith, lies (c .before .before .before))) (λ c. omega (arith, lies (c .before .before .before)))
+    (λ c κs. search needs)
     (λ c. search needs) (λ c. search needs) (λ c. omega (arith, lies (c .before .before .before .before .before)))
     (λ c. omega (arith, lies (c .before .before .before .before .before))) (λ c. search needs) (λ c. search needs)
     (λ c. omega (arith, lies (c .before .before .before .before .before))) (λ c κs. search needs) (λ c. search needs)
