@@ -11,6 +11,7 @@ ghost use Rattle.table.specs.Refusing.{soundRefusal};
 ghost use Rattle.table.specs.Contracts.{Checked};
 ghost use Rattle.table_check.specs.inner.Checks.{deadRows, lastKept, RowsSound, PendingIn, keyPlace, RecordRead, PendingWhole, SoundStores};
 use refusals::ACCEPTED;
+use row_buffer::row_start;
 use table::Header;
 use table::Largest;
 use table::Lent;
@@ -28,7 +29,7 @@ fn dead_rows(h: Header, rows: &[u32]) -> u32
     let mut dead: u32 = 0;
     let mut row: u32 = 0;
     while row < h.rows {
-        let at = (row * h.columns) as usize;
+        let at = row_start(row, h.columns);
         let one = row_buffer::is_dead(rows, at);
         row += 1;
         if one {

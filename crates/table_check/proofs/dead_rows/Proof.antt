@@ -1,5 +1,5 @@
 -- `table_check::dead_rows` meets its contract. Assumes nothing.
-use Rattle.table_check.proofs.Prelude.{ℕ, _+_, _-_, _≤_, _<_, _≡_, refl, sym, ap, _∙_, arith, Inside, inside}
+use Rattle.table_check.proofs.Prelude.{ℕ, _+_, _-_, _≤_, _<_, _≡_, refl, sym, ap, _∙_, arith, needs, Inside, inside}
 use Rattle.lists.specs.Lists.{count, rowsOf}
 use Rattle.table_check.proofs.CheckingSteps.{deadAmong, dead-more, dead-same, dead-few}
 use Rattle.table_check.proofs.dead_rows.Statement.{statement}
@@ -17,12 +17,6 @@ loop-holds c = (omega arith, unfold count rowsOf in refl)
 lies : (s : tie.Start Inv-loop μ-loop) (row : ℕ) → row < s .args .h .rows → Inside (s .args .rows .now) (s .args .h .columns) row
 lies s row = inside _ _ (s .args .h .rows) row (s .pre .few) (s .pre .narrow) (s .pre .words)
 
-mul-at : tie.Need-mul-at Inv-loop μ-loop
-mul-at c = omega (arith, lies (c .before .before .before .before .before) _ (c .before .if1 .taken))
-
-cast-at : tie.Need-cast-at Inv-loop μ-loop
-cast-at c = omega (arith, lies (c .before .before .before .before .before) _ (c .before .if1 .taken))
-
 is-dead-requires : tie.Need-is-dead-requires Inv-loop μ-loop
 is-dead-requires c κs = omega (arith, lies (c .before .before .before .before .before) _ (c .before .if1 .taken), c .before .before .before .before .before .pre .column)
 
@@ -37,11 +31,11 @@ some s = omega (arith, s .pre .column)
 
 loop-again : tie.Need-loop-again Inv-loop μ-loop
 loop-again c =
-    (omega arith, ap (λ (n : ℕ). n + 1) (c .before .before .before .before .before .loop .inv .1) ∙ sym (dead-more _ _ _ (some (c .before .before .before .before .before .before .before)) (sym (c .before .is-dead .ensures) ∙ c .if2 .taken)))
+    (omega arith, ap (λ (n : ℕ). n + 1) (c .before .before .before .before .before .loop .inv .1) ∙ sym (dead-more _ _ _ (some (c .before .before .before .before .before .before .before)) (sym (rw (c .before .before .row-start .ensures) at (c .before .is-dead .ensures)) ∙ c .if2 .taken)))
 
 loop-again-2 : tie.Need-loop-again-2 Inv-loop μ-loop
 loop-again-2 c =
-    (omega arith, c .before .before .before .before .before .loop .inv .1 ∙ sym (dead-same _ _ _ (some (c .before .before .before .before .before .before .before)) (sym (c .before .is-dead .ensures) ∙ c .if2 .left)))
+    (omega arith, c .before .before .before .before .before .loop .inv .1 ∙ sym (dead-same _ _ _ (some (c .before .before .before .before .before .before .before)) (sym (rw (c .before .before .row-start .ensures) at (c .before .is-dead .ensures)) ∙ c .if2 .left)))
 
 returns : tie.Need-returns Inv-loop μ-loop
 returns c =
@@ -54,5 +48,5 @@ pub dead-rows-spec : {M : Type 1} → statement M
 dead-rows-spec =
     tie.close
     (tie.spec
-    Inv-loop μ-loop loop-holds mul-at cast-at is-dead-requires (λ c. omega arith) add-dead (λ c. omega arith)
+    Inv-loop μ-loop loop-holds (λ c κs. search needs) is-dead-requires (λ c. omega arith) add-dead (λ c. omega arith)
     loop-again (λ c. omega arith) loop-again-2 returns)
