@@ -12,6 +12,7 @@ ghost use Rattle.table.specs.Contracts.{body, compactionWords, Compacting};
 ghost use Rattle.table_compact.specs.inner.Compaction.{Lendable, KeysUpdated, nextGeneration, Compaction};
 ghost use Rattle.table_compact.specs.inner.ClosingUp.{Keepable, RowKept, Block, BlockKept, Closable, Closed};
 use refusals::ACCEPTED;
+use row_buffer::row_start;
 use table::Header;
 use table::Lent;
 use table::TableAnswer;
@@ -29,8 +30,8 @@ fn keep_row(h: Header, rows: &mut [u32], sorts: &mut [u32], row: u32, kept: Kept
     requires { ⌜ Keepable h (now rows) (now sorts) row kept ⌝ }
     ensures { λ r. ⌜ RowKept h (now (rows .entry)) (now (sorts .entry)) row kept r (now (rows .exit)) (now (sorts .exit)) ⌝ }
 {
-    let to = (kept.rows * h.columns) as usize;
-    let from = (row * h.columns) as usize;
+    let to = row_start(kept.rows, h.columns);
+    let from = row_start(row, h.columns);
     let width = h.columns as usize;
     row_buffer::move_down(rows, to, from, width);
     let cell = to + h.sort as usize;
@@ -82,7 +83,7 @@ fn close_up(
         let first = next;
         let count = bitmap::word::block(h.rows - first);
         next += count;
-        let from = (first * h.columns) as usize;
+        let from = row_start(first, h.columns);
         let word = bitmap::word::bits_of_different_cells(
             rows,
             from,

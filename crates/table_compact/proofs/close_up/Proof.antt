@@ -1,6 +1,6 @@
 -- `table_compact::close_up` meets its contract. Assumes nothing.
 use Rattle.table_compact.proofs.Prelude.{_-_, arith, needs}
-use Rattle.table_compact.proofs.CompactionSteps.{Iteration, iteration-begin, words-in, cells-in, spaced, the-block, iteration-on, close-end}
+use Rattle.table_compact.proofs.CompactionSteps.{Iteration, iteration-begin, words-in, spaced, the-block, iteration-on, close-end}
 use Rattle.table_compact.proofs.close_up.Statement.{statement}
 use Rattle.table_compact.proofs.close_up.Tie as tie
 
@@ -19,14 +19,8 @@ sub-block c = omega (arith, c .before .if1 .taken)
 add-next : tie.Need-add-next Inv-loop μ-loop
 add-next c = omega (arith, c .block .ensures, c .before .before .if1 .taken)
 
-mul-from : tie.Need-mul-from Inv-loop μ-loop
-mul-from c = omega (arith, cells-in (c .before .before .before .before .before .before .before .before .before .before .pre) (c .before .before .before .before .before .loop .inv) (c .before .before .before .if1 .taken) _ (c .before .block .ensures))
-
-cast-from : tie.Need-cast-from Inv-loop μ-loop
-cast-from c = omega (arith, cells-in (c .before .before .before .before .before .before .before .before .before .before .pre) (c .before .before .before .before .before .loop .inv) (c .before .before .before .if1 .taken) _ (c .before .block .ensures))
-
 bits-of-different-cells-requires : tie.Need-bits-of-different-cells-requires Inv-loop μ-loop
-bits-of-different-cells-requires c κs = spaced (c .before .before .before .before .before .before .before .before .before .before .before .before .pre) (c .before .before .before .before .before .before .before .loop .inv) (c .before .before .before .before .before .if1 .taken) _ (c .before .before .before .block .ensures)
+bits-of-different-cells-requires c κs = rw (c .before .before .row-start .ensures) (spaced (c .before .before .before .before .before .before .before .before .before .before .before .before .pre) (c .before .before .before .before .before .before .before .loop .inv) (c .before .before .before .before .before .if1 .taken) _ (c .before .before .before .block .ensures))
 
 slice-write-live : tie.Need-slice-write-live Inv-loop μ-loop
 slice-write-live c = words-in (c .before .before .before .before .before .before .before .before .before .before .before .before .before .pre) (c .before .before .before .before .before .before .before .before .loop .inv) (c .before .before .before .before .before .before .if1 .taken) _ (c .before .before .before .before .block .ensures) .0
@@ -38,7 +32,7 @@ keep-block-requires : tie.Need-keep-block-requires Inv-loop μ-loop
 keep-block-requires c κs =
     let at-bits-of-different-cells = c .before .before in let at-block = at-bits-of-different-cells .before .before .before .before in
     let at-if1 = at-block .before .before in let at-loop = at-if1 .before .before in let entry = at-loop .before .before .before .before .before in
-    the-block (entry .pre) (at-loop .loop .inv) (at-if1 .if1 .taken) _ (at-block .block .ensures) _ (at-bits-of-different-cells .bits-of-different-cells .ensures)
+    the-block (entry .pre) (at-loop .loop .inv) (at-if1 .if1 .taken) _ (at-block .block .ensures) _ (rw (at-bits-of-different-cells .before .before .before .row-start .ensures) at (at-bits-of-different-cells .bits-of-different-cells .ensures))
 
 loop-less : tie.Need-loop-less Inv-loop μ-loop
 loop-less c = omega (arith, c .before .before .before .before .before .before .before .before .before .before .before .block .ensures, c .before .before .before .before .before .before .before .before .before .before .before .before .before .if1 .taken)
@@ -48,7 +42,7 @@ loop-again c =
     let at-keep-block = c .before .before .before .before in let at-bits-of-different-cells = at-keep-block .before .before .before in
     let at-block = at-bits-of-different-cells .before .before .before .before in let at-if1 = at-block .before .before in
     let at-loop = at-if1 .before .before in let entry = at-loop .before .before .before .before .before in
-    iteration-on (entry .pre) (at-loop .loop .inv) (at-if1 .if1 .taken) _ (at-block .block .ensures) _ (at-bits-of-different-cells .bits-of-different-cells .ensures) (at-keep-block .keep-block .ensures)
+    iteration-on (entry .pre) (at-loop .loop .inv) (at-if1 .if1 .taken) _ (at-block .block .ensures) _ (rw (at-bits-of-different-cells .before .before .before .row-start .ensures) at (at-bits-of-different-cells .bits-of-different-cells .ensures)) (at-keep-block .keep-block .ensures)
 
 same-length : tie.Need-same-length Inv-loop μ-loop
 same-length c = c .before .before .loop .inv .closing .rows-same
@@ -69,6 +63,6 @@ pub close-up-spec : {M : Type 1} → statement M
 close-up-spec =
     tie.close
     (tie.spec
-    Inv-loop μ-loop loop-holds sub-block (λ c κs. search needs) add-next mul-from cast-from (λ c. search needs)
+    Inv-loop μ-loop loop-holds sub-block (λ c κs. search needs) add-next (λ c κs. search needs) (λ c. search needs)
     bits-of-different-cells-requires (λ c. search needs) (λ c. search needs) slice-write-live (λ c. search needs) slice-write-base
     keep-block-requires loop-less loop-again same-length same-length-2 same-length-3 same-length-4 returns)
