@@ -27,6 +27,7 @@ use query_spec::refusing::page_refusal;
 use query_spec::refusing::refine_refusal;
 use query_spec::refusing::smaller;
 use refusals::ACCEPTED;
+use row_buffer::row_start;
 use table::Header;
 
 // The state of a scan. It continues at place `next`, whose id is `id`, up to `end` or until `most` ids are kept. `dead` is the
@@ -62,7 +63,7 @@ fn is_live_at(h: Header, rows: &[u32], id: u32) -> bool
     requires { ⌜ RowInStore h (length (now rows)) id ⌝ }
     ensures { λ r. ⌜ r ≡ rules.isLive (rowAt (h .columns) id (now (rows .entry))) ⌝ }
 {
-    let from = (id as usize) * (h.columns as usize);
+    let from = row_start(id, h.columns);
     !cells::is_stale(rows[from])
 }
 
@@ -71,7 +72,7 @@ fn is_met_at(h: Header, rows: &[u32], id: u32, c: Constraint) -> bool
     requires { ⌜ RowInStore h (length (now rows)) id ⌝ }
     ensures { λ r. ⌜ r ≡ rules.met (rowAt (h .columns) id (now (rows .entry))) c ⌝ }
 {
-    let from = (id as usize) * (h.columns as usize);
+    let from = row_start(id, h.columns);
     let to = from + h.columns as usize;
     constraints::met(c, &rows[from..to])
 }

@@ -7,5 +7,5 @@ pub is-live-at-spec : {M : Type 1} → statement M
 is-live-at-spec =
     tie.close
     (tie.spec
-    (λ c. search needs) (λ c. search needs) (λ c. search needs) (λ c. search needs) (λ c κs. search needs)
-    (λ c. ap not (c .is-stale .ensures) ∙ sym (live-first _ _ _ (omega arith))))
+    (λ c κs. search needs) (λ c. search needs) (λ c. search needs) (λ c κs. search needs)
+    (λ c. ap not (rw (c .before .before .row-start .ensures) at (c .is-stale .ensures)) ∙ sym (live-first _ _ _ (omega arith))))

@@ -8,6 +8,6 @@ pub is-met-at-spec : {M : Type 1} → statement M
 is-met-at-spec =
     tie.close
     (tie.spec
-    (λ c. search needs) (λ c. search needs) (λ c. search needs) (λ c. search needs) (λ c. search needs) (λ c. search needs) (λ c. search needs)
-    (λ c. search needs) (λ c κs. search needs)
-    (λ c. c .met .ensures ∙ ap (λ (row : List ℕ). met row (c .before .before .before .before .before .args .c)) (row-part _ _ _)))
+    (λ c κs. search needs) (λ c. search needs) (λ c. search needs) (λ c. search needs) (λ c. search needs) (λ c. search needs) (λ c. search needs)
+    (λ c κs. search needs)
+    (λ c. rw (c .before .before .before .row-start .ensures) at (c .met .ensures) ∙ ap (λ (row : List ℕ). met row (c .before .before .before .before .before .args .c)) (row-part _ _ _)))
