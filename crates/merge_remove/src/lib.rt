@@ -11,6 +11,7 @@ use key_index::Found;
 use key_index::IndexShape;
 use merge_pending::next_record;
 use merge_pending::record_length;
+use row_buffer::row_start;
 use table::Header;
 use table::REMOVE_KEY;
 use table::index_shape;
@@ -21,7 +22,7 @@ fn kill(t: IndexShape, rows: &mut [u32], keys: &mut [u32], row: u32, slot: u32) 
     ensures { λ r. ⌜ Kills t (now (rows .entry)) (now (keys .entry)) row slot r (now (rows .exit)) (now (keys .exit)) ⌝ }
 {
     key_index::remove::remove_row(t, rows, keys, slot);
-    let at = (row * t.columns) as usize;
+    let at = row_start(row, t.columns);
     !row_buffer::set_stale(rows, at)
 }
 

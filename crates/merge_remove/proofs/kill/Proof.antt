@@ -1,30 +1,20 @@
 -- `merge_remove::kill` meets its contract. Assumes nothing.
-use Rattle.merge_remove.proofs.Prelude.{arith, needs}
+use Rattle.merge_remove.proofs.Prelude.{needs}
 use Rattle.merge_remove.proofs.RemovalSteps.{first-cell, killed}
 use Rattle.merge_remove.proofs.kill.Statement.{statement}
 use Rattle.merge_remove.proofs.kill.Tie as tie
 
-mul-at : tie.Need-mul-at
-mul-at c =
-    let s = c .before .before .before .before .before .before .before .before in
-    omega (arith, first-cell _ _ _ _ (s .pre .0) (s .pre .1) .1)
-
-cast-at : tie.Need-cast-at
-cast-at c =
-    let s = c .before .before .before .before .before .before .before .before in
-    omega (arith, first-cell _ _ _ _ (s .pre .0) (s .pre .1) .1)
-
 set-stale-requires : tie.Need-set-stale-requires
 set-stale-requires c κs =
     let s = c .before .before .before .before .before .before .before .before .before in
-    first-cell _ _ _ _ (s .pre .0) (s .pre .1) .0
+    rw (c .before .row-start .ensures) (first-cell _ _ _ _ (s .pre .0) (s .pre .1) .0)
 
 returns : tie.Need-returns
 returns c =
     let s = c .before .before .before .before .before .before .before .before .before .before .before .before in
-    killed _ _ _ _ _ _ _ _ (s .pre .0) (c .before .before .before .before .before .before .before .remove-row .ensures) (c .before .before .set-stale .ensures)
+    killed _ _ _ _ _ _ _ _ (s .pre .0) (c .before .before .before .before .before .before .before .remove-row .ensures) (rw (c .before .before .before .before .row-start .ensures) at (c .before .before .set-stale .ensures))
 
 pub kill-spec : {M : Type 1} → statement M
 kill-spec =
     tie.close
-    (tie.spec (λ c κs. search needs) mul-at cast-at set-stale-requires (λ c. search needs) (λ c. search needs) returns)
+    (tie.spec (λ c κs. search needs) (λ c κs. search needs) set-stale-requires (λ c. search needs) (λ c. search needs) returns)
