@@ -7,6 +7,7 @@ ghost use Rattle.table.specs.Sound.{indexShapeOf};
 ghost use Rattle.merge_insert.specs.inner.Appending.{Enterable, AdmissionIs, grownTo, outgrown, Rebuildable, RebuiltGrown, Growable, NewIs, ReplaceIs};
 use refusals::OLD_SORT_VALUE;
 use refusals::TABLE_FULL;
+use row_buffer::row_start;
 use table::Header;
 use table::Largest;
 use table::index_shape;
@@ -96,7 +97,7 @@ pub fn insert_new(
     match admit(h, sorts, value) {
         Admission::Stop(number) => Insertion::Stopped(number),
         Admission::Entries(entries) => {
-            row_buffer::write_row(rows, (h.rows * h.columns) as usize, cells);
+            row_buffer::write_row(rows, row_start(h.rows, h.columns), cells);
             if is_outgrown(h) {
                 return rebuild_grown(h, rows, keys, 0, entries, value);
             }
@@ -124,8 +125,8 @@ pub fn replace_row(
     match admit(h, sorts, value) {
         Admission::Stop(number) => Insertion::Stopped(number),
         Admission::Entries(entries) => {
-            row_buffer::set_stale(rows, (old * h.columns) as usize);
-            row_buffer::write_row(rows, (h.rows * h.columns) as usize, cells);
+            row_buffer::set_stale(rows, row_start(old, h.columns));
+            row_buffer::write_row(rows, row_start(h.rows, h.columns), cells);
             if is_outgrown(h) {
                 return rebuild_grown(h, rows, keys, 1, entries, value);
             }

@@ -12,6 +12,7 @@ use super::append::insert_new;
 use super::append::replace_row;
 use key_index::Found;
 use merge_rules::TAKE_NEW;
+use row_buffer::row_start;
 use table::Header;
 use table::index_shape;
 
@@ -30,7 +31,7 @@ fn make_row<'a>(
     ensures { λ r. ⌜ MadeIs h (now (rows .entry)) (now (pending .entry)) (now (out .entry)) old from r (now (out .exit)) ⌝ }
 {
     let width = h.columns as usize;
-    let old_at = (old * h.columns) as usize;
+    let old_at = row_start(old, h.columns);
     let new_at = from as usize;
     let old_row = &rows[old_at..old_at + width];
     if h.rule <= TAKE_NEW {

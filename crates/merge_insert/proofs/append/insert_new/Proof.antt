@@ -12,7 +12,7 @@ returns c =
     let at-rebuild-grown = c .before .before in let at-if1 = at-rebuild-grown .before .before .before in let at-is-outgrown = at-if1 .before in
     let at-write-row = at-is-outgrown .before .before .before in let at-entries = at-write-row .before .before .before .before in
     let at-admit = at-entries .before .before .before .before in
-    grew-rebuilt _ _ _ _ _ _ _ _ (entered-of _ _ _ _ _ (at-admit .admit .ensures) _ (at-entries .entries .given .1)) _ _ (c .before .keys .given) (at-write-row .write-row .ensures) (sym (at-is-outgrown .is-outgrown .ensures) ∙ at-if1 .if1 .taken) _ (at-rebuild-grown .rebuild-grown .ensures)
+    grew-rebuilt _ _ _ _ _ _ _ _ (entered-of _ _ _ _ _ (at-admit .admit .ensures) _ (at-entries .entries .given .1)) _ _ (c .before .keys .given) (rw (at-write-row .before .row-start .ensures) at (at-write-row .write-row .ensures)) (sym (at-is-outgrown .is-outgrown .ensures) ∙ at-if1 .if1 .taken) _ (at-rebuild-grown .rebuild-grown .ensures)
 
 returns-2 : tie.Need-returns-2
 returns-2 c = stayed-of _ _ _ _ _ _ _ (stop-of _ _ _ _ _ (c .before .before .before .before .before .admit .ensures) _ (c .before .number .given .1))
@@ -22,15 +22,14 @@ returns-3 c =
     let at-keys2 = c .before .before in let at-put = at-keys2 .before in let at-index-shape = at-put .before .before in
     let at-if1 = at-index-shape .before in let at-is-outgrown = at-if1 .before in let at-write-row = at-is-outgrown .before .before .before in
     let at-entries = at-write-row .before .before .before .before in let at-admit = at-entries .before .before .before .before in
-    grew-stepped _ _ _ _ _ _ _ _ (entered-of _ _ _ _ _ (at-admit .admit .ensures) _ (at-entries .entries .given .1)) _ _ (at-keys2 .keys2 .given) (at-write-row .write-row .ensures) (sym (at-is-outgrown .is-outgrown .ensures) ∙ at-if1 .if1 .left) _ (at-index-shape .index-shape .ensures) _ (at-put .put .ensures) _ (c .grown .ensures)
+    grew-stepped _ _ _ _ _ _ _ _ (entered-of _ _ _ _ _ (at-admit .admit .ensures) _ (at-entries .entries .given .1)) _ _ (at-keys2 .keys2 .given) (rw (at-write-row .before .row-start .ensures) at (at-write-row .write-row .ensures)) (sym (at-is-outgrown .is-outgrown .ensures) ∙ at-if1 .if1 .left) _ (at-index-shape .index-shape .ensures) _ (at-put .put .ensures) _ (c .grown .ensures)
 
 pub insert-new-spec : {M : Type 1} → statement M
 insert-new-spec =
     tie.close
     (tie.spec
     (λ c. search needs) (λ c. search needs) (λ c. search needs) (λ c κs. search needs) (λ c. search needs) (λ c. search needs)
-    (λ c. omega (arith, enters (c .before .before .before))) (λ c. omega (arith, enters (c .before .before .before)))
-    (λ c κs. omega (arith, enters (c .before .before .before))) (λ c κs. omega (arith, enters (c .before .before .before .before .before .before)))
+    (λ c κs. search needs) (λ c κs. omega (arith, enters (c .before .before .before))) (λ c κs. omega (arith, enters (c .before .before .before .before .before .before)))
     (λ c κs. rebuilds (enters (c .before .before .before .before .before .before .before .before .before .before)) _ (c .before .before .before .before .before .rows .given) 0 (omega arith))
     (λ c. search needs) (λ c. search needs) (λ c. search needs) returns (λ c κs. search needs)
     (λ c κs. omega (arith, ap (λ (t : IndexShape). t .room) (c .before .index-shape .ensures), enters (c .before .before .before .before .before .before .before .before .before .before)))

@@ -13,8 +13,7 @@ old-place c = let s = c .before .before .before .before .before .before .before 
 
 write-row-requires : tie.Need-write-row-requires
 write-row-requires c κs =
-    let a = c .before .before .before .before .before .before .before .before .before .before .before .before .before .before .before .before .before .before .before .before .args in
-    omega (arith, enters (c .before .before .before .before .before .before .before .before), ap length (c .before .before .before .before .set-stale .ensures .cells) ∙ length-set (a .rows .now) (a .old * a .h .columns) 4294967295)
+    omega (arith, enters (c .before .before .before .before .before .before .before .before), simp length-set at (ap length (c .before .before .before .before .set-stale .ensures .cells)))
 
 returns : tie.Need-returns
 returns c =
@@ -24,7 +23,7 @@ returns c =
     let entry = at-admit .before .before .before .before .before .before .before .before in
     let a = entry .args in
     replaced-rebuilt _ _ _ _ _ _ _ _ (entered-of _ _ _ _ _ (at-admit .admit .ensures) _ (at-entries .entries .given .1)) _ _ (c .before .keys .given) (a .old) (a .slot)
-    (at-write-row .write-row .ensures ∙ ap (λ (l : List ℕ). splice l (a .h .rows * a .h .columns) (a .cells .now)) (at-set-stale .set-stale .ensures .cells))
+    (rw (at-write-row .before .row-start2 .ensures) at (at-write-row .write-row .ensures) ∙ ap (λ (l : List ℕ). splice l (a .h .rows * a .h .columns) (a .cells .now)) (rw (at-set-stale .before .row-start .ensures) at (at-set-stale .set-stale .ensures .cells)))
     (sym (at-is-outgrown .is-outgrown .ensures) ∙ at-if1 .if1 .taken) _ (at-rebuild-grown .rebuild-grown .ensures)
 
 returns-2 : tie.Need-returns-2
@@ -39,7 +38,7 @@ returns-3 c =
     let s = at-admit .before .before .before .before .before .before .before .before in
     let a = s .args in
     replaced-stepped _ _ _ _ _ _ _ _ (entered-of _ _ _ _ _ (at-admit .admit .ensures) _ (at-entries .entries .given .1)) _ _ (at-keys2 .keys2 .given) (a .old) (a .slot)
-    (at-write-row .write-row .ensures ∙ ap (λ (l : List ℕ). splice l (a .h .rows * a .h .columns) (a .cells .now)) (at-set-stale .set-stale .ensures .cells))
+    (rw (at-write-row .before .row-start2 .ensures) at (at-write-row .write-row .ensures) ∙ ap (λ (l : List ℕ). splice l (a .h .rows * a .h .columns) (a .cells .now)) (rw (at-set-stale .before .row-start .ensures) at (at-set-stale .set-stale .ensures .cells)))
     (sym (at-is-outgrown .is-outgrown .ensures) ∙ at-if1 .if1 .left) (s .pre .2) (at-replace .replace .ensures) _ (c .grown .ensures)
 
 pub replace-row-spec : {M : Type 1} → statement M
@@ -47,9 +46,7 @@ replace-row-spec =
     tie.close
     (tie.spec
     (λ c. search needs) (λ c. search needs) (λ c. search needs) (λ c κs. search needs) (λ c. search needs) (λ c. search needs)
-    (λ c. omega (arith, old-place (c .before .before .before))) (λ c. omega (arith, old-place (c .before .before .before)))
-    (λ c κs. omega (arith, old-place (c .before .before .before), enters (c .before .before .before) .fits .some-columns))
-    (λ c. omega (arith, enters (c .before .before .before .before .before .before .before .before))) (λ c. omega (arith, enters (c .before .before .before .before .before .before .before .before)))
+    (λ c κs. search needs) (λ c κs. omega (arith, old-place (c .before .before .before), enters (c .before .before .before) .fits .some-columns)) (λ c κs. search needs)
     write-row-requires
     (λ c κs. omega (arith, enters (c .before .before .before .before .before .before .before .before .before .before .before)))
     (λ c κs. rebuilds (enters (c .before .before .before .before .before .before .before .before .before .before .before .before .before .before .before)) _ (c .before .before .before .before .before .rows2 .given ∙ c .before .before .before .before .before .before .before .before .before .before .rows .given) 1 (omega arith))
