@@ -11,6 +11,7 @@ ghost use Rattle.refresh_spec.specs.Index.{bucketOf, entriesUnder, leadsTo, lea
 ghost use Rattle.refresh_spec.specs.inner.Finding.{Lendable, usable, ListedMarked, CaughtUp};
 ghost use Rattle.refresh_index.specs.inner.Entries.{Readable, cellNamed, fronted, pushed, Fillable, Pushed, UpToDate, Filled, Emptied};
 ghost use Rattle.refresh_index.specs.inner.Marking.{MarkedAll, Noted};
+use row_buffer::row_start;
 use table::Header;
 
 // The number of words before the entries.
@@ -87,7 +88,7 @@ fn cell_named(h: Header, rows: &[u32], columns: &[u32], row: u32, place: usize) 
     requires { ⌜ Readable h (now rows) (now columns) × (row < h .rows) × (place < length (now columns)) ⌝ }
     ensures { λ r. ⌜ r ≡ cellNamed h (now (rows .entry)) (now (columns .entry)) row place ⌝ }
 {
-    let at = (row * h.columns + columns[place]) as usize;
+    let at = row_start(row, h.columns) + columns[place] as usize;
     rows[at]
 }
 
@@ -121,7 +122,7 @@ fn push_live(h: Header, rows: &[u32], index: &mut [u32], columns: &[u32], bucket
     requires { ⌜ Fillable h (now rows) (now columns) buckets (now index) × (row < h .rows) ⌝ }
     ensures { λ _. ⌜ Pushed h (now (rows .entry)) (now (columns .entry)) buckets (row * length (now (columns .entry))) (now (index .entry)) (row * length (now (columns .entry)) + length (now (columns .entry))) (now (index .exit)) ⌝ }
 {
-    if row_buffer::is_dead(rows, (row * h.columns) as usize) {
+    if row_buffer::is_dead(rows, row_start(row, h.columns)) {
         return;
     }
     push_row(h, rows, index, columns, buckets, row);
@@ -195,7 +196,7 @@ fn mark_entry(
     let count = columns.len() as u32;
     let row = entry / count;
     let place = (entry % count) as usize;
-    if row_buffer::is_dead(rows, (row * h.columns) as usize) {
+    if row_buffer::is_dead(rows, row_start(row, h.columns)) {
         return 0;
     }
     if cell_named(h, rows, columns, row, place) != value {

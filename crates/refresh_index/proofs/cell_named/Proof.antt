@@ -10,12 +10,12 @@ lies s = cell-in (s .pre .0) _ _ (s .pre .1) (s .pre .2)
 
 returns : tie.Need-returns
 unfolding cellNamed
-returns c = sym (getD-rowAt _ _ _ _ 0 (lies (c .before .before .before) .1))
+returns c = rw (c .before .before .row-start .ensures) (sym (getD-rowAt _ _ _ _ 0 (lies (c .before .before .before .before .before) .1)))
 
 pub cell-named-spec : {M : Type 1} → statement M
 cell-named-spec =
     tie.close
     (tie.spec
-    (λ c. omega (arith, lies (c .before))) (λ c. search needs) (λ c. search needs) (λ c. omega (arith, lies (c .before .before)))
-    (λ c. omega (arith, lies (c .before .before))) (λ c. omega (arith, lies (c .before .before)))
-    (λ c. omega (arith, lies (c .before .before .before))) returns)
+    (λ c κs. search needs) (λ c. search needs) (λ c. search needs) (λ c. omega (arith, lies (c .before .before .before .before)))
+    (λ c. omega (arith, lies (c .before .before .before .before))) (λ c. omega (arith, lies (c .before .before .before .before)))
+    (λ c. omega (arith, lies (c .before .before .before .before .before))) returns)

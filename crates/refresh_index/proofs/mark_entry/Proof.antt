@@ -18,20 +18,20 @@ sizes s = small _ _ (s .pre .0 .inside) (s .pre .0 .columns-few)
 returns : tie.Need-returns
 returns c =
     let s = c .before .before .before .before .before .before in
-    dead-led _ _ _ _ _ _ (live-by _ _ _ (s .args .entry) _ (sizes s .some-columns) (c .before .is-dead .ensures) ∙ ap not (c .if1 .taken))
+    dead-led _ _ _ _ _ _ (live-by _ _ _ (s .args .entry) _ (sizes s .some-columns) (rw (c .before .before .row-start .ensures) at (c .before .is-dead .ensures)) ∙ ap not (c .if1 .taken))
 
 returns-2 : tie.Need-returns-2
 unfolding entryValue
 returns-2 c =
     let s = c .before .before .before .before .before .before .before .before in
-    other-led _ _ _ _ _ _ (live-by _ _ _ (s .args .entry) _ (sizes s .some-columns) (c .before .before .before .is-dead .ensures) ∙ ap not (c .before .before .if1 .left)) (λ e. c .if2 .taken (c .before .cell-named .ensures ∙ e))
+    other-led _ _ _ _ _ _ (live-by _ _ _ (s .args .entry) _ (sizes s .some-columns) (rw (c .before .before .before .before .row-start .ensures) at (c .before .before .before .is-dead .ensures)) ∙ ap not (c .before .before .if1 .left)) (λ e. c .if2 .taken (c .before .cell-named .ensures ∙ e))
 
 returns-3 : tie.Need-returns-3
 unfolding entryValue
 returns-3 c =
     let at-mark = c .before .before in let at-if2 = at-mark .before .before in let at-cell-named = at-if2 .before in
     let at-if1 = at-cell-named .before in let at-is-dead = at-if1 .before in let s = at-is-dead .before .before .before .before .before in
-    row-led _ _ _ _ _ _ _ _ (live-by _ _ _ (s .args .entry) _ (sizes s .some-columns) (at-is-dead .is-dead .ensures) ∙ ap not (at-if1 .if1 .left)) (sym (at-cell-named .cell-named .ensures) ∙ at-if2 .if2 .left) (omega (arith, sizes s, lies s)) (at-mark .mark .ensures)
+    row-led _ _ _ _ _ _ _ _ (live-by _ _ _ (s .args .entry) _ (sizes s .some-columns) (rw (at-is-dead .before .row-start .ensures) at (at-is-dead .is-dead .ensures)) ∙ ap not (at-if1 .if1 .left)) (sym (at-cell-named .cell-named .ensures) ∙ at-if2 .if2 .left) (omega (arith, sizes s, lies s)) (at-mark .mark .ensures)
 
 pub mark-entry-spec : {M : Type 1} → statement M
 mark-entry-spec =
@@ -39,6 +39,6 @@ mark-entry-spec =
     (tie.spec
     (λ c. search needs) (λ c. omega (arith, lies (c .before .before .before))) (λ c. omega (arith, lies (c .before .before .before)))
     (λ c. omega (arith, lies (c .before .before .before)))
-    (λ c. omega (arith, cell (c .before .before .before .before))) (λ c. omega (arith, cell (c .before .before .before .before))) (λ c κs. omega (arith, cell (c .before .before .before .before), sizes (c .before .before .before .before)))
+    (λ c κs. search needs) (λ c κs. omega (arith, cell (c .before .before .before .before), sizes (c .before .before .before .before)))
     returns (λ c κs. (c .before .before .before .before .before .before .pre .0, lies (c .before .before .before .before .before .before) .row-there, lies (c .before .before .before .before .before .before) .place-there)) returns-2
     (λ c κs. (c .before .before .before .before .before .before .before .before .before .pre .2, omega (arith, sizes (c .before .before .before .before .before .before .before .before .before), lies (c .before .before .before .before .before .before .before .before .before)))) (λ c. search needs) returns-3)

@@ -14,12 +14,12 @@ sizes s = let l = s .pre .0 .lendable in small _ _ (l .inside) (l .columns-few)
 returns : tie.Need-returns
 returns c =
     let s = c .before .before .before .before .before .before in
-    push-dead _ _ _ (s .args .row) (live-first _ (s .args .row) _ (sizes s .some-columns) ∙ ap not (sym (c .before .is-dead .ensures) ∙ c .if1 .taken)) _ _
+    push-dead _ _ _ (s .args .row) (live-first _ (s .args .row) _ (sizes s .some-columns) ∙ ap not (sym (rw (c .before .before .row-start .ensures) at (c .before .is-dead .ensures)) ∙ c .if1 .taken)) _ _
 
 pub push-live-spec : {M : Type 1} → statement M
 push-live-spec =
     tie.close
     (tie.spec
-    (λ c. omega (arith, cell (c .before .before .before .before))) (λ c. omega (arith, cell (c .before .before .before .before)))
+    (λ c κs. search needs)
     (λ c κs. omega (arith, cell (c .before .before .before .before), sizes (c .before .before .before .before)))
     returns (λ c κs. search needs) (λ c. search needs) (λ c. search needs))
