@@ -12,6 +12,7 @@ ghost use Rattle.bitmap.specs.inner.Bitmaps.{Marked};
 ghost use Rattle.refresh_spec.specs.Index.{bucketOf};
 ghost use Rattle.refresh_spec.specs.inner.Finding.{mentionsFrom};
 ghost use Rattle.refresh_scan.specs.inner.Scanning.{Scannable, mentionsOnly, Linked};
+use row_buffer::row_start;
 use table::Header;
 
 // The number of values in a part. Their links are followed by the links of the buckets, four times as many so that most are empty.
@@ -88,7 +89,7 @@ fn mark_row(
     ensures { λ r. ⌜ Marked (mentionsOnly h (now (rows .entry)) (now (columns .entry)) (now (values .entry)) row) (mentionsOnly h (now (rows .entry)) (now (columns .entry)) (now (values .entry)) row) (now (words .entry)) (now (words .exit)) r ⌝ }
 {
     let width = h.columns as usize;
-    let at = row as usize * width;
+    let at = row_start(row, h.columns);
     if row_buffer::is_dead(rows, at) {
         return 0;
     }
