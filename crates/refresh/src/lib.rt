@@ -38,6 +38,7 @@ use refusals::OUT_OF_BOUNDS;
 use refusals::PENDING_FULL;
 use refusals::TOO_MANY_COLUMNS;
 use refusals::TOO_SHORT;
+use row_buffer::row_start;
 use table::Header;
 use table::INSERT;
 use table::RECORD_HEAD;
@@ -137,7 +138,7 @@ fn write_removal(h: Header, rows: &[u32], pending: &mut [u32], at: usize, row: u
     requires { ⌜ RowInStore h (now rows) row × (at + (h .keys + 3) ≤ length (now pending)) ⌝ }
     ensures { λ _. ⌜ now (pending .exit) ≡ splice (now (pending .entry)) at (recordWords (h .keys) (removeRow row (take (h .keys) (rowAt (h .columns) row (now (rows .entry)))))) ⌝ }
 {
-    let from = (row * h.columns) as usize;
+    let from = row_start(row, h.columns);
     let end = from + h.keys as usize;
     let key = &rows[from..end];
     let hash = cells::compact_hash(key);
@@ -149,7 +150,7 @@ fn write_restamped(h: Header, rows: &[u32], pending: &mut [u32], at: usize, row:
     requires { ⌜ RowInStore h (now rows) row × (at + (h .columns + 2) ≤ length (now pending)) ⌝ }
     ensures { λ _. ⌜ now (pending .exit) ≡ splice (now (pending .entry)) at (recordWords (h .keys) (insert (set (rowAt (h .columns) row (now (rows .entry))) (h .sort) stamp))) ⌝ }
 {
-    let from = (row * h.columns) as usize;
+    let from = row_start(row, h.columns);
     let width = h.columns as usize;
     let mut restamped = [0u32; 8];
     row_buffer::write_row(&mut restamped, 0, &rows[from..from + width]);
