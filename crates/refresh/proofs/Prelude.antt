@@ -46,7 +46,6 @@ pub use Rattle.refresh.specs.inner.Testing.{earlyRefusal}
 pub use Rattle.refusals.specs.Laws.Replies.{reply-accepted, reply-refused}
 pub use Rattle.row_buffer.specs.Laws.Rows.{below-bitmapWord, key-row}
 pub use Rattle.row_buffer.specs.Ranks.{countTo}
-pub use Rattle.table.specs.Contracts.{withPending}
 pub use Rattle.table.specs.Laws.Live.{getD-rowsIn, length-rowsIn, rowOfCells}
 pub use Rattle.table.specs.Laws.Pending.{length-records}
 pub use Rattle.table.specs.Laws.Refusals.{outside-inside, rows-long-of}

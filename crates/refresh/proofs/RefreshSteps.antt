@@ -1,6 +1,6 @@
 -- The results of a refresh: refused before the search for its rows, refused because the records do not fit, or done.
 -- Assumes nothing.
-use Rattle.refresh.proofs.Prelude.{ℕ, zero, suc, _+_, _*_, _≤_, _<_, _≡_, refl, sym, ap, _∙_, inl, inr, Bool, true, false, List, [], _∷_, map, mul-le-mul, mul-le-mul-right, arith, ltb, length, replicate, ltb-false, lt-ltb, le-ltb, splice, flatten, or-right, or-no-left, or-no-right, split, reply-refused, reply-accepted, countTo, bitmap-none, summarised-none, countTo-le, Staged, wordsAll, Numbered, Refresh, refreshed, Header, openingOf, outside, recordWords, withPending, outside-inside, Refreshed, IndexSound, mentionsAt, Lendable, CaughtUp, UpToDate, earlyRefusal, RowsFound, usable-index}
+use Rattle.refresh.proofs.Prelude.{ℕ, zero, suc, _+_, _*_, _≤_, _<_, _≡_, refl, sym, ap, _∙_, inl, inr, Bool, true, false, List, [], _∷_, map, mul-le-mul, mul-le-mul-right, arith, ltb, length, replicate, ltb-false, lt-ltb, le-ltb, splice, flatten, or-right, or-no-left, or-no-right, split, reply-refused, reply-accepted, countTo, bitmap-none, summarised-none, countTo-le, Staged, wordsAll, Numbered, Refresh, refreshed, Header, openingOf, outside, recordWords, outside-inside, Refreshed, IndexSound, mentionsAt, Lendable, CaughtUp, UpToDate, earlyRefusal, RowsFound, usable-index}
 use Rattle.refusals.specs.Refusals.{check, firstRefusal, accepted}
 use Rattle.plain_table.specs.Refusing.{overfull}
 use Rattle.refresh_spec.specs.declared.RefreshAnswer.the-variants.{Refused, Refreshed as RefreshDone}
@@ -46,9 +46,8 @@ module _ (h : Header) (rows pending index : List ℕ) (r : Refresh) where
       record {
         found = found;
         all-found = all;
-        answers = reply-refused (refreshView (Refused n)) _ n _ (unfold refreshView in refl) e some;
-        unchanged = λ k. (refl, refl);
-        staged = λ z. absurd (some (e ∙ z));
+        effect = record { answers = reply-refused (refreshView (Refused n)) _ n _ (unfold refreshView in refl) e some; unchanged = λ k. refl; written = λ z. absurd (some (e ∙ z)) };
+        index-unchanged = λ k. refl;
         written = λ z. absurd (some (e ∙ z));
         current = λ z. absurd (some (e ∙ z));
         past = refl;
@@ -170,9 +169,12 @@ module _ (h : Header) (rows pending index : List ℕ) (r : Refresh) where
           record {
             found = found h rows r (f .test) (f .mention);
             all-found = all-found;
-            answers = reply-accepted (refreshView (RefreshDone _)) _ (answered h records) (ap accepted a) none;
-            unchanged = λ k. absurd (omega (arith, none));
-            staged = λ z. w .words ∙ ap (λ (rs : List Staged). splice pending (h .pending) (flatten (map (recordWords (h .keys)) rs))) (sym records-are);
+            effect = record {
+              answers = reply-accepted (refreshView (RefreshDone _)) _ (answered h records) (ap accepted a) none;
+              unchanged = λ k. absurd (omega (arith, none));
+              written = λ z. w .words ∙ ap (λ (rs : List Staged). splice pending (h .pending) (flatten (map (recordWords (h .keys)) rs))) (sym records-are);
+            };
+            index-unchanged = λ k. absurd (omega (arith, none));
             written = λ z. up .0 .written;
             current = λ z sound. up .0 .current (λ u. usable-index lent u sound);
             past = up .0 .past;

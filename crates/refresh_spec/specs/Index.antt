@@ -1,11 +1,11 @@
 -- The index store of a refresh (document 02, change 2): "An index from value to rising row numbers stands in a lent u32 store".
 -- "Its inside is the program's choice"; ours is this:
 --
---   word 0          not 0, and 1 as it is written; "its first word is 0, which marks a new store; no written one has 0 there"
+--   word 0          0 in a new store; we write 1; "its first word is 0, which marks a new store; no written one has 0 there"
 --   words 1 and 2   the version last seen: generation and row count
 --   words 3 to 11   how many columns are named, and these
 --   word 12         how many buckets there are, at most 2 for each row of the capacity and named column
---   words 13 to 15  never read, never written
+--   words 13 to 15  unused
 --   words 16 on     for each row of the capacity and each named column, row by row, an entry: the link to the entry before it in
 --                   its bucket; then for each bucket the link to its last entry. A link is one more than an entry's number, or 0
 --
@@ -38,9 +38,6 @@ rowsSeen index = getD index 2 0
 unfoldable pub columnsNamed : List ℕ → ℕ
 columnsNamed index = getD index 3 0
 
-unfoldable pub columnNamed : List ℕ → ℕ → ℕ
-columnNamed index place = getD index (4 + place) 0
-
 unfoldable pub namedIn : List ℕ → List ℕ
 namedIn index = take (columnsNamed index) (drop 4 index)
 
@@ -48,7 +45,8 @@ namedIn index = take (columnsNamed index) (drop 4 index)
 unfoldable pub bucketOf : ℕ → ℕ → ℕ
 bucketOf buckets value = (((value * 2654435769) % 2 ^ 32) * buckets) / 2 ^ 32
 
--- the chain of entries below n that a link leads to; links lead to lower entries
+-- the entries below n on the chain that starts at a link, from the highest down; the chain ends at a link that is 0 or does not lead
+-- to a lower entry
 unfoldable pub chain : List ℕ → ℕ → ℕ → List ℕ
 chain index zero link = []
 chain index (suc n) link = cond (eqb link (suc n)) (n ∷ chain index n (getD index (16 + n) 0)) (chain index n link)
@@ -65,21 +63,17 @@ leadsTo h rows columns value entry i =
     let cells = rowAt (h .columns) (entry / length columns) rows in
     isLive cells && eqb (getD cells (getD columns (entry % length columns) 0) 0) value && eqb i (entry / length columns)
 
--- one of these entries leads to row i
-unfoldable pub leads : Header → List ℕ → List ℕ → ℕ → List ℕ → ℕ → Bool
-leads h rows columns value entries i = any (λ entry. leadsTo h rows columns value entry i) entries
-
 -- "An index from value to rising row numbers": a lookup returns the rows seen that an entry in the value's bucket leads to
 unfoldable pub lookedUp : Header → List ℕ → List ℕ → ℕ → List ℕ
 lookedUp h rows index value =
-    filter (leads h rows (namedIn index) value (entriesUnder (h .capacity) index value)) (iota 0 (rowsSeen index))
+    filter (λ i. any (λ entry. leadsTo h rows (namedIn index) value entry i) (entriesUnder (h .capacity) index value)) (iota 0 (rowsSeen index))
 
 -- "such an index of the version last seen": each live row of those seen has an entry under its value in each named column
 pub record IndexOf (h : Header) (rows index : List ℕ) : Type 0 where
   pub seen : rowsSeen index ≤ h .rows
   pub buckets-few : getD index 12 0 ≤ 2 * (h .capacity * columnsNamed index)
   pub listed : (row place : ℕ) → row < rowsSeen index → isLive (rowAt (h .columns) row rows) ≡ true → place < columnsNamed index
-      → elem (row * columnsNamed index + place) (entriesUnder (h .capacity) index (getD (rowAt (h .columns) row rows) (columnNamed index place) 0)) ≡ true
+      → elem (row * columnsNamed index + place) (entriesUnder (h .capacity) index (getD (rowAt (h .columns) row rows) (getD index (4 + place) 0) 0)) ≡ true
 
 -- "starts afresh if the generation or the columns differ, or if its first word is 0"
 unfoldable pub startsAfresh : Header → List ℕ → List ℕ → Bool

@@ -2,18 +2,18 @@
 use Prim.Native.Nat.{ℕ, _+_, _*_, _<_}
 use mathlib.Core.Path.{_≡_}
 use mathlib.Core.Bool.{Bool, true, false}
-use mathlib.Core.List.{List, [], map}
-use lib.ListN.{length, drop}
+use mathlib.Core.List.{List, map}
+use lib.ListN.{length}
 use lib.Dec.{ltb}
 use Rattle.lists.specs.Lists.{splice, filter, flatten}
-use Rattle.refusals.specs.Refusals.{Reply, refused, accepted, reply}
+use Rattle.refusals.specs.Refusals.{Reply, refused, accepted, Effect}
 use Rattle.plain_table.specs.Staged.{Staged, wordsAll}
 use Rattle.plain_table.specs.Refreshing.{Refresh, mentioning, refreshed, refreshChecks}
 use Rattle.table.specs.declared.Header.{Header}
 use Rattle.table.specs.Numbers.{openingOf, largestView}
 use Rattle.table.specs.Refusing.{pendingOutside}
 use Rattle.table.specs.Stores.{recordWords}
-use Rattle.table.specs.Contracts.{withPending, ofRows}
+use Rattle.table.specs.Contracts.{withPending, ofRows, SamePast}
 use Rattle.refresh_spec.specs.declared.Refreshed.{Refreshed}
 use Rattle.refresh_spec.specs.declared.RefreshAnswer.{RefreshAnswer}
 use Rattle.refresh_spec.specs.declared.RefreshAnswer.the-variants.{Refused as RefreshRefused, Refreshed as RefreshDone}
@@ -43,15 +43,12 @@ answered h records = record { header = withPending h (h .pending + wordsAll (ope
 pub record Refreshing (h : Header) (rows pending index : List ℕ) (r : Refresh) (answer : RefreshAnswer) (pending′ index′ : List ℕ) : Type 0 where
   pub found : ℕ → Bool
   pub all-found : IndexSound h rows (r .columns) index → (row : ℕ) → found row ≡ true
-  pub answers : refreshView answer
-      ≡ reply (refreshRefusal h (length rows) (length pending) (length index) r (recordsFound h rows r found)) (answered h (recordsFound h rows r found))
-  pub unchanged : 0 < refreshRefusal h (length rows) (length pending) (length index) r (recordsFound h rows r found)
-      → (pending′ ≡ pending) × (index′ ≡ index)
-  pub staged : refreshRefusal h (length rows) (length pending) (length index) r (recordsFound h rows r found) ≡ 0
-      → pending′ ≡ splice pending (h .pending) (flatten (map (recordWords (h .keys)) (recordsFound h rows r found)))
+  pub effect : Effect (refreshRefusal h (length rows) (length pending) (length index) r (recordsFound h rows r found)) (refreshView answer) (answered h (recordsFound h rows r found))
+      pending pending′ (splice pending (h .pending) (flatten (map (recordWords (h .keys)) (recordsFound h rows r found))))
+  pub index-unchanged : 0 < refreshRefusal h (length rows) (length pending) (length index) r (recordsFound h rows r found) → index′ ≡ index
   pub written : refreshRefusal h (length rows) (length pending) (length index) r (recordsFound h rows r found) ≡ 0 → isNew index′ ≡ false
   pub current : refreshRefusal h (length rows) (length pending) (length index) r (recordsFound h rows r found) ≡ 0 → IndexSound h rows (r .columns) index
       → Current h rows (r .columns) index′
   -- words past those needed are never written
-  pub past : drop (16 + 3 * (h .capacity * length (r .columns))) index′ ≡ drop (16 + 3 * (h .capacity * length (r .columns))) index
+  pub past : SamePast (16 + 3 * (h .capacity * length (r .columns))) index index′
   pub length-same : length index′ ≡ length index

@@ -110,7 +110,7 @@ module _ {p : Plain} (s : Stores) (rest : Body) (more : List ℕ) (r : Represent
       record {
         rows = front-changed n _ (s .rows) (rest .rows) (s .rows) (λ e. refl) (λ e. refl);
         sorts = front-changed n _ (s .sorts) (rest .sorts) (s .sorts) (λ e. refl) (λ e. refl);
-        pending = front-changed n _ (s .pending) more pending′ (λ e. rw (own-records s rest more r m sound (passed m (same ∙ e) .rows-long)) at (m .staged (same ∙ e))) (λ e. m .unchanged (rw same e) .0);
+        pending = front-changed n _ (s .pending) more pending′ (λ e. rw (own-records s rest more r m sound (passed m (same ∙ e) .rows-long)) at (m .effect .written (same ∙ e))) (λ e. m .effect .unchanged (rw same e));
       }
   called-leaves (refreshes-unsound w q index answer pending′ index′ m unsound) =
       let c = lentCall (feeding (ifAccepted (refreshView answer) (λ a. found-records m) [])) s w in

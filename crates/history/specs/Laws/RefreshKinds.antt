@@ -46,9 +46,8 @@ example-refreshed written seen count column =
     record {
       found = λ row. true;
       all-found = λ sound row. refl;
-      answers = refl;
-      unchanged = λ some. absurd (omega arith);
-      staged = λ none. refl;
+      effect = record { answers = refl; unchanged = λ some. absurd (omega arith); written = λ none. refl };
+      index-unchanged = λ some. absurd (omega arith);
       written = λ none. refl;
       current = λ none sound.
           record {

@@ -113,7 +113,7 @@ module _ (t : Stores) (rest : Body) (pending lent more : List ℕ) (b : Beside (
                 not-later = λ written. omega (arith, generation-front lent′ more (omega arith), c .generation);
                 of-now = λ written now. index-again (omega arith) refl (λ i k live. row-front h (t .rows) (rest .rows) (rows-long (passed m e .rows-long)) i k) o;
               })
-          | inr some ↦ rw (view-refused m some, m .unchanged some .1) (b .followed)
+          | inr some ↦ rw (view-refused m some, m .index-unchanged some) (b .followed)
         ]
 
     -- the refresh is a step of a history
@@ -153,11 +153,11 @@ module _ (t : Stores) (rest : Body) (pending lent more : List ℕ) (b : Beside (
           record {
             answers =
                 elim (some-number (number m)) [
-                  | inl e ↦ rw (← refused-same, ← records-same e) (m .answers)
+                  | inl e ↦ rw (← refused-same, ← records-same e) (m .effect .answers)
                   | inr some ↦ rw (← refused-same) (view-refused m some ∙ sym (reply-refused (number m) (answered (t .header) (recordsOf p q)) some))
                 ];
-            unchanged = λ some. m .unchanged (rw refused-same some);
-            staged = λ e. rw (← records-same (accepted-same e)) (m .staged (accepted-same e));
+            unchanged = λ some. (m .effect .unchanged (rw refused-same some), m .index-unchanged (rw refused-same some));
+            staged = λ e. rw (← records-same (accepted-same e)) (m .effect .written (accepted-same e));
             current = λ e. refreshes-current (accepted-same e);
             looked-up = λ e. looks-up (accepted-same e);
           }

@@ -17,7 +17,8 @@ pub use Rattle.lists.specs.Laws.All.{any-at, any-of}
 pub use Rattle.lists.specs.Laws.Filter.{and-left, and-right}
 pub use Rattle.lists.specs.Laws.Rising.{elem-at, elem-here, elem-of, elem-there, same-eq, same-refl}
 pub use Rattle.lists.specs.Lists.{elem, rowAt, same}
-pub use Rattle.refresh_spec.specs.Index.{IndexOf, entriesUnder, leads, rowsSeen}
+pub use Rattle.refresh_spec.specs.Index.{IndexOf, entriesUnder, rowsSeen}
+pub use Rattle.refresh_spec.specs.inner.Finding.{leads}
 pub use Rattle.refresh_spec.specs.Laws.Chains.{chain-below, chain-here}
 pub use Rattle.refresh_spec.specs.Laws.Fronts.{chain-same}
 pub use Rattle.refresh_spec.specs.Laws.Lookup.{Names, RowHolds, holds-leads, leads-holds}

@@ -7,7 +7,8 @@ use lib.ListN.{length, getD}
 use Rattle.lists.specs.Lists.{any}
 use Rattle.table.specs.declared.Header.{Header}
 use Rattle.bitmap.specs.inner.Bitmaps.{Marked}
-use Rattle.refresh_spec.specs.Index.{bucketOf, entriesUnder, leads}
+use Rattle.refresh_spec.specs.Index.{bucketOf, entriesUnder}
+use Rattle.refresh_spec.specs.inner.Finding.{leads}
 
 -- the bits of all rows that pass the test are set, and no others
 abbrev pub MarkedAll : (ℕ → Bool) → List ℕ → List ℕ → ℕ → Type 0

@@ -1,6 +1,6 @@
 -- Whether an index store is sound is decidable: every quantifier of `IndexSound` is bounded. So each refresh has one of the two
 -- kinds that a history has (`history` Laws/Total). Assumes nothing.
-use Rattle.refresh_spec.specs.Laws.Prelude.{ℕ, zero, suc, _+_, _*_, _≤_, _<_, _≡_, sym, _∙_, _⊎_, inl, inr, Bool, true, false, false≢true, List, ℕ-discrete, decLe, arith, getD, elem, rowAt, split, isLive, Header, rowsSeen, columnsNamed, columnNamed, entriesUnder, IndexOf, IndexSound}
+use Rattle.refresh_spec.specs.Laws.Prelude.{ℕ, zero, suc, _+_, _*_, _≤_, _<_, _≡_, sym, _∙_, _⊎_, inl, inr, Bool, true, false, false≢true, List, ℕ-discrete, decLe, arith, getD, elem, rowAt, split, isLive, Header, rowsSeen, columnsNamed, entriesUnder, IndexOf, IndexSound}
 
 -- ---- decisions
 
@@ -48,7 +48,7 @@ module _ (h : Header) (rows index : List ℕ) where
   -- the entry of a row and a place is in the bucket of the value there
   abbrev Entered : ℕ → ℕ → Type 0
   Entered row place =
-      elem (row * columnsNamed index + place) (entriesUnder (h .capacity) index (getD (rowAt (h .columns) row rows) (columnNamed index place) 0)) ≡ true
+      elem (row * columnsNamed index + place) (entriesUnder (h .capacity) index (getD (rowAt (h .columns) row rows) (getD index (4 + place) 0) 0)) ≡ true
 
   abbrev AllEntered : Type 0
   AllEntered = (row : ℕ) → row < rowsSeen index → isLive (rowAt (h .columns) row rows) ≡ true → (place : ℕ) → place < columnsNamed index → Entered row place

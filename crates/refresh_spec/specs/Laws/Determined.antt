@@ -22,10 +22,10 @@ module _ {h : Header} {rows pending index : List ℕ} {r : Refresh} {a b : Refre
   pub refreshing-determined : Same a b pending₁ pending₂
   refreshing-determined =
       record {
-        answer = refresh-view-injective a b (x .answers ∙ rw same-found (sym (y .answers)));
+        answer = refresh-view-injective a b (x .effect .answers ∙ rw same-found (sym (y .effect .answers)));
         cells =
             ⊎-elim
-            (λ none. x .staged none ∙ rw same-found (sym (y .staged (rw same-found at none))))
-            (λ some. x .unchanged some .0 ∙ sym (y .unchanged (rw same-found at some) .0))
+            (λ none. x .effect .written none ∙ rw same-found (sym (y .effect .written (rw same-found at none))))
+            (λ some. x .effect .unchanged some ∙ sym (y .effect .unchanged (rw same-found at some)))
             (some-number (number x));
       }

@@ -1,7 +1,7 @@
 -- An index store and its first parts: a first part that is long enough for the entries is an index exactly if the whole store is.
 -- Assumes nothing.
 use Rattle.refresh_spec.specs.Laws.Prelude.{ℕ, zero, suc, _+_, _*_, _%_, _^_, _≤_, _<_, _≡_, refl, sym, ap, inl, inr, Bool, true, false, not, _||_, List, _++_, mod-lt, mul-le-mul-right, mul-lt-mul-of-pos-right, arith, eqb, length, take, drop, getD, length-take, length-drop, List·getD-append, eqb-true, rowAt, or-no-left, or-no-right, same-eq, row-in, some-number, Header}
-use Rattle.refresh_spec.specs.Index.{isNew, generationSeen, rowsSeen, columnsNamed, columnNamed, namedIn, bucketOf, chain, entriesUnder, IndexOf, startsAfresh}
+use Rattle.refresh_spec.specs.Index.{isNew, generationSeen, rowsSeen, columnsNamed, namedIn, bucketOf, chain, entriesUnder, IndexOf, startsAfresh}
 
 -- equal links make equal chains
 pub chain-same : (n : ℕ) (index index′ : List ℕ) (link : ℕ) → ((e : ℕ) → e < n → getD index′ (16 + e) 0 ≡ getD index (16 + e) 0)
@@ -41,8 +41,7 @@ module _ (h : Header) (index index′ : List ℕ) (fit : h .rows ≤ h .capacity
   unfolding rowsSeen
   seen-alike = alike 2 (omega arith)
 
-  name-alike : (place : ℕ) → place < h .capacity * columnsNamed index → columnNamed index′ place ≡ columnNamed index place
-  unfolding columnNamed
+  name-alike : (place : ℕ) → place < h .capacity * columnsNamed index → getD index′ (4 + place) 0 ≡ getD index (4 + place) 0
   name-alike place k = alike (4 + place) (omega arith)
 
   entries-alike : {rows : List ℕ} (value : ℕ) → IndexOf h rows index → 0 < h .capacity * columnsNamed index
@@ -66,7 +65,7 @@ module _ (h : Header) (index index′ : List ℕ) (fit : h .rows ≤ h .capacity
             let l : place < n = rw count-alike at there in
             let m : rowsSeen index * n ≤ h .capacity * n = mul-le-mul-right n (omega (arith, o .seen)) in
             let i = row-in row (rowsSeen index) n k in
-            rw (count-alike, name-alike place (omega arith), entries-alike (getD (rowAt (h .columns) row rows) (columnNamed index place) 0) o (omega arith))
+            rw (count-alike, name-alike place (omega arith), entries-alike (getD (rowAt (h .columns) row rows) (getD index (4 + place) 0) 0) o (omega arith))
             (o .listed row place k live l);
       }
 

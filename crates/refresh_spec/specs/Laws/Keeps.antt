@@ -79,10 +79,10 @@ module _ {h : Header} {rows pending index pending′ index′ : List ℕ} {q : R
   number = refreshRefusal h (length rows) (length pending) (length index) q found-records
 
   pub view-accepted : number ≡ 0 → refreshView answer ≡ accepted (answered h found-records)
-  view-accepted e = m .answers ∙ reply-accepted number (answered h found-records) e
+  view-accepted e = m .effect .answers ∙ reply-accepted number (answered h found-records) e
 
   pub view-refused : 0 < number → refreshView answer ≡ refused number
-  view-refused some = m .answers ∙ reply-refused number (answered h found-records) some
+  view-refused some = m .effect .answers ∙ reply-refused number (answered h found-records) some
 
   pub passed : number ≡ 0 → Refreshable h (length rows) (length pending) (length index) q found-records
   passed e = refresh-accepted h (length rows) (length pending) (length index) q found-records e
@@ -93,11 +93,11 @@ module _ {h : Header} {rows pending index pending′ index′ : List ℕ} {q : R
   unfolding ifAccepted
   refreshing-done e r =
       rw (view-accepted e)
-      (records-represent found-records pending′ r (records-whole r q (m .found)) (passed e .free) (m .staged e))
+      (records-represent found-records pending′ r (records-whole r q (m .found)) (passed e .free) (m .effect .written e))
 
   pub refreshing-refused : {keys sorts : List ℕ} → 0 < number → stores (ifAccepted (refreshView answer) (λ a. a .header) h) rows keys sorts pending′ ≡ stores h rows keys sorts pending
   unfolding ifAccepted
-  refreshing-refused some = rw (view-refused some, m .unchanged some .0)
+  refreshing-refused some = rw (view-refused some, m .effect .unchanged some)
 
   -- "it is fed the records that the call staged"
   pub fed-accepted : number ≡ 0 → ifAccepted (refreshView answer) (λ a. found-records) [] ≡ found-records
@@ -113,8 +113,8 @@ module _ {h : Header} {rows pending index pending′ index′ : List ℕ} {q : R
   unfolding flatten
   fed-written =
       elim (some-number number) [
-        | inl e ↦ rw (fed-accepted e) (m .staged e)
-        | inr some ↦ rw (fed-refused some) (m .unchanged some .0 ∙ sym (splice-nil pending (h .pending)))
+        | inl e ↦ rw (fed-accepted e) (m .effect .written e)
+        | inr some ↦ rw (fed-refused some) (m .effect .unchanged some ∙ sym (splice-nil pending (h .pending)))
       ]
 
 -- "the table stays sound whatever it holds"

@@ -4,7 +4,8 @@ use Rattle.refresh_spec.specs.Laws.Prelude.{ℕ, suc, _+_, _*_, _/_, _%_
 use Rattle.lists.specs.Lists.{filter, rowAt, iota, elem}
 use Rattle.plain_table.specs.Plain.{Row, Plain, liveFrom, liveRows}
 use Rattle.plain_table.specs.Refreshing.{mentions}
-use Rattle.refresh_spec.specs.Index.{rowsSeen, columnsNamed, columnNamed, namedIn, entriesUnder, leadsTo, leads, lookedUp, IndexOf}
+use Rattle.refresh_spec.specs.Index.{rowsSeen, columnsNamed, namedIn, entriesUnder, leadsTo, lookedUp, IndexOf}
+use Rattle.refresh_spec.specs.inner.Finding.{leads}
 use Rattle.refresh_spec.specs.Laws.Places.{entry-in, entry-in-range}
 use Rattle.refresh_spec.specs.Laws.Chains.{under-limit}
 use Rattle.refresh_spec.specs.Laws.Fronts.{named-count}
@@ -17,8 +18,7 @@ pub record Names (columns index : List ℕ) : Type 0 where
   pub names : take (length columns) (drop 4 index) ≡ columns
 
 pub column-is : (columns index : List ℕ) → take (length columns) (drop 4 index) ≡ columns → (place : ℕ) → place < length columns
-    → columnNamed index place ≡ getD columns place 0
-unfolding columnNamed
+    → getD index (4 + place) 0 ≡ getD columns place 0
 column-is columns index names place p =
     sym (getD-drop 4 index place 0)
     ∙ sym (getD-take (length columns) (drop 4 index) place 0 p)
@@ -114,7 +114,7 @@ module _ (h : Header) (rows columns : List ℕ) (value : ℕ) where
 pub lookup-holding : {p : Plain} {s : Stores} {columns index : List ℕ} → Represents p s → Names columns index → IndexOf (s .header) (s .rows) index
     → rowsSeen index ≡ s .header .rows → namedIn index ≡ columns → (value : ℕ)
     → lookedUp (s .header) (s .rows) index value ≡ map (λ row. row .number) (filter (λ row. mentions columns (value ∷ []) (row .cells)) (liveRows p))
-unfolding lookedUp
+unfolding lookedUp leads
 lookup-holding {p} {s} {columns} {index} r n io all named value =
     let h = s .header in
     let rows = s .rows in

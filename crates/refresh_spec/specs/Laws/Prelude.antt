@@ -25,7 +25,7 @@ pub use Rattle.plain_table.specs.Laws.Rows.{noRow}
 pub use Rattle.plain_table.specs.Plain.{Numbered, liveRows}
 pub use Rattle.plain_table.specs.Refreshing.{Refresh, mentioning, refreshed}
 pub use Rattle.plain_table.specs.Staged.{Staged, wordsAll}
-pub use Rattle.refresh_spec.specs.Index.{IndexOf, IndexSound, columnNamed, columnsNamed, entriesUnder, rowsSeen}
+pub use Rattle.refresh_spec.specs.Index.{IndexOf, IndexSound, columnsNamed, entriesUnder, rowsSeen}
 pub use Rattle.refresh_spec.specs.declared.RefreshAnswer.{RefreshAnswer}
 pub use Rattle.refresh_spec.specs.declared.RefreshAnswer.the-variants.{Refreshed, Refused}
 pub use Rattle.refusals.specs.Laws.Determined.{Same}

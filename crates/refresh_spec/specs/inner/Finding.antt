@@ -6,13 +6,17 @@ use mathlib.Core.Bool.{Bool, true, false, _&&_}
 use mathlib.Core.List.{List}
 use lib.ListN.{length, take, drop, getD}
 use lib.Dec.{leb, ltb, eqb}
-use Rattle.lists.specs.Lists.{all, same, rowAt}
+use Rattle.lists.specs.Lists.{all, any, same, rowAt}
 use Rattle.constraints.specs.Constraints.{isLive}
 use Rattle.plain_table.specs.Refreshing.{mentions}
 use Rattle.table.specs.declared.Header.{Header}
 use Rattle.table.specs.Refusing.{outside}
 use Rattle.bitmap.specs.inner.Bitmaps.{Marked}
-use Rattle.refresh_spec.specs.Index.{isNew, generationSeen, rowsSeen, columnsNamed, IndexOf, Current}
+use Rattle.refresh_spec.specs.Index.{isNew, generationSeen, rowsSeen, columnsNamed, leadsTo, IndexOf, Current}
+
+-- one of these entries leads to row i
+unfoldable pub leads : Header → List ℕ → List ℕ → ℕ → List ℕ → ℕ → Bool
+leads h rows columns value entries i = any (λ entry. leadsTo h rows columns value entry i) entries
 
 -- row i is live and mentions a value
 unfoldable pub mentionsAt : Header → List ℕ → List ℕ → List ℕ → ℕ → Bool

@@ -65,7 +65,7 @@ module _ {h : Header} {rows pending index pending′ index′ : List ℕ} {r : R
         | inl e ↦
             let few = mul-le-mul-left (h .capacity) (columns-few e) in
             drop-further index′ index (16 + 3 * (h .capacity * length (r .columns))) (16 + 24 * h .capacity) (omega arith) (m .past)
-        | inr some ↦ ap (drop (16 + 24 * h .capacity)) (m .unchanged some .1)
+        | inr some ↦ ap (drop (16 + 24 * h .capacity)) (m .index-unchanged some)
       ]
 
 module _ {p : Plain} {s : Stores} (r : Represents p s) where
