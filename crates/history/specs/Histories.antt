@@ -18,8 +18,8 @@ use Rattle.refresh_spec.specs.Index.{IndexSound}
 use Rattle.refresh_spec.specs.Refreshes.{refreshView, recordsFound, Refreshing}
 use Rattle.table.specs.Contracts.{Stores, stores, Body, body, bodyOf, joined, CompactionWords, Opened, Staging, Merging, Compacting, Clearing, lengthsLent}
 
--- A call that is lent these stores and compaction words. If it is lent no compaction words, its checks do not read their lengths, and
--- they may be any.
+-- A call that is lent these stores and compaction words. The checks of a call that is not lent compaction words do not read their
+-- lengths; `w` may then be any.
 abbrev pub lentCall : Call → Stores → CompactionWords → LentCall
 lentCall c s w = record { call = c; lengths = lengthsLent s w }
 
@@ -51,8 +51,8 @@ pub data Called (s : Stores) : LentCall → Stores → Type 0 where
 abbrev pub behind : Stores → Body → List ℕ → Stores
 behind s rest pending = stores (s .header) (s .rows ++ rest .rows) (s .keys ++ rest .keys) (s .sorts ++ rest .sorts) (s .pending ++ pending)
 
--- A step lends its call a first part of each store. The part may differ from call to call, so a call may be refused for a store of
--- which the next call is lent more. The cells behind that part are unchanged.
+-- A step lends its call a first part of each store. The part may differ from call to call: a call may be refused because its part of
+-- a store is too short, and the next be lent a longer one. The cells behind that part are unchanged.
 pub data Step : Stores → LentCall → Stores → Type 0 where
   called : {s t : Stores} {c : LentCall} (rest : Body) (pending : List ℕ) → Called s c t → Step (behind s rest pending) c (behind t rest pending)
 

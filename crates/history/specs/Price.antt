@@ -3,7 +3,7 @@
 use Prim.Native.Nat.{ℕ, _+_, _≤_}
 use mathlib.Core.Path.{_≡_}
 use mathlib.Core.List.{List}
-use Rattle.refusals.specs.Refusals.{Reply, refused, accepted, ifAccepted}
+use Rattle.refusals.specs.Refusals.{ifAccepted}
 use Rattle.plain_table.specs.Staged.{Opening}
 use Rattle.plain_table.specs.Plain.{Plain, opened, mergeKeeps, mergeDrops}
 use Rattle.plain_table.specs.Calls.{LentCall}
@@ -25,7 +25,8 @@ pub record Wear : Type 0 where
 abbrev pub wear : ℕ → ℕ → ℕ → ℕ → Wear
 wear kept dropped compacted emptied = record { kept = kept; dropped = dropped; compacted = compacted; emptied = emptied }
 
--- the counts of one call; a refused one counts nothing: the caller's compaction drops all dead rows, a clear drops all rows
+-- The counts of one call. A refused call counts nothing; an accepted compaction of the caller drops all dead rows, an accepted clear
+-- all rows.
 unfoldable pub wearOfCall : {s t : Stores} {c : LentCall} → Called s c t → Wear
 wearOfCall (stages w r answer pending′ m) = wear 0 0 0 0
 wearOfCall (merges w answer b′ w′ m) = ifAccepted (mergeView answer) (λ a. wear (a .kept) (a .dropped) 0 0) (wear 0 0 0 0)

@@ -18,7 +18,7 @@ pub use Rattle.history.specs.Histories.{Called, History, Step, Steps, be
 pub use Rattle.history.specs.Notes.{Guaranteed, OldNote, storedRow}
 pub use Rattle.history.specs.Runs.{Query, refines}
 pub use Rattle.history.specs.Stamps.{OldStampsStayOut}
-pub use Rattle.history.specs.Total.{EveryOutcomeIsACall}
+pub use Rattle.history.specs.Total.{EveryRefreshIsACall}
 pub use Rattle.lists.specs.Laws.All.{or-no-left, or-no-right, or-second}
 pub use Rattle.lists.specs.Laws.Filter.{and-left, and-right, count-le, length-filter, split}
 pub use Rattle.lists.specs.Laws.Rising.{elem-at, elem-filter, filter-elem-comm, rising-ext, rising-filter, within-below, within-of}
