@@ -2,10 +2,12 @@
 use Prim.Native.Nat.{ℕ, _+_, _*_, _/_, _≤_, _<_}
 use mathlib.Core.Path.{_≡_, refl}
 use mathlib.Core.Bool.{Bool, true, false, _||_}
+use mathlib.Core.Option.{Option·elim}
 use mathlib.Core.List.{List, []}
 use native.Mathlib.Decide.{ℕ-discrete}
 use native.Mathlib.Omega.{arith}
 use lib.ListN.{length, take, getD}
+use Rattle.refusals.specs.Refusals.{ifAccepted}
 use Rattle.offsets.specs.declared.SubsetAnswer.{SubsetAnswer}
 use Rattle.offsets.specs.declared.SubsetAnswer.the-variants.{Refused, Range, List as Ids}
 use Rattle.offsets.specs.Subsets.{Subset, range, list}
@@ -21,7 +23,7 @@ use Rattle.table.specs.Contracts.{RangeRead}
 use Rattle.query_spec.specs.Queries.{RefinedOne, RefinedList}
 use Rattle.replay_queries.specs.declared.RunAnswer.{RunAnswer}
 use Rattle.replay_queries.specs.Encoding.{queryOf}
-use Rattle.replay_queries.specs.Outcomes.{rangeStep}
+use Rattle.replay_queries.specs.Outcomes.{queried}
 use Rattle.replay_queries.specs.inner.Executing.{counted, applyAnswer, Executed, ListExecuted, RangeExecuted}
 use Rattle.replay_queries.specs.Laws.Encoding.{list-whole, list-cut, list-long, query-one, query-list, query-ids, query-ends, query-range, no-one, no-ends, no-range, no-kind}
 use Rattle.replay_queries.specs.Laws.Executing.{execute-nothing, execute-no-range, put-refined, put-refined-list, put-intersected, put-ranged}
@@ -47,11 +49,11 @@ module _ (l : RunAnswer) (place : ℕ) (refines : Bool) (answer : SubsetAnswer) 
 
 module _ {h : Header} {sorts : List ℕ} {c : Constraint} {found : RangeAnswer} {a : Subset} {l l′ : RunAnswer} {place : ℕ} {output : List ℕ} (read : RangeRead h sorts c found) where
   pub range-refused : (n : ℕ) → found ≡ RangeRefused n → l′ ≡ counted l → RangeExecuted h sorts a c l place output l′ output
-  unfolding rangeView rangeStep
+  unfolding rangeView queried Option·elim ifAccepted
   range-refused n e same = record { execute = λ rows. execute-no-range refl read (rw e) same }
 
   pub range-none : found ≡ NoRange → l′ ≡ counted l → RangeExecuted h sorts a c l place output l′ output
-  unfolding rangeView rangeStep
+  unfolding rangeView queried Option·elim ifAccepted
   range-none e same = record { execute = λ rows. execute-no-range refl read (rw e) same }
 
   pub range-found : (start end : ℕ) (ids : List ℕ) {answer : SubsetAnswer} {output′ : List ℕ} → found ≡ Found start end

@@ -5,7 +5,6 @@ pub use mathlib.Core.List.{List, [], _++_, _∷_, append-assoc, append-nil}
 pub use mathlib.Core.Path.{_∙_, _≡_, ap, refl, sym}
 pub use native.Mathlib.Omega.{arith}
 pub use lib.ListN.{drop, getD, length, length-append, length-take, take}
-pub use Rattle.replay_frames.specs.Frames.{framed}
 pub use borrow.Author.Needs.{needs}
 pub use Rattle.history.specs.Laws.Narrowing.{any-both, or-assoc, or-false}
 pub use Rattle.history.specs.Runs.{Outcome, Query, outcome, refines}

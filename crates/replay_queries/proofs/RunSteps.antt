@@ -1,11 +1,20 @@
 -- A run, query by query. Assumes nothing.
 use Rattle.replay_queries.proofs.Prelude.{ℕ, zero, suc, _+_, _-_, _≤_, min, _≡_, refl, sym, ap, _∙_, Bool, false, _||_, List, [], _∷_, _++_, append-assoc, append-nil, arith, length, take, drop, getD, length-take, length-append, Cut, Whole, framed-end, framed-next, Header, Query, refines, Outcome, outcome, or-assoc, or-false, any-both, RunAnswer, queryOf, shorter, RunMade, QueriesExecuted, QueryExecuted, queried-then}
+use mathlib.Core.Bool.{cond}
+use lib.Dec.{eqb}
+use borrow.Author.Tests.{ne-eqb}
 use Rattle.lists.specs.Lists.{any}
 use Rattle.offsets.specs.declared.SubsetHead.{SubsetHead}
 use Rattle.offsets.specs.Answers.{subsetOf}
 use Rattle.replay_queries.specs.Outcomes.{idsAt, subsetLeft, QueriedAll, end}
+use Rattle.replay_queries.specs.inner.Executing.{Inside}
 use Rattle.replay_queries.specs.Laws.Executing.{behind}
 use Rattle.replay_frames.specs.Frames.{framed}
+
+-- the ids left are within the list
+pub inside-count : (place : ℕ) {count room : ℕ} → count ≤ cond (eqb place 0) 0 room → count ≤ room
+inside-count zero held = omega arith
+inside-count (suc place) held = rw (ne-eqb (suc place) 0 (λ e. omega arith)) at held
 
 -- the first ids of a list, as they are lent
 pub lent-count : (n : ℕ) (l : List ℕ) → n ≤ length l → n ≡ length (take n l)
@@ -29,7 +38,7 @@ module _ (h : Header) (rows sorts ids words first₀ second₀ : List ℕ) (l₀
     pub first-long : length first ≡ length first₀
     pub second-long : length second ≡ length second₀
     pub alike : length second₀ ≡ length first₀
-    pub fits : l .count ≤ length first₀
+    pub fits : Inside l (length first₀)
     pub early : l .taken ≤ at
     pub accepted : List Query
     pub refined-is : l .refined ≡ (l₀ .refined || any refines accepted)
@@ -38,15 +47,15 @@ module _ (h : Header) (rows sorts ids words first₀ second₀ : List ℕ) (l₀
         → QueriedAll h rows sorts (length first₀) (subsetLeft l₀ ids first₀ second₀) (framed queryOf words) (behind accepted o)
 
 module _ {h : Header} {rows sorts ids words first₀ second₀ : List ℕ} {l₀ : RunAnswer} where
-  pub going-begin : l₀ .count ≡ 0 → l₀ .taken ≡ 0 → length second₀ ≡ length first₀
+  pub going-begin : l₀ .count ≡ 0 → l₀ .place ≡ 0 → l₀ .taken ≡ 0 → length second₀ ≡ length first₀
       → Going h rows sorts ids words first₀ second₀ l₀ first₀ second₀ l₀ 0
-  going-begin none fresh alike =
+  going-begin none whole fresh alike =
       record {
         inside = omega arith;
         first-long = refl;
         second-long = refl;
         alike = alike;
-        fits = omega arith;
+        fits = (omega arith, omega arith);
         early = omega arith;
         accepted = [];
         refined-is = unfold any in sym (or-false (l₀ .refined));
@@ -134,7 +143,7 @@ module _ {h : Header} {rows sorts ids : List ℕ} {queries : List Query} (head :
       → RunMade h rows sorts (subsetOf head ids) ids queries first second r (part ++ drop n first) (part′ ++ drop n second)
   made-within e t a b =
       let room : length (take n first) ≡ shorter first second = sym (room-first n first second e) ∙ e in
-      let held : r .count ≤ length (take n first) = t .fits in
+      let held : r .count ≤ length (take n first) = inside-count (r .place) (t .fits .1) in
       let left : subsetLeft r ids (part ++ drop n first) (part′ ++ drop n second) ≡ subsetLeft r ids part part′ =
       part-left r ids part part′ (drop n first) (drop n second) (omega arith) (omega (arith, room-alike n first second e)) in
       let start = starting head ids (take n first) (take n second) in
@@ -142,7 +151,7 @@ module _ {h : Header} {rows sorts ids : List ℕ} {queries : List Query} (head :
         taken = t .taken ∙ (let z : 0 + length queries ≡ length queries = omega arith in z);
         accepted = t .accepted;
         refined-is = t .refined-is;
-        inside = omega (arith, held, room);
+        inside = rw room at (t .fits);
         queried = rw left (rw (room, start) at (t .queried));
         past = rw (← e) (drop-behind n part (drop n first) (a ∙ sym (room-first n first second e)), drop-behind n part′ (drop n second) (b ∙ sym (room-second n first second e)));
       }

@@ -2,8 +2,10 @@
 -- which the claim of the order's term 3 holds, is a law (Laws/Claimed). Assumes nothing.
 use Prim.Native.Nat.{ℕ, _≤_, min}
 use mathlib.Core.Path.{_≡_}
+use mathlib.Core.Bool.{cond}
 use mathlib.Core.List.{List}
 use lib.ListN.{length}
+use lib.Dec.{eqb}
 use Rattle.table.specs.Contracts.{SamePast}
 use Rattle.lists.specs.Lists.{any}
 use Rattle.offsets.specs.Subsets.{Subset}
@@ -24,8 +26,8 @@ module _ (h : Header) (rows sorts : List ℕ) (start : Subset) (ids : List ℕ) 
     -- the queries that were accepted, and whether some of them refined
     pub accepted : List Query
     pub refined-is : answer .refined ≡ any refines accepted
-    -- ids left in a lent list are within the length used
-    pub inside : answer .count ≤ shorter first second
+    -- the list that the ids left are in: 0 is the whole starting list, with the count 0; ids in a lent list are within the length used
+    pub inside : (answer .place ≤ 2) × (answer .count ≤ cond (eqb (answer .place) 0) 0 (shorter first second))
     -- these and the ids left are the result of the queries, whatever the stores contain
     pub queried : QueriedAll h rows sorts (shorter first second) start queries (outcome (subsetLeft answer ids first′ second′) accepted)
     -- past that length nothing is written; which list has the ids left, and what else is in both, is the program's choice

@@ -1,11 +1,12 @@
 // Lists of queries, decoded from words and run one after another on the ids left: the claim about runs holds for running code.
 ghost use mathlib.Core.Path.{_≡_};
-ghost use Prim.Native.Nat.{_≤_, _<_};
+ghost use Prim.Native.Nat.{_<_};
 ghost use lib.ListN.{length};
 ghost use Rattle.replay_frames.specs.Frames.{framed};
 ghost use Rattle.offsets.specs.Answers.{subsetOf};
 ghost use Rattle.replay_queries.specs.Encoding.{queryOf};
 ghost use Rattle.replay_queries.specs.RunQueries.{RunMade};
+ghost use Rattle.replay_queries.specs.inner.Executing.{Inside};
 ghost use Rattle.replay_queries.specs.inner.Running.{QueriesExecuted, QueryExecuted};
 use super::FIRST_LIST;
 use super::RunAnswer;
@@ -30,7 +31,7 @@ fn execute_query(
     first: &mut [u32],
     second: &mut [u32],
 ) -> RunAnswer
-    requires { ⌜ (l .count ≤ length (now first)) × (length (now second) ≡ length (now first)) × (l .taken < 18446744073709551615) ⌝ }
+    requires { ⌜ Inside l (length (now first)) × (length (now second) ≡ length (now first)) × (l .taken < 18446744073709551615) ⌝ }
     ensures { λ r. ⌜ QueryExecuted h (now (rows .entry)) (now (sorts .entry)) (now (ids .entry)) (queryOf kind (now (cells .entry))) l (now (first .entry)) (now (second .entry)) r (now (first .exit)) (now (second .exit)) ⌝ }
 {
     let head = SubsetHead {
@@ -81,7 +82,7 @@ fn run_queries_within(
     first: &mut [u32],
     second: &mut [u32],
 ) -> RunAnswer
-    requires { ⌜ (l .count ≡ 0) × (l .taken ≡ 0) × (length (now second) ≡ length (now first)) ⌝ }
+    requires { ⌜ (l .count ≡ 0) × (l .place ≡ 0) × (l .taken ≡ 0) × (length (now second) ≡ length (now first)) ⌝ }
     ensures { λ r. ⌜ QueriesExecuted h (now (rows .entry)) (now (sorts .entry)) (now (ids .entry)) (framed queryOf (now (queries .entry))) l (now (first .entry)) (now (second .entry)) r (now (first .exit)) (now (second .exit)) ⌝ }
 {
     let mut n = l;

@@ -1,9 +1,11 @@
 -- The result of `run_queries` is that of a run, so the claim of the order's term 3 holds for it; and if the sort entries are sound, it is
 -- determined by the stores and the queries alone. Assumes nothing.
-use Rattle.replay_queries.specs.Laws.Prelude.{ℕ, _≡_, refl, sym, ap, _∙_, inl, inr, true, Option, none, some, List, [], _∷_, _++_, arith, length, replicate, length-replicate, take-length, filter, rising, Reply, refused, accepted, reply, some-number, ruled-refused, Constraint, entriesOf, entriesSound, Opening, LentCall, Header, RangeAnswer, rangeView, fastRefusal, Stores, stores, fastSubset, RangeRead, reply-refused, reply-accepted, History, wanted, by-reply, term-three, RunAnswer, shorter, RunMade}
+use Rattle.replay_queries.specs.Laws.Prelude.{ℕ, _≡_, refl, sym, _∙_, inl, inr, true, Option, none, some, List, [], _∷_, _++_, arith, length, replicate, length-replicate, take-length, filter, rising, Reply, refused, accepted, reply, some-number, ruled-refused, Constraint, entriesOf, entriesSound, Opening, LentCall, Header, RangeAnswer, rangeView, fastRefusal, Stores, stores, fastSubset, RangeRead, reply-refused, reply-accepted, History, wanted, by-reply, term-three, RunAnswer, shorter, RunMade}
+use mathlib.Core.Option.{Option·elim}
+use Rattle.refusals.specs.Refusals.{ifAccepted}
 use Rattle.offsets.specs.Subsets.{Subset, members}
 use Rattle.history.specs.Runs.{Query, refineOne, refineList, intersectWith, intersectRange, Queried, one-refined, list-refined, intersected, range-intersected, range-nothing, Run, end as run-end, next as run-next, Outcome, outcome}
-use Rattle.replay_queries.specs.Outcomes.{subsetLeft, rangeStep, queried, QueriedAll, end, next}
+use Rattle.replay_queries.specs.Outcomes.{subsetLeft, queried, QueriedAll, end, next}
 
 -- ---- a run
 
@@ -19,8 +21,8 @@ module _ (h : Header) (rows keys sorts pending : List ℕ) (room : ℕ) where
   long = length-replicate room 0
 
   range-queried : (a : Subset) (c : Constraint) (range : RangeAnswer) (found : Reply (Option Subset)) → RangeRead h sorts c range → rangeView range ≡ found
-      → Queried table a (intersectRange c) (rangeStep a c room found)
-  unfolding rangeStep
+      → Queried table a (intersectRange c) (queried h rows room a (intersectRange c) found)
+  unfolding queried Option·elim ifAccepted
   range-queried a c range (refused n) read e =
       range-nothing c (length sorts) range (rw (take-length sorts) read) (λ b f. absurd (let z : _≡_ {A = ℕ} 0 1 = cc in omega arith))
   range-queried a c range (accepted none) read e =
@@ -77,7 +79,7 @@ module _ (h : Header) (rows sorts : List ℕ) (room : ℕ) where
     one-known a (refineOne c) range read = refl
     one-known a (refineList cs) range read = refl
     one-known a (intersectWith b) range read = refl
-    one-known a (intersectRange c) range read = ap (rangeStep a c room) (range-known c range (read c refl))
+    one-known a (intersectRange c) range read = rw (range-known c range (read c refl))
 
     pub queried-known : {a : Subset} {qs : List Query} {o : Outcome} → QueriedAll h rows sorts room a qs o → o ≡ queriedAll a qs
     unfolding queriedAll

@@ -1,11 +1,12 @@
 -- One query, run on the ids left. Assumes nothing.
-use Prim.Native.Nat.{ℕ, _+_, _≤_}
+use Prim.Native.Nat.{ℕ, _+_, _≤_, _<_}
 use mathlib.Core.Path.{_≡_, refl, sym, ap, _∙_}
 use mathlib.Core.Bool.{Bool, true, false, _||_}
-use mathlib.Core.Option.{some}
+use mathlib.Core.Option.{some, Option·elim}
 use mathlib.Core.List.{List, [], _∷_, _++_}
 use native.Mathlib.Omega.{arith}
 use lib.ListN.{length, take}
+use borrow.Author.Tests.{ne-eqb}
 use Rattle.lists.specs.Lists.{any}
 use Rattle.refusals.specs.Refusals.{Reply, accepted, reply, ifAccepted}
 use Rattle.offsets.specs.declared.SubsetAnswer.{SubsetAnswer}
@@ -25,8 +26,8 @@ use Rattle.history.specs.Runs.{Query, refineOne, refineList, intersectWith, int
 use Rattle.history.specs.Laws.Narrowing.{or-false}
 use Rattle.history.specs.Laws.Queries.{refinable, refined-fit}
 use Rattle.replay_queries.specs.declared.RunAnswer.{RunAnswer}
-use Rattle.replay_queries.specs.Outcomes.{idsAt, subsetLeft, rangeStep, queried, QueriedAll, end, next}
-use Rattle.replay_queries.specs.inner.Executing.{counted, applyAnswer, Executed}
+use Rattle.replay_queries.specs.Outcomes.{idsAt, subsetLeft, queried, QueriedAll, end, next}
+use Rattle.replay_queries.specs.inner.Executing.{Inside, counted, applyAnswer, Executed}
 
 -- the result of queries after others that were accepted
 abbrev pub behind : List Query → Outcome → Outcome
@@ -54,12 +55,12 @@ left-taken l place refines (Refused n) = refl
 left-taken l place refines (Range from to) = refl
 left-taken l place refines (Ids n) = refl
 
-left-fits : (l : RunAnswer) (place : ℕ) (refines : Bool) (answer : SubsetAnswer) (room : ℕ) → ((n : ℕ) → answer ≡ Ids n → n ≤ room) → l .count ≤ room
-    → applyAnswer l place refines answer .count ≤ room
+left-fits : (l : RunAnswer) (place : ℕ) (refines : Bool) (answer : SubsetAnswer) (room : ℕ) → ((n : ℕ) → answer ≡ Ids n → n ≤ room) → 0 < place → place ≤ 2 → Inside l room
+    → Inside (applyAnswer l place refines answer) room
 unfolding applyAnswer
-left-fits l place refines (Refused n) room fits held = held
-left-fits l place refines (Range from to) room fits held = omega arith
-left-fits l place refines (Ids n) room fits held = fits n refl
+left-fits l place refines (Refused n) room fits low high held = held
+left-fits l place refines (Range from to) room fits low high held = (omega arith, omega arith)
+left-fits l place refines (Ids n) room fits low high held = (high, rw (ne-eqb place 0 (λ e. omega arith)) (fits n refl))
 
 left-there : (l : RunAnswer) (a : Subset) (q : Query) (place : ℕ) (refines : Bool) (answer : SubsetAnswer) (output given first second : List ℕ)
     → ((n : ℕ) → idsAt place n given first second ≡ take n output) → subsetLeft l given first second ≡ a
@@ -119,7 +120,7 @@ module _ {h : Header} {rows sorts : List ℕ} {a : Subset} {queries : List Query
         refined-is = ap (λ (x : RunAnswer). x .refined) same ∙ sym (or-false (l .refined));
         taken = rw (e, same) (omega arith);
         few = rw same (omega arith);
-        fits = λ held. rw same held;
+        fits = λ low high held. rw same held;
         there = λ given first second here is. rw same is;
       }
 
@@ -136,7 +137,7 @@ module _ {h : Header} {rows sorts : List ℕ} {a : Subset} {queries : List Query
           refined-is = rw same (left-refined l a place answer output′ q);
           taken = rw (same, e) (left-taken l place (refines q) answer);
           few = rw same (omega (arith, left-taken l place (refines q) answer));
-          fits = λ held. rw same (left-fits l place (refines q) answer (length output) (m .fits) held);
+          fits = λ low high held. rw same (left-fits l place (refines q) answer (length output) (m .fits) low high held);
           there = λ given first second here is. rw same (left-there l a q place (refines q) answer output′ given first second here is);
         }
 
@@ -161,14 +162,14 @@ module _ {h : Header} {rows sorts : List ℕ} {a : Subset} {queries : List Query
     pub put-ranged : (b : Subset) {c : Constraint} {found : RangeAnswer} → queries ≡ intersectRange c ∷ [] → RangeRead h sorts c found
         → rangeView found ≡ accepted (some b) → Answered (intersectReply a b (length output)) output answer output′ → l′ ≡ applyAnswer l place false answer
         → Executed h rows sorts a queries l place output l′ output′
-    unfolding queried rangeStep refines
+    unfolding queried Option·elim ifAccepted refines
     put-ranged b {c} {found} e read is m same =
         put-replied (intersectRange c) _ found e (intersection-replied a b m) same (λ d z. let k : c ≡ d = cc in rw (← k) read) (rw is)
 
   -- there is no range, and the step has no effect
   pub execute-no-range : {c : Constraint} {found : RangeAnswer} → queries ≡ intersectRange c ∷ [] → RangeRead h sorts c found
-      → rangeStep a c (length output) (rangeView found) ≡ outcome a [] → l′ ≡ counted l → Executed h rows sorts a queries l place output l′ output
-  unfolding queried subsetLeft any
+      → queried h rows (length output) a (intersectRange c) (rangeView found) ≡ outcome a [] → l′ ≡ counted l → Executed h rows sorts a queries l place output l′ output
+  unfolding subsetLeft any
   execute-no-range {c} {found} e read nowhere same =
       record {
         ids = a;
@@ -177,6 +178,6 @@ module _ {h : Header} {rows sorts : List ℕ} {a : Subset} {queries : List Query
         refined-is = ap (λ (x : RunAnswer). x .refined) same ∙ sym (or-false (l .refined));
         taken = rw (e, same) (omega arith);
         few = rw same (omega arith);
-        fits = λ held. rw same held;
+        fits = λ low high held. rw same held;
         there = λ given first second here is. rw same is;
       }

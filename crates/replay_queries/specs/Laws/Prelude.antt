@@ -1,5 +1,5 @@
 -- The names that the laws of this crate take from elsewhere, re-exported. It defines nothing of its own.
-pub use Prim.Native.Nat.{_≤_, ℕ}
+pub use Prim.Native.Nat.{_<_, _≤_, ℕ}
 pub use mathlib.Core.Bool.{true}
 pub use mathlib.Core.List.{List, [], _++_, _∷_, append-assoc}
 pub use mathlib.Core.Logic.{inl, inr}

@@ -1,9 +1,10 @@
 -- One query at a time. Assumes nothing.
-use Prim.Native.Nat.{ℕ, _+_, _≤_}
+use Prim.Native.Nat.{ℕ, _+_, _≤_, _<_}
 use mathlib.Core.Path.{_≡_}
-use mathlib.Core.Bool.{Bool, true, false, _||_}
+use mathlib.Core.Bool.{Bool, true, false, cond, _||_}
 use mathlib.Core.List.{List, [], _∷_}
 use lib.ListN.{length, take}
+use lib.Dec.{eqb}
 use Rattle.lists.specs.Lists.{any}
 use Rattle.offsets.specs.declared.SubsetAnswer.{SubsetAnswer}
 use Rattle.offsets.specs.declared.SubsetAnswer.the-variants.{Refused, Range, List as Ids}
@@ -14,6 +15,10 @@ use Rattle.history.specs.Runs.{Query, intersectRange, refines, outcome}
 use Rattle.replay_queries.specs.declared.RunAnswer.{RunAnswer}
 use Rattle.replay_queries.specs.Encoding.{listOf}
 use Rattle.replay_queries.specs.Outcomes.{QueriedAll, idsAt, subsetLeft}
+
+-- the ids left in a lent list are within the length used
+abbrev pub Inside : RunAnswer → ℕ → Type 0
+Inside l output = (l .place ≤ 2) × (l .count ≤ cond (eqb (l .place) 0) 0 output)
 
 -- one more query, which has no effect
 abbrev pub counted : RunAnswer → RunAnswer
@@ -38,7 +43,7 @@ module _ (h : Header) (rows sorts : List ℕ) (a : Subset) (queries : List Query
     pub taken : l′ .taken ≡ l .taken + length queries
     pub few : l′ .taken ≤ l .taken + 1
     -- the ids written are within the output
-    pub fits : l .count ≤ length output → l′ .count ≤ length output
+    pub fits : 0 < place → place ≤ 2 → Inside l (length output) → Inside l′ (length output)
     -- and the answer refers to that output
     pub there : (given first second : List ℕ) → ((n : ℕ) → idsAt place n given first second ≡ take n output′)
         → subsetLeft l given first second ≡ a → subsetLeft l′ given first second ≡ ids

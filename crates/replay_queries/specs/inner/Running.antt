@@ -9,6 +9,7 @@ use Rattle.table.specs.declared.Header.{Header}
 use Rattle.history.specs.Runs.{Query, refines, outcome}
 use Rattle.replay_queries.specs.declared.RunAnswer.{RunAnswer}
 use Rattle.replay_queries.specs.Outcomes.{subsetLeft, QueriedAll}
+use Rattle.replay_queries.specs.inner.Executing.{Inside}
 
 module _ (h : Header) (rows sorts ids : List ℕ) (queries : List Query) (l : RunAnswer) (first second : List ℕ) (l′ : RunAnswer) (first′ second′ : List ℕ) where
   pub record QueriesExecuted : Type 0 where
@@ -17,7 +18,7 @@ module _ (h : Header) (rows sorts ids : List ℕ) (queries : List Query) (l : Ru
     pub refined-is : l′ .refined ≡ (l .refined || any refines accepted)
     pub taken : l′ .taken ≡ l .taken + length queries
     -- the ids left are within their list
-    pub fits : l′ .count ≤ length first
+    pub fits : Inside l′ (length first)
 
   -- no query or one
   pub record QueryExecuted : Type 0 where

@@ -1,6 +1,6 @@
 -- `replay_queries::run::execute_query` meets its contract. Assumes nothing.
 use Rattle.replay_queries.proofs.Prelude.{arith, execute-first, execute-second, execute-neither, needs}
-use Rattle.replay_queries.proofs.RunSteps.{lent-count}
+use Rattle.replay_queries.proofs.RunSteps.{inside-count, lent-count}
 use Rattle.replay_queries.proofs.run.execute_query.Statement.{statement}
 use Rattle.replay_queries.proofs.run.execute_query.Tie as tie
 
@@ -11,7 +11,10 @@ returns c =
     execute-first _ (entry .pre .0) (entry .pre .1) (at-if1 .if1 .taken) (at-execute .execute .ensures)
 
 slice-aggregate-execute-2 : tie.Need-slice-aggregate-execute-2
-slice-aggregate-execute-2 c = lent-count _ _ (omega (arith, c .before .before .before .before .before .before .before .before .before .before .before .before .pre .0, c .before .before .before .before .before .before .before .before .before .before .before .before .pre .1))
+slice-aggregate-execute-2 c =
+    let entry = c .before .before .before .before .before .before .before .before .before .before .before .before in
+    let held = inside-count (entry .args .l .place) (entry .pre .0 .1) in
+    lent-count _ _ (omega (arith, held, entry .pre .1))
 
 returns-2 : tie.Need-returns-2
 returns-2 c =
@@ -29,8 +32,9 @@ pub execute-query-spec : {M : Type 1} → statement M
 execute-query-spec =
     tie.close
     (tie.spec
-    (λ c. search needs) (λ c. search needs)
-    (λ c. lent-count _ _ (c .before .before .before .before .before .before .before .before .before .before .pre .0))
-    (λ c κs. search needs) (λ c. search needs) (λ c. search needs) returns (λ c. search needs) slice-aggregate-execute-2
+    (λ c. search needs) (λ c. let entry = c .before .before .before .before .before .before .before .before .before in inside-count (entry .args .l .place) (entry .pre .0 .1))
+    (λ c. let entry = c .before .before .before .before .before .before .before .before .before .before in lent-count _ _ (inside-count (entry .args .l .place) (entry .pre .0 .1)))
+    (λ c κs. search needs) (λ c. search needs) (λ c. search needs) returns
+    (λ c. let entry = c .before .before .before .before .before .before .before .before .before .before .before in let held = inside-count (entry .args .l .place) (entry .pre .0 .1) in omega (arith, held, entry .pre .1)) slice-aggregate-execute-2
     (λ c κs. search needs) (λ c. search needs) (λ c. search needs) returns-2 (λ c κs. search needs) (λ c. search needs)
     returns-3)

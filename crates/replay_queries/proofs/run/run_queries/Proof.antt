@@ -15,5 +15,5 @@ run-queries-spec =
     (λ c. let a = c .before .before .before .before .before .before .before .before .args in room-first _ (a .first .now) (a .second .now) (c .before .smaller .ensures))
     (λ c. search needs)
     (λ c. let a = c .before .before .before .before .before .before .before .before .before .args in room-second _ (a .first .now) (a .second .now) (c .before .before .smaller .ensures))
-    (λ c κs. let a = c .before .before .before .before .before .before .before .before .before .args in (refl, refl, room-alike _ (a .first .now) (a .second .now) (c .before .before .smaller .ensures)))
+    (λ c κs. let a = c .before .before .before .before .before .before .before .before .before .args in (refl, refl, refl, room-alike _ (a .first .now) (a .second .now) (c .before .before .smaller .ensures)))
     (λ c. search needs) (λ c. search needs) returns)

@@ -19,7 +19,7 @@ run-queries-within-spec =
     tie.close
     (tie.spec
     Inv-loop μ-loop
-    (λ c. let p = c .before .before .before .before .before .before .pre in going-begin (p .0) (p .1) (p .2))
+    (λ c. let p = c .before .before .before .before .before .before .pre in going-begin (p .0) (p .1) (p .2) (p .3))
     (λ c κs. c .loop .inv .inside) (λ c. search needs) (λ c. search needs)
     (λ c. c .before .before .before .loop .inv .first-long)
     (λ c. c .before .before .before .loop .inv .second-long)
