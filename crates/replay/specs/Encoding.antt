@@ -1,5 +1,5 @@
 -- An encoding of lists of requests as words: each request is a kind, a count and that number of words (`replay_frames`). Every list
--- of words is one; an item that is no request is skipped. Assumes nothing.
+-- of words encodes a list of requests: other items are skipped. Assumes nothing.
 use Prim.Native.Nat.{ℕ, suc}
 use mathlib.Core.Bool.{cond}
 use mathlib.Core.List.{List, [], _∷_}
@@ -9,12 +9,12 @@ use Rattle.plain_table.specs.Staged.{insert, removeKey, removeRow}
 use Rattle.plain_table.specs.Calls.{staging, merging, compacting, clearing}
 use Rattle.replay.specs.Requests.{Request, make, refresh}
 
--- a removal by row: the row, then the key; without a row no request
+-- a removal by row: the row, then the key; no request if there is no row
 unfoldable pub rowRemoval : List ℕ → List Request
 rowRemoval [] = []
 rowRemoval (row ∷ key) = make (staging (removeRow row key)) ∷ []
 
--- a refresh: the number of columns, the columns, the stamp, then the values; without a stamp no request
+-- a refresh: the number of columns, the columns, the stamp, then the values; no request if there is no stamp
 unfoldable pub refreshIn : List ℕ → List Request
 refreshIn [] = []
 refreshIn (columns ∷ words) =

@@ -18,7 +18,8 @@ use Rattle.table.specs.Contracts.{Body, CompactionWords}
 use Rattle.history.specs.Runs.{Query}
 use Rattle.replay_queries.specs.declared.RunAnswer.{RunAnswer}
 use Rattle.refresh_spec.specs.Index.{isNew}
-use Rattle.replay.specs.Requests.{Request, isRefresh}
+use Rattle.replay.specs.Requests.{Request}
+use Rattle.replay.specs.Laws.Requests.{isRefresh}
 use Rattle.replay.specs.Replays.{Replayed}
 use Rattle.replay.specs.Laws.Determined.{ReplayLeft, SameReplay, replayed-determined}
 use Rattle.replay_queries.specs.RunQueries.{RunMade}

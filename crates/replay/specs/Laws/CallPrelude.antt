@@ -30,7 +30,7 @@ pub use Rattle.refresh_spec.specs.declared.RefreshAnswer.{RefreshAnswer}
 pub use Rattle.refusals.specs.Laws.Replies.{some-number}
 pub use Rattle.replay.specs.Requests.{Request, Served, end, lentTo, made, make, next, refresh, refreshed, refreshed-unsound}
 pub use Rattle.replay.specs.inner.Making.{Made, MadeOnIndex, MadeOnPending}
-pub use Rattle.table.specs.Contracts.{Clearing, Compacting, CompactionWords, Merging, Represents, SamePast, Staging, Stores, WordsPast, body, compactionWords, lengths, stores}
+pub use Rattle.table.specs.Contracts.{Clearing, Compacting, CompactionWords, Merging, Represents, Staging, Stores, WordsPast, body, compactionWords, lengths, stores}
 pub use Rattle.table.specs.Laws.Checks.{compact-checks, merge-checks}
 pub use Rattle.table.specs.Numbers.{mergeView, tableView}
 pub use Rattle.table.specs.Refusing.{compactRefusal, mergeRefusal}

@@ -2,10 +2,10 @@
 -- except for the program's choices: in a table the key store's slots below 2 × capacity, after a compaction the compaction words
 -- needed, and after a refresh the index words needed. With another index store, it is also open which of the rows that mention a
 -- value are staged. Assumes nothing.
-use Rattle.replay.specs.Laws.Prelude.{ℕ, _*_, _+_, _<_, _≡_, refl, sym, ap, _∙_, _⊎_, inl, inr, true, false, List, [], map, arith, length, any, some-number, refused-same, Opening, openRefusal, opened, LentCall, afterAll, Header, TableAnswer, Refused, Table, Stores, Body, stores, joined, CompactionWords, lengths, Represents, SamePast, WordsPast, table-view-injective, opening-done, isNew, IndexSound, Steps, steps-represents, SameCells, steps-determined, Request, isRefresh, requested, served-steps, MadeFrom, Replayed}
+use Rattle.replay.specs.Laws.Prelude.{ℕ, _*_, _+_, _<_, _≡_, refl, sym, ap, _∙_, _⊎_, inl, inr, true, false, List, [], map, arith, length, any, some-number, refused-same, Opening, openRefusal, opened, LentCall, afterAll, Header, TableAnswer, Refused, Table, Stores, Body, stores, joined, CompactionWords, lengths, Represents, SamePast, WordsPast, table-view-injective, isNew, IndexSound, Steps, steps-represents, SameCells, steps-determined, Request, isRefresh, requested, served-steps, compactions, MadeFrom, Replayed}
 use Rattle.refusals.specs.Refusals.{accepted, reply, outcome}
 use Rattle.table.specs.Numbers.{tableView}
-use Rattle.replay.specs.Laws.Theorem.{replay-requested, replay-index, callsLent}
+use Rattle.replay.specs.Laws.Theorem.{replay-starts, replay-slots, replay-index-past, replay-index-kept, replay-requested, replay-index, callsLent}
 
 -- the result of a replay
 pub record ReplayLeft : Type 0 where
@@ -41,7 +41,7 @@ module _ (o : Opening) (generation : ℕ) (requests : List Request) (b : Body) (
     -- the compaction words: all of them, if nothing was compacted; otherwise those that are never written
     pub words-past : WordsPast (o .capacity) (x .words) (y .words)
     pub words-refused : 0 < openRefusal o (lengths (b .rows) (b .keys) (b .sorts) pending [] []) → x .words ≡ y .words
-    pub words-kept : (h : Header) → tableView (x .answer) ≡ accepted h → h .generation ≡ generation → x .words ≡ y .words
+    pub words-kept : compactions (opened o generation) requestedCalls ≡ 0 → x .words ≡ y .words
     -- the index store: all of it, if no refresh is requested; otherwise the words that are never written, and an index store that
     -- was new is sound
     pub index-past : SamePast (16 + 24 * o .capacity) (x .index) (y .index)
@@ -56,22 +56,21 @@ module _ (o : Opening) (generation : ℕ) (requests : List Request) (b : Body) (
   view-accepted (Refused n) e = absurd (let z : _≡_ {A = ℕ} 0 1 = cc in omega arith)
   view-accepted (Table h) e = (h, refl)
 
-  -- the table that the requests start with, and the one that they result in
-  module _ {s : Stores} {index′ : List ℕ} (m : MadeFrom o generation requests b pending w index s index′) where
-    starts : Represents (opened o generation) (stores (m .header) (b .rows) (m .keys) (b .sorts) pending)
-    unfolding tableView
-    starts = opening-done (m .opened) (m .header) refl
+  -- the table that the requests result in
+  module _ {s : Stores} {w′ : CompactionWords} {index′ : List ℕ} (m : MadeFrom o generation requests b pending w index s w′ index′) (sound : Sound) where
+    steps : Steps (stores (m .header) (b .rows) (m .keys) (b .sorts) pending) requestedCalls s
+    steps = rw (replay-requested m sound) at (served-steps (m .served))
 
-    steps : Sound → Steps (stores (m .header) (b .rows) (m .keys) (b .sorts) pending) requestedCalls s
-    steps sound = rw (replay-requested m sound) at (served-steps (m .served))
+    ends : Represents (afterAll (opened o generation) requestedCalls) s
+    ends = steps-represents (replay-starts m) steps
 
-    ends : Sound → Represents (afterAll (opened o generation) requestedCalls) s
-    ends sound = steps-represents starts (steps sound)
+    kept : compactions (opened o generation) requestedCalls ≡ 0 → w′ ≡ w
+    kept none = m .words-kept (rw (replay-requested m sound) none)
 
-  made-same : {s t : Stores} {i j : List ℕ} → Sound → MadeFrom o generation requests b pending w index s i → MadeFrom o generation requests b pending w index t j → SameCells s t
+  made-same : {s t : Stores} {v v′ : CompactionWords} {i j : List ℕ} → Sound → MadeFrom o generation requests b pending w index s v i → MadeFrom o generation requests b pending w index t v′ j → SameCells s t
   made-same sound x y =
-      steps-determined (starts x) (starts y)
-      (record { header = starts x .shown .header ∙ sym (starts y .shown .header); rows = refl; sorts = refl; pending = refl })
+      steps-determined (replay-starts x) (replay-starts y)
+      (record { header = replay-starts x .shown .header ∙ sym (replay-starts y .shown .header); rows = refl; sorts = refl; pending = refl })
       (steps x sound) (steps y sound)
 
   module _ (sound : Sound) (x y : ReplayLeft) (u : ReplayedTo x) (v : ReplayedTo y) where
@@ -82,20 +81,22 @@ module _ (o : Opening) (generation : ℕ) (requests : List Request) (b : Body) (
         let bodies : x .body ≡ y .body = e .0 ∙ sym (f .0) in
         let words : x .words ≡ y .words = e .2 ∙ sym (f .2) in
         let answers : x .answer ≡ y .answer = refused-same table-view-injective (u .refusal) (v .refusal) some in
+        let keys : x .body .keys ≡ y .body .keys = ap (λ (z : Body). z .keys) bodies in
+        let indexes : x .index ≡ y .index = e .3 ∙ sym (f .3) in
         record {
           answer = answers;
           rows = ap (λ (z : Body). z .rows) bodies;
           sorts = ap (λ (z : Body). z .sorts) bodies;
           pending-same = e .1 ∙ sym (f .1);
-          keys-refused = λ k. ap (λ (z : Body). z .keys) bodies;
-          slots-past = v .slots-past ∙ sym (u .slots-past);
+          keys-refused = λ k. keys;
+          slots-past = rw keys;
           represent = λ h answer-is. (ends (u .calls-made h answer-is) sound, ends (v .calls-made h (ap tableView (sym answers) ∙ answer-is)) sound);
-          words-past = (v .words-past .0 ∙ sym (u .words-past .0), v .words-past .1 ∙ sym (u .words-past .1));
+          words-past = (rw words, rw words);
           words-refused = λ k. words;
-          words-kept = λ h answer-is same. words;
-          index-past = v .index-past ∙ sym (u .index-past);
-          index-refused = λ k. e .3 ∙ sym (f .3);
-          index-kept = λ none. e .3 ∙ sym (f .3);
+          words-kept = λ none. words;
+          index-past = rw indexes;
+          index-refused = λ k. indexes;
+          index-kept = λ none. indexes;
           index-sound = λ h answer-is new columns. (replay-index (u .calls-made h answer-is) new columns, replay-index (v .calls-made h (ap tableView (sym answers) ∙ answer-is)) new columns);
         }
 
@@ -104,7 +105,9 @@ module _ (o : Opening) (generation : ℕ) (requests : List Request) (b : Body) (
     made-replay none =
         let g = view-accepted (x .answer) (rw none at (u .refusal)) in
         let k = view-accepted (y .answer) (rw none at (v .refusal)) in
-        let same = made-same sound (u .calls-made (g .0) (g .1)) (v .calls-made (k .0) (k .1)) in
+        let made = u .calls-made (g .0) (g .1) in
+        let made′ = v .calls-made (k .0) (k .1) in
+        let same = made-same sound made made′ in
         let answers : tableView (x .answer) ≡ tableView (y .answer) = g .1 ∙ ap (λ (h : Header). accepted h) (same .header) ∙ sym (k .1) in
         record {
           answer = table-view-injective (x .answer) (y .answer) answers;
@@ -112,14 +115,14 @@ module _ (o : Opening) (generation : ℕ) (requests : List Request) (b : Body) (
           sorts = same .sorts;
           pending-same = same .pending;
           keys-refused = λ some. absurd (omega arith);
-          slots-past = v .slots-past ∙ sym (u .slots-past);
+          slots-past = replay-slots made′ ∙ sym (replay-slots made);
           represent = λ h answer-is. (ends (u .calls-made h answer-is) sound, ends (v .calls-made h (sym answers ∙ answer-is)) sound);
-          words-past = (v .words-past .0 ∙ sym (u .words-past .0), v .words-past .1 ∙ sym (u .words-past .1));
+          words-past = (made′ .words-past .0 ∙ sym (made .words-past .0), made′ .words-past .1 ∙ sym (made .words-past .1));
           words-refused = λ some. absurd (omega arith);
-          words-kept = λ h answer-is kept. u .words-kept h answer-is kept ∙ sym (v .words-kept h (sym answers ∙ answer-is) kept);
-          index-past = v .index-past ∙ sym (u .index-past);
+          words-kept = λ none. kept made sound none ∙ sym (kept made′ sound none);
+          index-past = replay-index-past made′ ∙ sym (replay-index-past made);
           index-refused = λ some. absurd (omega arith);
-          index-kept = λ none. u .index-kept none ∙ sym (v .index-kept none);
+          index-kept = λ none. replay-index-kept made none ∙ sym (replay-index-kept made′ none);
           index-sound = λ h answer-is new columns. (replay-index (u .calls-made h answer-is) new columns, replay-index (v .calls-made h (sym answers ∙ answer-is)) new columns);
         }
 

@@ -20,10 +20,10 @@ pub use Rattle.plain_table.specs.Staged.{Opening}
 pub use Rattle.refresh_spec.specs.Index.{IndexSound, isNew}
 pub use Rattle.refusals.specs.Laws.Determined.{refused-same}
 pub use Rattle.refusals.specs.Laws.Replies.{some-number}
-pub use Rattle.replay.specs.Laws.Requests.{calls-plain, calls-requested, index-past, index-sound, index-unused, lentAll, requested, served-steps}
-pub use Rattle.replay.specs.Requests.{Request, isRefresh}
+pub use Rattle.replay.specs.Laws.Requests.{calls-plain, calls-requested, index-past, index-sound, index-unused, isRefresh, lentAll, requested, served-steps, slots-past}
+pub use Rattle.replay.specs.Requests.{Request}
 pub use Rattle.replay.specs.inner.Making.{Made}
-pub use Rattle.replay.specs.Replays.{MadeFrom, Replayed}
+pub use Rattle.replay.specs.Replays.{MadeFrom, Replayed, compactions}
 pub use Rattle.table.specs.Contracts.{Body, CompactionWords, Opened, Represents, SamePast, Stores, WordsPast, body, joined, lengths, stores}
 pub use Rattle.table.specs.Laws.Answers.{table-view-injective}
 pub use Rattle.table.specs.Laws.Keeps.{opening-done}

@@ -1,5 +1,5 @@
 -- An opening and the requests after it are a history, so term 3 of the order holds for the resulting stores. Assumes nothing.
-use Rattle.replay.specs.Laws.Prelude.{ℕ, zero, suc, _*_, _<_, _≡_, refl, sym, ap, _∙_, _⊎_, inl, inr, true, false, List, [], map, arith, length, any, Opening, openRefusal, Call, LentCall, afterAll, Header, TableAnswer, Refused, Table, headerOf, Stores, Body, body, stores, joined, CompactionWords, lengths, Represents, SamePast, Opened, accepted-number, opening-done, isNew, IndexSound, end, History, Claimed, steps-represents, history-whole, term-three, Request, isRefresh, requested, lentAll, Made, served-steps, index-unused, index-past, calls-requested, calls-plain, index-sound, MadeFrom, Replayed}
+use Rattle.replay.specs.Laws.Prelude.{ℕ, zero, suc, _+_, _*_, _<_, _≡_, refl, ap, _∙_, _⊎_, inl, inr, true, false, List, [], map, arith, length, any, Opening, openRefusal, Call, LentCall, afterAll, Header, TableAnswer, Refused, Table, headerOf, Stores, Body, body, stores, joined, CompactionWords, lengths, Represents, SamePast, Opened, accepted-number, opening-done, isNew, IndexSound, end, History, Claimed, history-whole, term-three, Request, isRefresh, requested, lentAll, Made, served-steps, slots-past, index-unused, index-past, calls-requested, calls-plain, index-sound, MadeFrom, Replayed}
 use Rattle.refusals.specs.Refusals.{Reply, refused, reply, outcome}
 use Rattle.plain_table.specs.Plain.{opened}
 use Rattle.table.specs.Numbers.{tableView}
@@ -10,14 +10,33 @@ callsLent calls b pending w = lentAll (lengths (b .rows) (b .keys) (b .sorts) pe
 
 -- ---- the claim
 
-module _ {o : Opening} {generation : ℕ} {requests : List Request} {b : Body} {pending : List ℕ} {w : CompactionWords} {index : List ℕ} {s : Stores} {index′ : List ℕ}
-    (m : MadeFrom o generation requests b pending w index s index′) where
+module _ {o : Opening} {generation : ℕ} {requests : List Request} {b : Body} {pending : List ℕ} {w : CompactionWords} {index : List ℕ} {s : Stores} {w′ : CompactionWords} {index′ : List ℕ}
+    (m : MadeFrom o generation requests b pending w index s w′ index′) where
   -- the opening, and the requests after it
   opened-history : History o generation [] (stores (m .header) (b .rows) (m .keys) (b .sorts) pending)
-  opened-history = history-whole (b .keys) (m .opened) (end _)
+  opened-history = history-whole (b .keys) (m .opening) (end _)
 
   pub made-history : History o generation (callsLent (m .calls) b pending w) s
-  made-history = history-whole (b .keys) (m .opened) (served-steps (m .served))
+  made-history = history-whole (b .keys) (m .opening) (served-steps (m .served))
+
+  -- the table after the opening
+  pub replay-starts : Represents (opened o generation) (stores (m .header) (b .rows) (m .keys) (b .sorts) pending)
+  unfolding tableView
+  replay-starts = opening-done (m .opening) (m .header) refl
+
+  -- slots past those needed are never written
+  pub replay-slots : SamePast (2 * o .capacity) (b .keys) (s .keys)
+  unfolding opened
+  replay-slots = slots-past replay-starts (m .served) ∙ m .opening .past
+
+  -- the index store: words past those that a refresh may need ("16 words plus 3 for each row of the capacity and named column", of
+  -- at most eight columns) are never written, and without a refresh none is
+  pub replay-index-past : SamePast (16 + 24 * o .capacity) index index′
+  unfolding opened
+  replay-index-past = index-past replay-starts (m .served)
+
+  pub replay-index-kept : any isRefresh requests ≡ false → index′ ≡ index
+  replay-index-kept = index-unused (m .served)
 
   -- "the live rows, numbers and cells, are those of document 01's plain table after the same calls", and the ids left by queries
   pub replay-claimed : Claimed (afterAll (opened o generation) (callsLent (m .calls) b pending w)) s
@@ -56,17 +75,7 @@ module _ {o : Opening} {generation : ℕ} {b : Body} {pending keys′ : List ℕ
         refusal = number-is .1;
         unchanged = λ some. (rw (m .unchanged some), refl, refl, refl);
         calls-made = λ h answer-is. absurd (let z : _≡_ {A = ℕ} 0 1 = cc in omega arith);
-        slots-past = m .past;
-        words-past = (refl, refl);
-        words-kept = λ h answer-is same. refl;
-        index-past = refl;
-        index-kept = λ none. refl;
       }
-
-  -- the table after an accepted opening
-  opened-represents : (h : Header) → answer ≡ Table h → Represents (opened o generation) (stores h (b .rows) keys′ (b .sorts) pending)
-  unfolding tableView
-  opened-represents h e = opening-done (rw e at m) h refl
 
   -- an accepted opening, and the requests
   pub replay-made : (h h′ : Header) (b′ : Body) (pending′ : List ℕ) (w′ : CompactionWords) (index′ : List ℕ) → answer ≡ Table h → length keys′ ≡ length (b .keys)
@@ -75,18 +84,19 @@ module _ {o : Opening} {generation : ℕ} {b : Body} {pending keys′ : List ℕ
   unfolding tableView outcome reply opened
   replay-made h h′ b′ pending′ w′ index′ e same made =
       let none = accepted-number (openRefusal o (lengths (b .rows) (b .keys) (b .sorts) pending [] [])) h (headerOf (opened o generation)) (rw (ap tableView e) at (m .answers)) in
-      let from : MadeFrom o generation requests b pending w index (joined h′ b′ pending′) index′ = record { header = h; keys = keys′; opened = rw e at m; calls = made .calls; served = rw same at (made .served) } in
-      let shown = opened-represents h e in
-      let last : h′ .generation ≡ afterAll (opened o generation) (lentAll (lengths (b .rows) keys′ (b .sorts) pending (w .live) (w .base)) (made .calls)) .generation =
-      ap (λ (x : Header). x .generation) (steps-represents shown (served-steps (made .served)) .shown .header) in
-      let past : SamePast (2 * o .capacity) keys′ (b′ .keys) = made .slots-past (opened o generation) shown in
+      let shown : Represents (opened o generation) (stores h (b .rows) keys′ (b .sorts) pending) = opening-done (rw e at m) h refl in
+      let from : MadeFrom o generation requests b pending w index (joined h′ b′ pending′) w′ index′ =
+      record {
+        header = h;
+        keys = keys′;
+        opening = rw e at m;
+        calls = made .calls;
+        served = rw same at (made .served);
+        words-past = made .words-past (opened o generation) shown;
+        words-kept = rw same at (made .words-kept (opened o generation) shown);
+      } in
       record {
         refusal = rw none;
         unchanged = λ some. absurd (omega arith);
         calls-made = λ g answer-is. let is : h′ ≡ g = cc in rw (← is) from;
-        slots-past = past ∙ m .past;
-        words-past = made .words-past (opened o generation) shown;
-        words-kept = λ g answer-is e. let is : h′ ≡ g = cc in made .words-kept (opened o generation) shown (sym last ∙ ap (λ (x : Header). x .generation) is ∙ e);
-        index-past = index-past shown (made .served);
-        index-kept = index-unused (made .served);
       }

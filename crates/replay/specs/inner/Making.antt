@@ -1,22 +1,22 @@
 -- Requests executed one after another on lent stores: each is a step of a history. Assumes nothing.
-use Prim.Native.Nat.{ℕ, _*_}
+use Prim.Native.Nat.{ℕ}
 use mathlib.Core.Path.{_≡_}
 use mathlib.Core.List.{List, map}
 use Rattle.plain_table.specs.Refusing.{Lengths}
 use Rattle.plain_table.specs.Plain.{Plain}
-use Rattle.plain_table.specs.Calls.{Call, afterAll}
+use Rattle.plain_table.specs.Calls.{Call}
 use Rattle.table.specs.declared.Header.{Header}
-use Rattle.table.specs.Contracts.{Stores, stores, lengths, Represents, CompactionWords, compactionWords, SamePast, WordsPast}
+use Rattle.table.specs.Contracts.{Stores, stores, lengths, Represents, CompactionWords, compactionWords, WordsPast}
 use Rattle.replay.specs.Requests.{Request, lentTo, ServedAll}
+use Rattle.replay.specs.Replays.{compactions}
 
 -- requests on stores and compaction words of these lengths, and on an index store
 pub record Made (requests : List Request) (l : Lengths) (s : Stores) (w : CompactionWords) (index : List ℕ) (s′ : Stores) (w′ : CompactionWords) (index′ : List ℕ) : Type 0 where
   pub calls : List Call
   pub served : ServedAll l s index requests calls s′ index′
-  -- on a table: what is never written, and the compaction words if nothing is compacted
-  pub slots-past : (p : Plain) → Represents p s → SamePast (2 * p .opening .capacity) (s .keys) (s′ .keys)
+  -- on a table: the compaction words that are never written, and all of them if nothing is compacted
   pub words-past : (p : Plain) → Represents p s → WordsPast (p .opening .capacity) w w′
-  pub words-kept : (p : Plain) → Represents p s → afterAll p (map (lentTo l) calls) .generation ≡ p .generation → w′ ≡ w
+  pub words-kept : (p : Plain) → Represents p s → compactions p (map (lentTo l) calls) ≡ 0 → w′ ≡ w
 
 -- requests on the pending store alone, whatever the other stores hold
 pub record MadeOnPending (requests : List Request) (h : Header) (pending : List ℕ) (h′ : Header) (pending′ : List ℕ) : Type 0 where
