@@ -20,6 +20,9 @@ use Rattle.short_histories.specs.declared.SequenceAnswer.the-variants.{R
 
 -- ---- the steps
 
+-- The tables that the steps are for have "three columns, one key, sort column 1, capacity 6" and any of the four rules
+-- (`shortOpening` in Laws/Steps); no contract mentions a table.
+
 -- "the third cell being the stamp for key 0 and 1 minus the stamp for key 1"
 unfoldable pub thirdCell : ℕ → ℕ → ℕ
 thirdCell zero stamp = stamp
@@ -58,24 +61,17 @@ positionOf sequence = placeIn shortHistories sequence
 unfoldable pub sequenceAt : ℕ → List ℕ
 sequenceAt position = getD shortHistories position []
 
--- the generator: the sequence after this one, none after the last. It starts with the first sequence, the empty one, and generates
--- all others; that each is in the list "exactly once" is a law (Laws/Positions)
+-- the generator: the sequence after this one, none after the last. Started at the empty sequence, it gives all others in turn
+-- (Laws/Generated); each is in the list "exactly once" (Laws/Positions)
 unfoldable pub nextAfter : List ℕ → Option (List ℕ)
 nextAfter sequence =
     cond (ltb (suc (positionOf sequence)) (length shortHistories)) (some (sequenceAt (suc (positionOf sequence)))) none
 
 -- ---- refusals
 
--- no "length above 6 or an unknown step"
+-- at most 6 steps, all of them known: not "a length above 6 or an unknown step"
 unfoldable pub known : List ℕ → Bool
 known sequence = leb (length sequence) 6 && all (λ step. ltb step 7) sequence
-
--- "15, .. an unknown step"
-unfoldable pub stepRefusal : ℕ → ℕ
-stepRefusal step = firstRefusal (check (leb 7 step) 15 ∷ [])
-
-unfoldable pub positionRefusal : List ℕ → ℕ
-positionRefusal sequence = firstRefusal (check (not (known sequence)) 15 ∷ [])
 
 -- "16, a position past the last", then 2, an output shorter than what is to be written
 unfoldable pub sequenceRefusal : ℕ → ℕ → ℕ
@@ -106,11 +102,12 @@ sequenceView (Written n) = accepted (some n)
 
 -- ---- contracts
 
+-- "15, .. an unknown step"
 abbrev pub StepAnswered : ℕ → StepAnswer → Type 0
-StepAnswered step answer = stepView answer ≡ reply (stepRefusal step) (getD steps step merging)
+StepAnswered step answer = stepView answer ≡ reply (firstRefusal (check (leb 7 step) 15 ∷ [])) (getD steps step merging)
 
 abbrev pub PositionAnswered : List ℕ → PositionAnswer → Type 0
-PositionAnswered sequence answer = positionView answer ≡ reply (positionRefusal sequence) (positionOf sequence)
+PositionAnswered sequence answer = positionView answer ≡ reply (firstRefusal (check (not (known sequence)) 15 ∷ [])) (positionOf sequence)
 
 -- The sequence found is at the start of the output, and nothing is changed past it; on refusal nothing is changed at all.
 pub record SequenceAnswered (refusal : ℕ) (found : Option (List ℕ)) (output : List ℕ) (answer : SequenceAnswer) (output′ : List ℕ) : Type 0 where

@@ -2,18 +2,18 @@
 use Rattle.short_histories.specs.Laws.Prelude.{ℕ, suc, _+_, _≤_, _<_, _≡_, refl, sym, true, false, List, none, some, arith, length, lt-ltb, le-ltb, lt-leb, le-leb, splice, splice-nil, SequenceAnswer, Refused, None, Written}
 use Rattle.refusals.specs.Refusals.{firstRefusal, reply}
 use Rattle.short_histories.specs.declared.PositionAnswer.the-variants.{Refused as PositionRefused, Position}
-use Rattle.short_histories.specs.Sequences.{shortHistories, positionOf, sequenceAt, nextAfter, known, positionRefusal, sequenceRefusal, nextRefusal, positionView, sequenceView, PositionAnswered, SequenceFound, NextFound}
+use Rattle.short_histories.specs.Sequences.{shortHistories, positionOf, sequenceAt, nextAfter, known, sequenceRefusal, nextRefusal, positionView, sequenceView, PositionAnswered, SequenceFound, NextFound}
 use Rattle.short_histories.specs.Laws.Positions.{short-histories-counted}
 
 -- ---- the position of a sequence
 
 module _ (sequence : List ℕ) where
   pub position-refused : known sequence ≡ false → PositionAnswered sequence (PositionRefused 15)
-  unfolding positionView positionRefusal firstRefusal reply
+  unfolding positionView firstRefusal reply
   position-refused e = rw e
 
   pub position-answered : known sequence ≡ true → (position : ℕ) → position ≡ positionOf sequence → PositionAnswered sequence (Position position)
-  unfolding positionView positionRefusal firstRefusal reply
+  unfolding positionView firstRefusal reply
   position-answered e position p = rw (e, p)
 
 -- ---- the sequence at a position

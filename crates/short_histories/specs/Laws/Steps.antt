@@ -5,7 +5,7 @@ use Rattle.refusals.specs.Refusals.{firstRefusal, reply}
 use Rattle.plain_table.specs.Staged.{Opening, openable, wordsOf}
 use Rattle.plain_table.specs.Refusing.{wrongWidth, noSuchRow, overfull, stageChecks}
 use Rattle.short_histories.specs.declared.StepAnswer.the-variants.{Refused, Insert, Remove, Merge}
-use Rattle.short_histories.specs.Sequences.{thirdCell, inserting, removing, steps, stepRefusal, stepView, StepAnswered}
+use Rattle.short_histories.specs.Sequences.{thirdCell, inserting, removing, steps, stepView, StepAnswered}
 
 -- "three columns, one key, sort column 1, capacity 6"; "all four rules": the tables that the steps are for. The comparison opens
 -- them in this way; no contract mentions one
@@ -32,7 +32,7 @@ steps-fit rule = refl
 
 -- step, key, stamp, third cell
 pub steps-answered : StepAnswered 0 (Insert 0 0 0) × StepAnswered 1 (Insert 0 1 1) × StepAnswered 2 (Insert 1 0 1) × StepAnswered 3 (Insert 1 1 0) × StepAnswered 4 (Remove 0) × StepAnswered 5 (Remove 1) × StepAnswered 6 Merge
-unfolding stepView reply stepRefusal firstRefusal steps inserting removing thirdCell
+unfolding stepView reply firstRefusal steps inserting removing thirdCell
 steps-answered = (refl, refl, refl, refl, refl, refl, refl)
 
 pub answered-at : (k step : ℕ) (answer : StepAnswer) → StepAnswered k answer → step ≡ k → StepAnswered step answer
@@ -49,5 +49,5 @@ past-six step a b c d e f g =
     above 6 step (above 5 step (above 4 step (above 3 step (above 2 step (above 1 step (above-none step a) b) c) d) e) f) g
 
 pub step-unknown : (step : ℕ) → 7 ≤ step → StepAnswered step (Refused 15)
-unfolding stepView reply stepRefusal firstRefusal
+unfolding stepView reply firstRefusal
 step-unknown step h = rw (le-leb 7 step h)
