@@ -19,7 +19,7 @@ pub use Rattle.precedence.specs.inner.Checking.{OnTable, Tested}
 pub use mathlib.Core.Option.{Option, none, some}
 pub use native.Mathlib.Numerals.{add-one}
 pub use native.Mathlib.Nat.{add-zero, mul-le-mul, suc-mul}
-pub use Rattle.precedence.specs.Laws.Scan.{any-live, any-same, anyLive, fails-here, fails-later, failure-dead, failure-here, failure-later, getD-pairsOf, key-replaced, length-pairsOf, none-live}
+pub use Rattle.precedence.specs.Laws.Scan.{any-live, any-same, anyLive, fails-here, fails-later, failingPair, failure-dead, failure-here, failure-later, getD-pairsOf, key-replaced, length-pairsOf, none-live}
 pub use lib.Seq.{drop-cons, length-take-le, take-set-lt}
 pub use lib.Dec.{eqb, leb, ltb}
 pub use Rattle.plain_table.specs.Laws.Calls.{firstRefusal-no, firstRefusal-rest}

@@ -1,10 +1,10 @@
 -- The steps of the check: what each function answers, against the scans. Assumes nothing.
-use Rattle.precedence.proofs.Prelude.{ℕ, suc, _+_, _-_, _*_, _/_, _≤_, _<_, _≡_, refl, sym, ap, ap₂, _∙_, arith, length, take, drop, getD, set, length-set, drop-of-length-le, eq-eqb, ne-eqb, inl, inr, Bool, true, false, not, _&&_, List, _∷_, Option, none, some, suc-mul, add-zero, mul-le-mul, add-one, leb, length-take-le, drop-cons, take-set-lt, splice, rowAt, split, length-splice, same-refl, same-eq, row-in, length-rowAt, getD-rowAt, take-put, key-row, IndexShape, Found, None, At, LiveAt, keyAt, Fits, FoundIs, noRow, live-below, Header, openingOf, rowsIn, indexShapeOf, KeysDiffer, ofRows, rowOfCells, length-rowsIn, getD-rowsIn, anyLive, any-live, none-live, any-same, key-replaced, length-pairsOf, getD-pairsOf, fails-here, fails-later, failure-here, failure-later, failure-dead}
+use Rattle.precedence.proofs.Prelude.{ℕ, suc, _+_, _-_, _*_, _/_, _≤_, _<_, _≡_, refl, sym, ap, ap₂, _∙_, arith, length, take, drop, getD, set, length-set, drop-of-length-le, eq-eqb, ne-eqb, inl, inr, Bool, true, false, not, _&&_, List, _∷_, Option, none, some, suc-mul, add-zero, mul-le-mul, add-one, leb, length-take-le, drop-cons, take-set-lt, splice, rowAt, split, length-splice, same-refl, same-eq, row-in, length-rowAt, getD-rowAt, take-put, key-row, IndexShape, Found, None, At, LiveAt, keyAt, Fits, FoundIs, noRow, live-below, Header, openingOf, rowsIn, indexShapeOf, KeysDiffer, ofRows, rowOfCells, length-rowsIn, getD-rowsIn, anyLive, any-live, none-live, any-same, key-replaced, length-pairsOf, getD-pairsOf, fails-here, fails-later, failingPair, failure-here, failure-later, failure-dead}
 use Rattle.cells.specs.Cells.{isDead, compactHash, keyHash}
 use Rattle.constraints.specs.Constraints.{isLive}
 use Rattle.plain_table.specs.Staged.{hasKey}
 use Rattle.plain_table.specs.Plain.{Row, liveFrom, liveRows}
-use Rattle.precedence.specs.Precedence.{Pair, pairsOf, precedes, meetsPair, firstFailing, failingPair, Failure, failureAmong, precedenceFailure}
+use Rattle.precedence.specs.Precedence.{Pair, pairsOf, precedes, meetsPair, firstFailing, Failure, failureAmong, precedenceFailure}
 use Rattle.precedence.specs.inner.Checking.{Tested, filedBy, OnTable, rowFiled, rowMeets, rowFailing, PlaceIs}
 
 -- ---- rows in their store
@@ -166,7 +166,7 @@ module _ (h : Header) (rows : List ℕ) (column : ℕ) (pairs : List ℕ) (row :
   fromPair place = firstFailing (rowMeets h rows column row) place (drop place (pairsOf pairs))
 
   pub pairs-begin : fromPair 0 ≡ failingPair (ofRows h rows) column (pairsOf pairs) (rowAt (h .columns) row rows)
-  unfolding fromPair failingPair rowMeets
+  unfolding fromPair rowMeets
   pairs-begin = refl
 
   module _ (place : ℕ) (k : place < length pairs / 2) where

@@ -34,9 +34,8 @@ pairsOf (a ∷ b ∷ words) = record { first = a; second = b } ∷ pairsOf words
 unfoldable pub otherKeyCells : ℕ → ℕ → List ℕ → List ℕ
 otherKeyCells keys column cells = take column (take keys cells) ++ drop (column + 1) (take keys cells)
 
--- whether the cells `before` are what a row of these cells needs: "with the second value there, the same other key cells and a sort
--- cell no larger". If the two values are equal, the row's own cells are: "A pair of two equal values is met by the row itself" (law
--- `equal-met`)
+-- whether a row with the cells `before` meets the need of a row with these cells: "with the second value there, the same other key
+-- cells and a sort cell no larger". "A pair of two equal values is met by the row itself" is a law (`equal-met`)
 unfoldable pub precedes : Opening → ℕ → ℕ → List ℕ → List ℕ → Bool
 precedes o column value cells before =
     eqb (getD before column 0) value
@@ -53,27 +52,24 @@ unfoldable pub firstFailing : {A : Type 0} → (A → Bool) → ℕ → List A �
 firstFailing test n [] = none
 firstFailing test n (x ∷ xs) = cond (test x) (firstFailing test (suc n) xs) (some n)
 
--- "A row named by several pairs must meet them all": the place, from 0, of the first pair that it fails
-unfoldable pub failingPair : Plain → ℕ → List Pair → List ℕ → Option ℕ
-failingPair p column pairs cells = firstFailing (meetsPair p column cells) 0 pairs
-
--- a row that fails, and the place of the first pair that it fails
+-- a row that fails, and the place, from 0, of the first pair that it fails
 pub record Failure : Type 0 where
   pub row : ℕ
   pub place : ℕ
 
--- the first of these rows that fails, with the place of the pair
+-- the first of these rows that fails; "A row named by several pairs must meet them all"
 unfoldable pub failureAmong : Plain → ℕ → List Pair → List Numbered → Option Failure
 failureAmong p column pairs [] = none
 failureAmong p column pairs (row ∷ rows) =
-    Option·elim (failingPair p column pairs (row .cells)) (failureAmong p column pairs rows) (λ place. some (record { row = row .number; place = place }))
+    Option·elim (firstFailing (meetsPair p column (row .cells)) 0 pairs) (failureAmong p column pairs rows) (λ place. some (record { row = row .number; place = place }))
 
 -- "The answer is the lowest row that fails with the place, from 0, of the first pair it fails, or none"
 unfoldable pub precedenceFailure : Plain → ℕ → List Pair → Option Failure
 precedenceFailure p column pairs = failureAmong p column pairs (liveRows p)
 
 -- "After 1 and 2 comes 6, a column that is not a key column, then 14, a number of pairs outside 1 to 16". Test 2 concerns the row
--- store and the key store (`pairsShort`: two words for each row of the capacity). An odd number of words is no number of pairs
+-- store and the key store (`pairsShort`: two words for each row of the capacity). An odd number of words is refused
+-- with 14 too
 unfoldable pub precedenceRefusal : Header → ℕ → ℕ → ℕ → ℕ → ℕ
 precedenceRefusal h rows keys column words =
     firstRefusal

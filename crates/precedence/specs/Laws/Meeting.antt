@@ -2,8 +2,8 @@
 -- of the plain table that the stores represent. Assumes nothing.
 use Rattle.precedence.specs.Laws.Prelude.{ℕ, zero, suc, _+_, _≤_, _<_, _≡_, refl, sym, ap, ap₂, _∙_, _⊎_, inl, inr, Bool, true, false, not, _&&_, _||_, false≢true, List, [], _∷_, Option, none, some, arith, eqb, length, getD, eqb-true, leb-true, eq-eqb, le-leb, any, same, split, and-left, and-right, or-right, or-second, same-refl, same-eq, accepted, Opening, rowOf, sortCell, noRow, Header, openingOf, stores, Represents, ofRows, represents-sound, live-shown, PrecedenceAnswer}
 use Rattle.plain_table.specs.Plain.{Row, Plain, Numbered, liveFrom, liveRows}
-use Rattle.precedence.specs.Precedence.{Pair, pairsOf, otherKeyCells, precedes, meetsPair, firstFailing, failingPair, Failure, failureAmong, precedenceFailure, precedenceRefusal, precedenceView, PrecedenceChecked}
-use Rattle.precedence.specs.Laws.Scan.{any-live, live-any, fails-here, fails-later, failure-here, failure-later, failure-dead}
+use Rattle.precedence.specs.Precedence.{Pair, pairsOf, otherKeyCells, precedes, meetsPair, firstFailing, Failure, failureAmong, precedenceFailure, precedenceRefusal, precedenceView, PrecedenceChecked}
+use Rattle.precedence.specs.Laws.Scan.{any-live, live-any, fails-here, fails-later, failingPair, failure-here, failure-later, failure-dead}
 
 -- a pair past the end
 abbrev pub noPair : Pair
@@ -92,7 +92,7 @@ module _ (p : Plain) (column : ℕ) (pairs : List Pair) where
   -- if no row fails, each live row with a pair's first value is preceded by the second
   pub none-preceded : precedenceFailure p column pairs ≡ none → (i : ℕ) → rowOf p i .live ≡ true → (k : ℕ) → k < length pairs
       → getD (rowOf p i .cells) column 0 ≡ getD pairs k noPair .first → Preceded p column (getD pairs k noPair .second) i
-  unfolding precedenceFailure liveRows failingPair
+  unfolding precedenceFailure liveRows
   none-preceded e i l k h named =
       meets-preceded p column i (getD pairs k noPair) (none-failing (meetsPair p column (rowOf p i .cells)) noPair 0 pairs (none-among 0 (p .rows) e i l) k h) named
 
@@ -162,7 +162,7 @@ module _ (p : Plain) (column : ℕ) (pairs : List Pair) where
   -- the row that an answer names is the lowest that fails, and the place is that of the first pair that it fails
   pub some-fails : (f : Failure) → precedenceFailure p column pairs ≡ some f
       → LowestFails (p .rows) (f .row) (f .place) × FirstFails (meetsPair p column (rowOf p (f .row) .cells)) noPair pairs (f .place)
-  unfolding precedenceFailure liveRows failingPair
+  unfolding precedenceFailure liveRows
   some-fails f e =
       let r = some-among 0 (p .rows) f e in
       let i : f .row ≡ r .0 = omega (arith, r .1) in
@@ -180,7 +180,6 @@ module _ (p q : Plain) (column : ℕ) (pairs : List Pair) (o : p .opening ≡ q 
       ap₂ (λ (o : Opening) (live : List Numbered). not (eqb (getD cells column 0) (pair .first)) || any (λ row. precedes o column (pair .second) cells (row .cells)) live) o l
 
   failing-same : (cells : List ℕ) → failingPair p column pairs cells ≡ failingPair q column pairs cells
-  unfolding failingPair
   failing-same cells = ap (λ (test : Pair → Bool). firstFailing test 0 pairs) (λ i pair. meets-same cells pair i)
 
   among-same : (rows : List Numbered) → failureAmong p column pairs rows ≡ failureAmong q column pairs rows

@@ -3,7 +3,7 @@ use Rattle.precedence.specs.Laws.Prelude.{ℕ, zero, suc, _+_, _*_, _/_,
 use Rattle.lists.specs.Lists.{any, same}
 use Rattle.plain_table.specs.Staged.{hasKey}
 use Rattle.plain_table.specs.Plain.{Row, Plain, liveFrom}
-use Rattle.precedence.specs.Precedence.{Pair, pairsOf, otherKeyCells, firstFailing, failingPair, Failure, failureAmong}
+use Rattle.precedence.specs.Precedence.{Pair, pairsOf, otherKeyCells, meetsPair, firstFailing, Failure, failureAmong}
 use mathlib.Core.Option.{Option·elim}
 
 -- ---- live rows that pass a test of their cells
@@ -73,6 +73,10 @@ module _ {A : Type 0} (test : A → Bool) (n : ℕ) (x : A) (xs : List A) where
   pub fails-later : test x ≡ true → firstFailing test n (x ∷ xs) ≡ firstFailing test (suc n) xs
   unfolding firstFailing
   fails-later e = rw e
+
+-- the place, from 0, of the first pair that a row with these cells fails
+abbrev pub failingPair : Plain → ℕ → List Pair → List ℕ → Option ℕ
+failingPair p column pairs cells = firstFailing (meetsPair p column cells) 0 pairs
 
 module _ (p : Plain) (column : ℕ) (pairs : List Pair) (n : ℕ) (row : Row) (rows : List Row) where
   abbrev among : ℕ → List Row → Option Failure

@@ -17,7 +17,7 @@ use Rattle.table.specs.declared.Header.{Header}
 use Rattle.table.specs.Numbers.{openingOf}
 use Rattle.table.specs.Sound.{indexShapeOf, KeysDiffer}
 use Rattle.table.specs.Contracts.{ofRows}
-use Rattle.precedence.specs.Precedence.{Pair, pairsOf, precedes, meetsPair, failingPair}
+use Rattle.precedence.specs.Precedence.{Pair, pairsOf, precedes, meetsPair, firstFailing}
 
 -- header and stores have passed the tests
 pub record Tested (h : Header) (rows keys : List ℕ) : Type 0 where
@@ -45,7 +45,7 @@ rowMeets h rows column row pair = meetsPair (ofRows h rows) column (rowAt (h .co
 -- the place of the first pair that a row fails; a dead row fails none
 unfoldable pub rowFailing : Header → List ℕ → ℕ → List ℕ → ℕ → Option ℕ
 rowFailing h rows column pairs row =
-    cond (isLive (rowAt (h .columns) row rows)) (failingPair (ofRows h rows) column (pairsOf pairs) (rowAt (h .columns) row rows)) none
+    cond (isLive (rowAt (h .columns) row rows)) (firstFailing (meetsPair (ofRows h rows) column (rowAt (h .columns) row rows)) 0 (pairsOf pairs)) none
 
 -- a place below a count, or else none
 pub record PlaceIs (count : ℕ) (place : Option ℕ) (r : ℕ) : Type 0 where
