@@ -63,17 +63,14 @@ rangeText none = 70 ∷ 44 ∷ 110 ∷ 111 ∷ 110 ∷ 101 ∷ 10 ∷ []
 rangeText (some (range start end)) = textLine 70 (start ∷ end ∷ [])
 rangeText (some (list ids)) = []
 
--- "V,0,3 (generation, row count)" (V is 86)
-unfoldable pub versionText : Plain → List ℕ
-versionText p = textLine 86 (p .generation ∷ length (p .rows) ∷ [])
-
 -- the table's listing: in the old form "T,4,2,3,1,0 (columns, keys, sort, rule, generation)", then "D,7,1,163,12 (each live row,
 -- rising)"; or "the new form, which `levels` prints for a line U" (document 02, change 11)
 unfoldable pub listText : Bool → Plain → List ℕ
 listText numbered p = listingText numbered (tableListing numbered (p .opening) (p .generation) (p .rows))
 
 -- A line on a table, by its letter: "I,cells" (73), "R,key cells" (82), "K,row,key cells" (75), M (77), "C clear" (67), "G compact"
--- (71), "F,kind,a,b" (70), which is refused with 6 if its kind or column is not known, V (86), U (85), else L.
+-- (71), "F,kind,a,b" (70), which is refused with 6 if its kind or column is not known, V (86), which prints "V,0,3 (generation, row
+-- count)", U (85), else L.
 unfoldable pub served : Lengths → Plain → ℕ → List ℕ → LineResult
 served l p letter ns =
     cond (eqb letter 73) (calls l p (staging (insert ns)) [])
@@ -83,16 +80,14 @@ served l p letter ns =
     (cond (eqb letter 67) (calls l p clearing [])
     (cond (eqb letter 71) (calls l p compacting [])
     (cond (eqb letter 70) (queries p (cond (known (p .opening .columns) (conditionIn ns 0)) 0 6) (rangeText (fastSubsetOf p (conditionIn ns 0))))
-    (cond (eqb letter 86) (queries p 0 (versionText p))
+    (cond (eqb letter 86) (queries p 0 (textLine 86 (p .generation ∷ length (p .rows) ∷ [])))
     (cond (eqb letter 85) (queries p 0 (listText true p)) (queries p 0 (listText false p))))))))))
 
--- "before O every table line prints X,1"
-unfoldable pub onTable : Option Plain → (Plain → LineResult) → LineResult
-onTable t line = Option·elim t (printing (replied 1 []) none) line
-
--- a line of a valid form, by its letter and numbers; "O,columns,keys,sort,rule,capacity,generation" is 79
+-- a line of a valid form, by its letter and numbers; "O,columns,keys,sort,rule,capacity,generation" is 79; "before O every table line
+-- prints X,1"
 unfoldable pub result : Lengths → Option Plain → ℕ → List ℕ → LineResult
-result l t letter ns = cond (eqb letter 79) (opens l t (openingIn ns) (getD ns 5 0)) (onTable t (λ p. served l p letter ns))
+result l t letter ns =
+    cond (eqb letter 79) (opens l t (openingIn ns) (getD ns 5 0)) (Option·elim t (printing (replied 1 []) none) (λ p. served l p letter ns))
 
 -- any line, given as bytes: "11 is a line not of these forms"
 unfoldable pub lineResult : Lengths → Option Plain → List ℕ → LineResult

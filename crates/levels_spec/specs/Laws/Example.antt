@@ -17,7 +17,7 @@ use Rattle.levels_text.specs.Written.{digitsIn, decimal, field, textLine}
 use Rattle.listing_spec.specs.Listings.{headLetter, listingText}
 use Rattle.listing_write.specs.Writing.{headNumbers, rowFields, tableListing}
 use Rattle.levels_spec.specs.Session.{linesIn, session, printed}
-use Rattle.levels_spec.specs.Response.{replied, openNumber, opens, calls, queries, mergeText, fastSubsetOf, rangeText, versionText, listText, served, onTable, result, lineResult}
+use Rattle.levels_spec.specs.Response.{replied, openNumber, opens, calls, queries, mergeText, fastSubsetOf, rangeText, listText, served, result, lineResult}
 use mathlib.Core.Option.{Option·elim}
 
 -- one line each: `O,4,2,3,1,100,0` `I,7,1,160,10` `I,7,2,148,10` `M` `I,7,1,163,12` `R,7,2` `M` `F,1,3,10` `V` `L`
@@ -47,5 +47,5 @@ output =
     ∷ []
 
 pub example : printed input ≡ output
-unfolding printed session linesIn prependToFirst input output flatten all same count filter iota find firstRefusal reply isDead ruledColumn signed smaller larger taken madeCell madeFrom changesFrom ruled known rebuiltFrom rebuilt firstRow entriesFrom byKind fastRange openable wordsOf wordsAll inserts hasKey skipped compactionDue storesShort wordsShort wrongWidth noSuchRow overfull openRefusal stageChecks mergeChecks liveFrom liveRows lookup dead opened stage liveWithKey killIf withoutKey withoutRow removed below stop raised append upsert insertion insertAll applied added compacted unstaged compactsAfter merged refusal done after entries fields valueFrom isDecimal isLine letter numbers isBare isForm ofForms digitsIn decimal field textLine replied openNumber opens calls queries mergeText fastSubsetOf fastAmong rangeText versionText listText listingText headLetter headNumbers rowFields tableListing served onTable Option·elim result lineResult
+unfolding printed session linesIn prependToFirst input output flatten all same count filter iota find firstRefusal reply isDead ruledColumn signed smaller larger taken madeCell madeFrom changesFrom ruled known rebuiltFrom rebuilt firstRow entriesFrom byKind fastRange openable wordsOf wordsAll inserts hasKey skipped compactionDue storesShort wordsShort wrongWidth noSuchRow overfull openRefusal stageChecks mergeChecks liveFrom liveRows lookup dead opened stage liveWithKey killIf withoutKey withoutRow removed below stop raised append upsert insertion insertAll applied added compacted unstaged compactsAfter merged refusal done after entries fields valueFrom isDecimal isLine letter numbers isBare isForm ofForms digitsIn decimal field textLine replied openNumber opens calls queries mergeText fastSubsetOf fastAmong rangeText listText listingText headLetter headNumbers rowFields tableListing served Option·elim result lineResult
 example = refl

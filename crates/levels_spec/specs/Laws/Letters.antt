@@ -1,7 +1,12 @@
 -- The result of a line of each letter. Assumes nothing.
-use Rattle.levels_spec.specs.Laws.Prelude.{ℕ, _≡_, cond, List, [], Option, drop, getD, known, conditionIn, insert, removeKey, removeRow, Lengths, Plain, staging, merging, compacting, clearing, true, false}
-use Rattle.levels_spec.specs.Response.{opens, calls, queries, mergeText, fastSubsetOf, rangeText, versionText, listText, served, onTable, result}
+use Rattle.levels_spec.specs.Laws.Prelude.{ℕ, _≡_, cond, List, [], _∷_, Option, none, length, drop, getD, known, conditionIn, insert, removeKey, removeRow, Lengths, Plain, staging, merging, compacting, clearing, true, false, textLine}
+use Rattle.levels_spec.specs.Response.{LineResult, printing, replied, opens, calls, queries, mergeText, fastSubsetOf, rangeText, listText, served, result}
 use Rattle.plain_table.specs.Staged.{openingIn}
+use mathlib.Core.Option.{Option·elim}
+
+-- a line on a table, refused with 1 if there is none
+abbrev pub onTable : Option Plain → (Plain → LineResult) → LineResult
+onTable t line = Option·elim t (printing (replied 1 []) none) line
 
 module _ (l : Lengths) (t : Option Plain) {letter : ℕ} (ns : List ℕ) where
   pub result-open : letter ≡ 79 → result l t letter ns ≡ opens l t (openingIn ns) (getD ns 5 0)
@@ -36,7 +41,7 @@ module _ (l : Lengths) (t : Option Plain) {letter : ℕ} (ns : List ℕ) where
   unfolding result served
   result-range e = rw e
 
-  pub result-version : letter ≡ 86 → result l t letter ns ≡ onTable t (λ p. queries p 0 (versionText p))
+  pub result-version : letter ≡ 86 → result l t letter ns ≡ onTable t (λ p. queries p 0 (textLine 86 (p .generation ∷ length (p .rows) ∷ [])))
   unfolding result served
   result-version e = rw e
 

@@ -8,7 +8,8 @@ use Rattle.plain_table.specs.Plain.{Plain, opened}
 use Rattle.plain_table.specs.Calls.{Call, staging, merging, compacting, clearing, done, after}
 use Rattle.levels_text.specs.Lines.{fields, isDecimal, isLine, letter, numbers, isBare, isForm, ofForms, prependToFirst}
 use Rattle.listing_spec.specs.Listings.{Listing, areNumbers, ParsesAs}
-use Rattle.levels_spec.specs.Response.{LineResult, printing, replied, openNumber, opens, calls, queries, listText, served, onTable, result, lineResult}
+use Rattle.levels_spec.specs.Response.{LineResult, printing, replied, openNumber, opens, calls, queries, listText, served, result, lineResult}
+use Rattle.levels_spec.specs.Laws.Letters.{onTable}
 use Rattle.levels_spec.specs.Session.{programLengths, linesIn, session, printed}
 use Rattle.levels_spec.specs.Laws.Listings.{listingOf, plain-text-parses, numbered-text-parses}
 use Rattle.levels_spec.specs.Laws.Cells.{Fits, opened-fits, staged-fits, merged-fits, compacted-fits, cleared-fits, after-fits}
@@ -98,7 +99,7 @@ module _ (Q : Option Plain → Type 0) (every-table : (p : Plain) → Listable p
       ]
 
   on-table : {t : Option Plain} (letter : ℕ) (ns : List ℕ) → areNumbers ns ≡ true → OfSession t → Q t → Q (onTable t (λ p. served l p letter ns) .table)
-  unfolding onTable Option·elim
+  unfolding Option·elim
   on-table letter ns f no-table here = here
   on-table letter ns f (a-table k) here = served-table letter ns k f
 
@@ -161,7 +162,7 @@ abbrev pub listLine : Bool → List ℕ
 listLine numbered = cond numbered 85 76 ∷ []
 
 line-lists : (numbered : Bool) (p : Plain) → lineResult programLengths (some p) (listLine numbered) ≡ printing (listText numbered p) (some p)
-unfolding lineResult ofForms isLine isForm isBare fields prependToFirst letter numbers all isDecimal result onTable Option·elim served queries replied
+unfolding lineResult ofForms isLine isForm isBare fields prependToFirst letter numbers all isDecimal result Option·elim served queries replied
 line-lists true p = refl
 line-lists false p = refl
 

@@ -1,12 +1,12 @@
 -- The contracts of a fast range and of a version imply those of F, V, L and U, for any table that the stores hold. Assumes nothing.
-use Rattle.levels_spec.specs.Laws.Prelude.{ℕ, _*_, _≤_, _≡_, refl, ap, _∙_, inl, inr, Bool, true, false, cond, List, Option, none, some, arith, length, le-ltb, split, Constraint, known, Plain, Header, Version, RangeAnswer, VersionAnswer, rangeView, versionView, represents-inside, represents-long, rows-counted, represents-sound, reply-accepted, listingText, stored-plain, Response}
+use Rattle.levels_spec.specs.Laws.Prelude.{ℕ, _*_, _≤_, _≡_, refl, ap, _∙_, inl, inr, Bool, true, false, cond, List, [], _∷_, Option, none, some, arith, length, le-ltb, split, Constraint, known, Plain, Header, Version, RangeAnswer, VersionAnswer, rangeView, versionView, represents-inside, represents-long, rows-counted, represents-sound, reply-accepted, listingText, stored-plain, textLine, Response}
 use Rattle.refusals.specs.Refusals.{firstRefusal}
 use Rattle.offsets.specs.Subsets.{Subset, range, list}
 use Rattle.table.specs.Refusing.{outside, pairsShort, fastRefusal, versionRefusal}
 use Rattle.table.specs.Contracts.{Stores, Represents, fastSubset, fastAmong, RangeRead, VersionRead}
 use Rattle.listing_write.specs.Writing.{storedText}
 use Rattle.levels_spec.specs.declared.Response.the-variants.{Listing}
-use Rattle.levels_spec.specs.Response.{queries, fastSubsetOf, rangeText, versionText, listText}
+use Rattle.levels_spec.specs.Response.{queries, fastSubsetOf, rangeText, listText}
 use Rattle.levels_spec.specs.inner.Responses.{textOf, responseOf, rangeResponse, versionResponse, listingResponse}
 use Rattle.levels_spec.specs.Laws.Results.{responseOf-refused, responseOf-accepted, responds-table, Does, queries-refused, queries-done}
 use Rattle.levels_spec.specs.Laws.Calls.{reply-ruled}
@@ -80,15 +80,15 @@ version-queried {s} {answer} responds text shows same m =
     }
 
 version-shown : {p : Plain} {s : Stores} → Represents p s
-    → textOf (s .header) (s .rows) (versionResponse (record { generation = s .header .generation; rows = s .header .rows })) ≡ versionText p
-unfolding textOf versionText
+    → textOf (s .header) (s .rows) (versionResponse (record { generation = s .header .generation; rows = s .header .rows })) ≡ textLine 86 (p .generation ∷ length (p .rows) ∷ [])
+unfolding textOf
 version-shown {p} {s} r =
     let generation : s .header .generation ≡ p .generation = ap (λ (h : Header). h .generation) (r .shown .header) in
     rw (generation, rows-counted r)
 
 pub version-does : {s : Stores} {answer : VersionAnswer} {response : Response} → response ≡ responseOf versionResponse (versionView answer) → VersionRead (s .header) answer
-    → Does (λ p. queries p 0 (versionText p)) s s response (versionRefusal (s .header))
-version-does same m = version-queried versionResponse versionText (λ p r. version-shown r) same m
+    → Does (λ p. queries p 0 (textLine 86 (p .generation ∷ length (p .rows) ∷ []))) s s response (versionRefusal (s .header))
+version-does same m = version-queried versionResponse (λ p. textLine 86 (p .generation ∷ length (p .rows) ∷ [])) (λ p r. version-shown r) same m
 
 list-shown : {p : Plain} {s : Stores} → Represents p s → storedText false (s .header) (s .rows) ≡ listText false p
 unfolding listText storedText

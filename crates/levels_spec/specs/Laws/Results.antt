@@ -1,7 +1,8 @@
 -- Laws that hold for every line on a table: the line is refused and nothing changes, or it is done. Assumes nothing.
 use Rattle.levels_spec.specs.Laws.Prelude.{ℕ, _<_, _≡_, refl, sym, _∙_, inl, inr, true, List, [], _∷_, Option, none, some, arith, eq-eqb, ne-eqb, some-number, ruled-refused, Lengths, Plain, Call, refusal, done, refused-nothing, accepted-done, Header, outside, Stores, Represents, represents-inside, textLine, Response, Refused, Held, no-table, table}
 use Rattle.refusals.specs.Refusals.{Reply, refused, accepted, reply, outcome}
-use Rattle.levels_spec.specs.Response.{LineResult, printing, replied, calls, queries, onTable}
+use Rattle.levels_spec.specs.Response.{LineResult, printing, replied, calls, queries}
+use Rattle.levels_spec.specs.Laws.Letters.{onTable}
 use Rattle.levels_spec.specs.inner.Responses.{textOf, responseOf, nothingResponse, Responds}
 use mathlib.Core.Option.{Option·elim}
 
@@ -59,7 +60,7 @@ pub record Does (line : Plain → LineResult) (s s′ : Stores) (response : Resp
   pub result-done : (p : Plain) → Represents p s → n ≡ 0 → Responds (line p) s′ response
 
 pub does-respond : {line : Plain → LineResult} {s s′ : Stores} {response : Response} {n : ℕ} → Does line s s′ response n → (t : Option Plain) → Held t s → Responds (onTable t line) s′ response
-unfolding onTable Option·elim
+unfolding Option·elim
 does-respond {line} {s} {s′} {response} {n} d none (no-table e) =
     let one : n ≡ 1 = d .outside-first e in
     let more : 0 < n = omega arith in
