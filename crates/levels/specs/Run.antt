@@ -1,6 +1,8 @@
 -- The program `levels` as it runs: a sequence of steps, each with the bytes that it passes to `write` and the bytes that it reads.
 -- The bytes read are defined by the return value of `read` and by the chunk after it; the bytes written, by the return value of the
--- write function. Assumes nothing.
+-- write function. `Stepped` ties the bytes of one step to the chunk after its read and to the text before its write. `Ran` joins
+-- steps, but a contract cannot name the reads and writes of a whole run: that its `reads` and `bytes` are those of its steps is seen
+-- in the loop of `run` (src/main.rt). Assumes nothing.
 use Prim.Native.Nat.{ℕ, suc, _+_, _<_}
 use mathlib.Core.Path.{_≡_}
 use mathlib.Core.Bool.{Bool, true, false, cond}
@@ -40,11 +42,12 @@ pub data Step : Program → List ℕ → List (List ℕ) → Program → Bool �
   line-step : {p : Program} (bytes rest handed buffered : List ℕ) → p .unread ≡ bytes ++ (10 ∷ rest) → elem 10 (p .begun ++ bytes) ≡ false
       → p .buffered ≡ handed ++ buffered → Step p handed [] (answered p (p .begun ++ bytes) rest buffered) false
   -- The line does not end: all buffered bytes are written, then one read is made.
-  read-step : {p : Program} (newBytes : List ℕ) → elem 10 (p .begun ++ p .unread) ≡ false
-      → Step p (p .buffered) (newBytes ∷ []) (program (p .table) (p .begun ++ p .unread) newBytes []) false
+  read-step : {p : Program} (read : List ℕ) → elem 10 (p .begun ++ p .unread) ≡ false
+      → Step p (p .buffered) (read ∷ []) (program (p .table) (p .begun ++ p .unread) read []) false
   -- The line does not end, and the input is over: the bytes so far are the last line, if there are any.
   last-step : {p : Program} (handed buffered : List ℕ) → elem 10 (p .begun ++ p .unread) ≡ false → 0 < length (p .begun ++ p .unread)
       → p .buffered ≡ handed ++ buffered → Step p handed [] (answered p (p .begun ++ p .unread) [] buffered) true
+  -- No byte of a line is left, and the input is over.
   over-step : {p : Program} → p .begun ≡ [] → p .unread ≡ [] → Step p [] [] p true
 
 -- a sequence of steps, none of which ends the input
@@ -55,8 +58,8 @@ pub data Steps (p : Program) : List ℕ → List (List ℕ) → Program → Type
 
 -- ---- the code's state between two steps, with the stores
 
--- `line` is the line so far; the first `used` bytes of `text`, a number of the state, are buffered. The header is in the state and in
--- the stores; `machine` makes them equal.
+-- `line` has the line so far. The first `state .used` bytes of `text` are buffered. The header is in the state and in the stores;
+-- `machine` makes both equal.
 pub record Machine : Type 0 where
   pub stores : Stores
   pub state : State
@@ -82,17 +85,13 @@ abbrev pub newBytes : Machine → Machine → List (List ℕ)
 newBytes m m′ =
     cond (eqb (m′ .state .input .reads) (m .state .input .reads)) [] (take (bytesRead (m′ .state .input .got)) (m′ .chunk) ∷ [])
 
--- One step of the code, for every program that the machine represents.
-pub record StepMade (p : Program) (m : Machine) (handed : WriteResult) (m′ : Machine) (over : Bool) : Type 0 where
-  pub after : Program
-  pub step : Step p (bytesWritten handed m) (newBytes m m′) after over
-  pub holds : Holds after m′
-
+-- One step of the code.
 pub record Stepped (m : Machine) (handed : WriteResult) (m′ : Machine) (over : Bool) : Type 0 where
   pub reads-left : length (newBytes m m′) + m′ .state .input .reads ≡ m .state .input .reads
   -- no read is made after the end of the input
   pub none-past-end : AtEnd (m .state .input) → m′ .state .input .reads ≡ m .state .input .reads
-  pub made : handed .«is_written» ≡ true → (p : Program) → Holds p m → StepMade p m handed m′ over
+  -- a step from every program that the machine represents
+  pub made : handed .«is_written» ≡ true → (p : Program) → Holds p m → (after : Program) × Step p (bytesWritten handed m) (newBytes m m′) after over × Holds after m′
   pub at-end : handed .«is_written» ≡ true → over ≡ true → AtEnd (m′ .state .input)
   -- A write of all buffered bytes failed: this is the last step, and it makes no read.
   pub failed : handed .«is_written» ≡ false → (over ≡ true) × (handed .count ≡ m .state .used) × (m′ .state .input .reads ≡ m .state .input .reads) × (m′ .text ≡ m .text)
@@ -104,7 +103,8 @@ pub data Ending (m : Machine) (handed : WriteResult) : Program → List ℕ → 
       → Ending m handed p (bytes ++ bytesWritten handed m)
   write-failed : {p : Program} → handed .«is_written» ≡ false → bytesWritten handed m ≡ p .buffered → Ending m handed p (bytesWritten handed m)
 
--- A run that starts without a table: the bytes of the first read and of each later one, and all bytes written before the last ones.
+-- A run that starts without a table. There are: the bytes of the first read and of each later one, the bytes written before the last
+-- ones, the steps, and how they end. Which reads and writes the code made is not stated here; see the head.
 pub record Ran (m : Machine) (handed : WriteResult) : Type 0 where
   pub first : List ℕ
   pub reads : List (List ℕ)

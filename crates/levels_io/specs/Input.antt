@@ -1,6 +1,6 @@
--- Standard input as the program sees it: what a read returned, the unread bytes of the chunk, and the line so far. The contract of
--- `read` does not state that it stores the next bytes of the input, as many as it returns, at the start of the chunk.
--- Assumes nothing.
+-- Standard input as the program sees it: what a read returned, the unread bytes of the chunk, and the line so far. That `read`
+-- stores the next bytes of the input, as many as it returns, at the start of the chunk is not in its contract and is assumed by no
+-- proof; what is stated here is about the bytes in the chunk. Assumes nothing.
 use Prim.Native.Nat.{ℕ, _-_, min}
 use mathlib.Core.Path.{_≡_}
 use mathlib.Core.Logic.{_⊎_}
@@ -24,7 +24,7 @@ unread chunk input = take (input .end - input .next) (drop (input .next) chunk)
 abbrev pub AtEnd : Input → Type 0
 AtEnd input = (bytesRead (input .got) ≡ 0) ⊎ (input .reads ≡ 0)
 
--- the bytes so far of a line that has not ended (10); the store has as many of them as fit
+-- the bytes so far of a line that has not ended (its newline is 10); the store has as many of them as fit
 pub record LineSoFar (bytes line : List ℕ) (count : ℕ) : Type 0 where
   pub no-newline : elem 10 bytes ≡ false
   pub counted : count ≡ min (length line) (length bytes)

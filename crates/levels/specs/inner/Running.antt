@@ -64,9 +64,9 @@ module _ {m m′ : Machine} {handed : WriteResult} (v : Running m) where
               first = v .first;
               reads = v .reads ++ newBytes m m′;
               bytes = v .bytes ++ take (handed .count) (m .text);
-              here = made .after;
-              steps = then (v .steps) (made .step);
-              holds = made .holds;
+              here = made .0;
+              steps = then (v .steps) (made .1);
+              holds = made .2;
               reads-made = omega (arith, v .reads-made, t .stepped .reads-left, length-append (v .reads) (newBytes m m′));
             }
         | inr w ↦ absurd (false≢true (t .stepped .failed w .0))
@@ -90,7 +90,7 @@ run-ends {state} {handed} {r} m line chunk rows keys sorts pending text v steppe
       | inl w ↦
           let after = machine state line chunk rows keys sorts pending text in
           let made = t .stepped .made w (v .here) (v .holds) in
-          let none-read : newBytes m after ≡ [] = no-read (made .step) in
+          let none-read : newBytes m after ≡ [] = no-read (made .1) in
           rw (f .same-state)
           (record {
             first = v .first;
@@ -99,7 +99,7 @@ run-ends {state} {handed} {r} m line chunk rows keys sorts pending text v steppe
             end = v .here;
             steps = v .steps;
             last = take (handed .count) (m .text) ++ take (r .handed .count) text;
-            ending = input-over (rw none-read at (made .step)) (made .holds) (t .stepped .at-end w refl) (f .all-handed w);
+            ending = input-over (rw none-read at (made .1)) (made .2) (t .stepped .at-end w refl) (f .all-handed w);
             reads-made = omega (arith, v .reads-made, same-left m after none-read (t .stepped .reads-left));
           })
       | inr w ↦

@@ -26,8 +26,8 @@ use Rattle.levels_io.specs.declared.output.WriteResult.{WriteResult}
 use Rattle.levels_io.specs.inner.Flushing.{RoomMade}
 use Rattle.levels.specs.declared.LineProgress.{LineProgress}
 use Rattle.levels.specs.declared.State.{State}
-use Rattle.levels.specs.Run.{Program, program, answered, line-step, read-step, last-step, over-step, Machine, Holds, StepMade}
-use Rattle.levels.specs.inner.Turns.{Within, Turned}
+use Rattle.levels.specs.Run.{Program, program, answered, line-step, read-step, last-step, over-step, Machine, Holds}
+use Rattle.levels.specs.inner.Turns.{Within, StepMade, Turned}
 use Rattle.levels.specs.inner.Advancing.{ReadOn, Ready, Over, Advanced, found, more, ended, nothing-left}
 
 -- Termination measure: the most bytes that may still be taken. Each step but the last decreases it.
@@ -135,17 +135,16 @@ module _ (s : Stores) (line₀ : List ℕ) (count : ℕ) (chunk : List ℕ) (inp
       read-made : (p : Program) → Holds p before → StepMade p before (r .handed) silent false
       read-made p h =
           let bytes = take (bytesRead (r .input .got)) chunk′ in
-          let no-more : used - r .handed .count ≡ 0 = omega (arith, y .all-handed) in
-          record {
-            after = program (p .table) (p .begun ++ p .unread) bytes [];
-            step = rw (fewer-reads, y .all-handed, ← h .bytes-buffered) (read-step bytes (no-newline p h));
-            holds = record {
+          let no-more : used - r .handed .count ≡ 0 = omega (arith, y .all-handed) in (
+            program (p .table) (p .begun ++ p .unread) bytes [],
+            rw (fewer-reads, y .all-handed, ← h .bytes-buffered) (read-step bytes (no-newline p h)),
+            record {
               table-held = h .table-held;
               line-begun = rw (all-bytes p h, y .same-length) (k .line-is (p .begun) (h .line-begun));
               bytes-unread = sym (rw (left-none chunk (taken .input .next) (taken .input .end) (k .all-taken none)) at (y .reads written .1 .there));
               bytes-buffered = rw no-more;
-            };
-          }
+            },
+          )
 
       read-stepped : (0 < bytesRead (taken .input .got)) × (0 < taken .input .reads) → Turned before (r .handed) silent false
       read-stepped goes =
@@ -173,17 +172,16 @@ module _ (s : Stores) (line₀ : List ℕ) (count : ℕ) (chunk : List ℕ) (inp
           let lengths = length-append (p .begun) (p .unread) in
           let begun : p .begun ≡ [] = no-bytes (p .begun) (omega (arith, lengths, nothing-begun p h)) in
           let unread-none : p .unread ≡ [] = no-bytes (p .unread) (omega (arith, lengths, nothing-begun p h)) in
-          let as-used : used - r .handed .count ≡ used = omega (arith, y .none-handed) in
-          record {
-            after = p;
-            step = rw (same-reads k (y .same-input), y .none-handed) (over-step begun unread-none);
-            holds = record {
+          let as-used : used - r .handed .count ≡ used = omega (arith, y .none-handed) in (
+            p,
+            rw (same-reads k (y .same-input), y .none-handed) (over-step begun unread-none),
+            record {
               table-held = h .table-held;
               line-begun = rw (begun, y .no-length) (begun-none line′);
               bytes-unread = unread-none ∙ sym (rw (still, y .same-input) (left-none chunk (taken .input .next) (taken .input .end) (k .all-taken none)));
               bytes-buffered = h .bytes-buffered ∙ rw as-used;
-            };
-          }
+            },
+          )
 
       over-stepped : Within before → Turned before (r .handed) silent true
       over-stepped within =
@@ -265,25 +263,23 @@ module _ (s : Stores) (line₀ : List ℕ) (count : ℕ) (chunk : List ℕ) (inp
     line-made : (taken : TakenLine) (k : Taking taken) → taken .«is_whole» ≡ true → Ready (length text) (taken .input) (taken .length) used false r → chunk′ ≡ chunk
         → (p : Program) → Holds p before → StepMade p before (r .handed) after-line false
     line-made taken k whole y still p h =
-        let rest = unread chunk (taken .input) in
-        record {
-          after = answered p (p .begun ++ k .bytes) rest (take (used - r .handed .count) text);
-          step = rw (same-reads k (y .same-input))
-              (line-step (k .bytes) rest (take (r .handed .count) text) (take (used - r .handed .count) text) (h .bytes-unread ∙ rw whole at (k .parts)) (k .line-is (p .begun) (h .line-begun) .no-newline) (parts taken k y still p h));
-          holds = answered-holds p (p .begun ++ k .bytes) rest (h .table-held) (line-cut taken k y still p h) (rw (still, y .same-input));
-        }
+        let rest = unread chunk (taken .input) in (
+          answered p (p .begun ++ k .bytes) rest (take (used - r .handed .count) text),
+          rw (same-reads k (y .same-input))
+              (line-step (k .bytes) rest (take (r .handed .count) text) (take (used - r .handed .count) text) (h .bytes-unread ∙ rw whole at (k .parts)) (k .line-is (p .begun) (h .line-begun) .no-newline) (parts taken k y still p h)),
+          answered-holds p (p .begun ++ k .bytes) rest (h .table-held) (line-cut taken k y still p h) (rw (still, y .same-input)),
+        )
 
     last-made : (taken : TakenLine) (k : Taking taken) → taken .«is_whole» ≡ false → 0 < taken .length → Ready (length text) (taken .input) (taken .length) used true r → chunk′ ≡ chunk
         → (p : Program) → Holds p before → StepMade p before (r .handed) after-line true
     last-made taken k none some y still p h =
         let counted = k .line-is (p .begun) (h .line-begun) .counted in
-        let more-than-none : 0 < length (p .begun ++ p .unread) = rw (all-bytes taken k none p h) (omega (arith, counted, some)) in
-        record {
-          after = answered p (p .begun ++ p .unread) [] (take (used - r .handed .count) text);
-          step = rw (same-reads k (y .same-input))
-              (last-step (take (r .handed .count) text) (take (used - r .handed .count) text) (no-newline taken k none p h) more-than-none (parts taken k y still p h));
-          holds = answered-holds p (p .begun ++ p .unread) [] (h .table-held) (rw (all-bytes taken k none p h) (line-cut taken k y still p h)) (sym (rw (still, y .same-input) (left-none chunk (taken .input .next) (taken .input .end) (k .all-taken none))));
-        }
+        let more-than-none : 0 < length (p .begun ++ p .unread) = rw (all-bytes taken k none p h) (omega (arith, counted, some)) in (
+          answered p (p .begun ++ p .unread) [] (take (used - r .handed .count) text),
+          rw (same-reads k (y .same-input))
+              (last-step (take (r .handed .count) text) (take (used - r .handed .count) text) (no-newline taken k none p h) more-than-none (parts taken k y still p h)),
+          answered-holds p (p .begun ++ p .unread) [] (h .table-held) (rw (all-bytes taken k none p h) (line-cut taken k y still p h)) (sym (rw (still, y .same-input) (left-none chunk (taken .input .next) (taken .input .end) (k .all-taken none)))),
+        )
 
     pub stepped-line : Advanced line₀ count chunk input text used line′ chunk′ r → r .«is_line» ≡ true → Turned before (r .handed) after-line (r .«is_over»)
     stepped-line (found taken k whole y still) e =
