@@ -3,9 +3,9 @@
 use Prim.Native.Nat.{ℕ}
 use mathlib.Core.Path.{_≡_}
 use mathlib.Core.Bool.{Bool, true, false, cond, not}
-use mathlib.Core.Option.{Option, none, some}
-use mathlib.Core.List.{List, [], _∷_, _++_}
-use lib.ListN.{getD}
+use mathlib.Core.Option.{Option, none, some, Option·elim, Option·getD}
+use mathlib.Core.List.{List, [], _∷_}
+use lib.ListN.{drop, getD}
 use lib.Dec.{leb, eqb}
 use Rattle.refusals.specs.Refusals.{Reply, refused, accepted, ifAccepted}
 use Rattle.offsets.specs.Subsets.{Subset, range, list}
@@ -19,7 +19,7 @@ use Rattle.table.specs.declared.Largest.the-variants.{None as NoLargest, Value}
 use Rattle.table.specs.declared.Header.{Header}
 use Rattle.table.specs.declared.Merge.{Merge}
 use Rattle.table.specs.declared.Version.{Version}
-use Rattle.table.specs.Numbers.{header}
+use Rattle.table.specs.Numbers.{largestView, header}
 use Rattle.query_spec.specs.declared.NextPlace.{NextPlace}
 use Rattle.query_spec.specs.declared.NextPlace.the-variants.{None, At}
 use Rattle.query_spec.specs.declared.Page.{Page}
@@ -41,10 +41,7 @@ decodeColumns columns flag = cond (leb flag 1) columns 0
 -- the largest sort value
 unfoldable pub decodeHeader : List ℕ → Header
 decodeHeader words =
-    let o = openingIn words in
-    header
-    (record { columns = decodeColumns (o .columns) (getD words 10 0); keys = o .keys; sort = o .sort; rule = o .rule; capacity = o .capacity })
-    (getD words 5 0) (getD words 6 0) (getD words 7 0) (getD words 8 0) (getD words 9 0)
+    header (openingIn (decodeColumns (getD words 0 0) (getD words 10 0) ∷ drop 1 words)) (getD words 5 0) (getD words 6 0) (getD words 7 0) (getD words 8 0) (getD words 9 0)
     (decodeLargest (getD words 10 0) (getD words 11 0))
 
 -- A subset is three words: whether it is a range, its start and its end. The ids of a list are passed separately.
@@ -57,18 +54,14 @@ decodeSubset words = record { dense = not (eqb (getD words 0 0) 0); start = getD
 abbrev pub bit : Bool → ℕ
 bit b = cond b 1 0
 
-abbrev pub largestFlag : Largest → ℕ
-largestFlag NoLargest = 0
-largestFlag (Value v) = 1
-
-abbrev pub largestValue : Largest → ℕ
-largestValue NoLargest = 0
-largestValue (Value v) = v
+-- 1 and the number, or 0 and 0 if there is none
+unfoldable pub encodeOption : Option ℕ → List ℕ
+encodeOption o = Option·elim o 0 (λ n. 1) ∷ Option·getD o 0 ∷ []
 
 unfoldable pub encodeHeader : Header → List ℕ
 encodeHeader h =
-    (h .columns ∷ h .keys ∷ h .sort ∷ h .rule ∷ h .capacity ∷ [])
-    ++ (h .rows ∷ h .dead ∷ h .entries ∷ h .pending ∷ h .generation ∷ largestFlag (h .largest) ∷ largestValue (h .largest) ∷ [])
+    h .columns ∷ h .keys ∷ h .sort ∷ h .rule ∷ h .capacity ∷ h .rows ∷ h .dead ∷ h .entries ∷ h .pending ∷ h .generation
+    ∷ encodeOption (largestView (h .largest))
 
 -- the stop's number and place, whether a row was appended, and how many rows its compaction kept and dropped
 unfoldable pub encodeMerge : Merge → List ℕ
@@ -81,16 +74,6 @@ encodeBool b = bit b ∷ []
 unfoldable pub encodeNumber : ℕ → List ℕ
 encodeNumber n = n ∷ []
 
--- 1 and the number, or 0 and 0 if there is none
-unfoldable pub encodeOption : Option ℕ → List ℕ
-encodeOption none = 0 ∷ 0 ∷ []
-encodeOption (some n) = 1 ∷ n ∷ []
-
--- the next place in the same way
-unfoldable pub encodeNext : NextPlace → List ℕ
-encodeNext None = 0 ∷ 0 ∷ []
-encodeNext (At place) = 1 ∷ place ∷ []
-
 -- 1 and a range's start and end, or all 0 if there is none. Answers with this encoding are never lists.
 unfoldable pub encodeRange : Option Subset → List ℕ
 encodeRange none = 0 ∷ 0 ∷ 0 ∷ []
@@ -102,17 +85,22 @@ encodeVersion v = v .generation ∷ v .rows ∷ []
 
 -- A subset as an answer has the same layout as an argument: a range, or the list of the first ids of the output, whose end is their
 -- number.
-unfoldable pub subsetView : SubsetAnswer → Reply SubsetHead
-subsetView (SubsetRefused n) = refused n
-subsetView (SubsetRange start end) = accepted (record { dense = true; start = start; end = end })
-subsetView (SubsetList count) = accepted (record { dense = false; start = 0; end = count })
+unfoldable pub subsetHeadView : SubsetAnswer → Reply SubsetHead
+subsetHeadView (SubsetRefused n) = refused n
+subsetHeadView (SubsetRange start end) = accepted (record { dense = true; start = start; end = end })
+subsetHeadView (SubsetList count) = accepted (record { dense = false; start = 0; end = count })
 
 unfoldable pub encodeSubset : SubsetHead → List ℕ
 encodeSubset s = bit (s .dense) ∷ s .start ∷ s .end ∷ []
 
+-- the next place of a page, if there is one
+unfoldable pub nextView : NextPlace → Option ℕ
+nextView None = none
+nextView (At place) = some place
+
 -- how many ids were written, how many of the visited ids have a dead row, and the next place
 unfoldable pub encodePage : Page → List ℕ
-encodePage p = p .written ∷ p .dead ∷ encodeNext (p .next)
+encodePage p = p .written ∷ p .dead ∷ encodeOption (nextView (p .next))
 
 -- ---- contracts of C functions
 

@@ -2,9 +2,9 @@
 // goes to C as a plain pointer.
 ghost use mathlib.Core.Path.{_≡_};
 ghost use Rattle.constraints.specs.Encoding.{conditionIn};
-ghost use Rattle.table.specs.Numbers.{tableView, mergeView, rowView, cellView, rangeView, versionView, soundView};
+ghost use Rattle.table.specs.Numbers.{largestView, tableView, mergeView, rowView, cellView, rangeView, versionView, soundView};
 ghost use Rattle.query_spec.specs.Queries.{matchView, pageView};
-ghost use Rattle.abi.specs.Encoding.{decodeLargest, decodeColumns, decodeHeader, decodeSubset, bit, largestFlag, largestValue, encodeHeader, encodeMerge, encodeBool, encodeOption, encodeRange, encodeVersion, subsetView, encodeSubset, encodePage, Stored};
+ghost use Rattle.abi.specs.Encoding.{decodeLargest, decodeColumns, decodeHeader, decodeSubset, bit, encodeHeader, encodeMerge, encodeBool, encodeOption, encodeRange, encodeVersion, subsetHeadView, encodeSubset, encodePage, Stored};
 use constraints::Constraint;
 use offsets::SubsetAnswer;
 use offsets::SubsetHead;
@@ -93,21 +93,12 @@ pub fn encode_bool(answer: bool) -> u32
     0
 }
 
-fn largest_flag(largest: Largest) -> u32
-    ensures { λ r. ⌜ r ≡ largestFlag largest ⌝ }
+fn encode_largest(largest: Largest) -> [u32; 2]
+    ensures { λ r. ⌜ r ≡ encodeOption (largestView largest) ⌝ }
 {
     match largest {
-        Largest::None => 0,
-        Largest::Value(value) => 1,
-    }
-}
-
-fn largest_value(largest: Largest) -> u32
-    ensures { λ r. ⌜ r ≡ largestValue largest ⌝ }
-{
-    match largest {
-        Largest::None => 0,
-        Largest::Value(value) => value,
+        Largest::None => [0, 0],
+        Largest::Value(value) => [1, value],
     }
 }
 
@@ -115,8 +106,7 @@ pub fn encode_header(h: Header) -> [u32; 12]
     ensures { λ r. ⌜ r ≡ encodeHeader h ⌝ }
 {
     let largest = h.largest;
-    let flag = largest_flag(largest);
-    let value = largest_value(largest);
+    let words = encode_largest(largest);
     [
         h.columns,
         h.keys,
@@ -128,8 +118,8 @@ pub fn encode_header(h: Header) -> [u32; 12]
         h.entries,
         h.pending,
         h.generation,
-        flag,
-        value,
+        words[0],
+        words[1],
     ]
 }
 
@@ -231,7 +221,7 @@ pub fn store_sound(answer: SoundAnswer, sound: &mut [u32; 1]) -> u32
 }
 
 pub fn store_subset(answer: SubsetAnswer, subset: &mut [u32; 3]) -> u32
-    ensures { λ r. ⌜ Stored subsetView encodeSubset answer (now (subset .entry)) r (now (subset .exit)) ⌝ }
+    ensures { λ r. ⌜ Stored subsetHeadView encodeSubset answer (now (subset .entry)) r (now (subset .exit)) ⌝ }
 {
     match answer {
         SubsetAnswer::Refused(number) => number,

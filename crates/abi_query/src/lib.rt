@@ -4,7 +4,7 @@
 // manual: the function decodes, queries and stores.
 ghost use Rattle.offsets.specs.Answers.{subsetOf};
 ghost use Rattle.query_spec.specs.Queries.{matchView, pageView, Matched, PageRead, RefinedOne, RefinedList};
-ghost use Rattle.abi.specs.Encoding.{decodeHeader, decodeSubset, encodeBool, subsetView, encodeSubset, encodePage, Answers};
+ghost use Rattle.abi.specs.Encoding.{decodeHeader, decodeSubset, encodeBool, subsetHeadView, encodeSubset, encodePage, Answers};
 use abi::decode_condition;
 use abi::decode_header;
 use abi::decode_subset;
@@ -26,7 +26,7 @@ pub extern "C" fn mouldgrey_refine_one(
     output: &mut [u32],
     answer: &mut [u32; 3],
 ) -> u32
-    ensures { λ r. ⌜ Answers (λ a. RefinedOne (decodeHeader (now (header .entry))) (now (rows .entry)) (subsetOf (decodeSubset (now (subset .entry))) (now (ids .entry))) (conditionIn (now (condition .entry)) 0) (now (output .entry)) a (now (output .exit))) subsetView encodeSubset (now (answer .entry)) r (now (answer .exit)) ⌝ }
+    ensures { λ r. ⌜ Answers (λ a. RefinedOne (decodeHeader (now (header .entry))) (now (rows .entry)) (subsetOf (decodeSubset (now (subset .entry))) (now (ids .entry))) (conditionIn (now (condition .entry)) 0) (now (output .entry)) a (now (output .exit))) subsetHeadView encodeSubset (now (answer .entry)) r (now (answer .exit)) ⌝ }
 {
     let h = decode_header(header);
     let head = decode_subset(subset);
@@ -52,7 +52,7 @@ pub extern "C" fn mouldgrey_refine_ref(
     output: &mut [u32],
     answer: &mut [u32; 3],
 ) -> u32
-    ensures { λ r. ⌜ Answers (λ a. RefinedList (decodeHeader (now (header .entry))) (now (rows .entry)) (subsetOf (decodeSubset (now (subset .entry))) (now (ids .entry))) (now (conditions .entry)) (now (output .entry)) a (now (output .exit))) subsetView encodeSubset (now (answer .entry)) r (now (answer .exit)) ⌝ }
+    ensures { λ r. ⌜ Answers (λ a. RefinedList (decodeHeader (now (header .entry))) (now (rows .entry)) (subsetOf (decodeSubset (now (subset .entry))) (now (ids .entry))) (now (conditions .entry)) (now (output .entry)) a (now (output .exit))) subsetHeadView encodeSubset (now (answer .entry)) r (now (answer .exit)) ⌝ }
 {
     let h = decode_header(header);
     let head = decode_subset(subset);

@@ -7,7 +7,7 @@ ghost use Rattle.offsets.specs.Subsets.{range};
 ghost use Rattle.offsets.specs.Answers.{subsetOf, intersectReply, Answered};
 ghost use Rattle.table.specs.Numbers.{cellView, rangeView, versionView};
 ghost use Rattle.table.specs.Contracts.{CellRead, RangeRead, RowsSince, RowsSinceVersion, VersionRead};
-ghost use Rattle.abi.specs.Encoding.{decodeHeader, decodeSubset, encodeOption, encodeRange, encodeVersion, subsetView, encodeSubset, Answers, Stored};
+ghost use Rattle.abi.specs.Encoding.{decodeHeader, decodeSubset, encodeOption, encodeRange, encodeVersion, subsetHeadView, encodeSubset, Answers, Stored};
 ghost use Rattle.precedence.specs.Precedence.{precedenceView, PrecedenceChecked};
 ghost use Rattle.abi_read.specs.Encoding.{encodeFailure};
 use abi::decode_condition;
@@ -92,7 +92,7 @@ pub extern "C" fn mouldgrey_intersect(
     output: &mut [u32],
     subset: &mut [u32; 3],
 ) -> u32
-    ensures { λ r. ⌜ Answers (λ answer. Answered (intersectReply (subsetOf (decodeSubset (now (first .entry))) (now («first_ids» .entry))) (subsetOf (decodeSubset (now (second .entry))) (now («second_ids» .entry))) (length (now (output .entry)))) (now (output .entry)) answer (now (output .exit))) subsetView encodeSubset (now (subset .entry)) r (now (subset .exit)) ⌝ }
+    ensures { λ r. ⌜ Answers (λ answer. Answered (intersectReply (subsetOf (decodeSubset (now (first .entry))) (now («first_ids» .entry))) (subsetOf (decodeSubset (now (second .entry))) (now («second_ids» .entry))) (length (now (output .entry)))) (now (output .entry)) answer (now (output .exit))) subsetHeadView encodeSubset (now (subset .entry)) r (now (subset .exit)) ⌝ }
 {
     let a = decode_subset(first);
     let b = decode_subset(second);
@@ -109,7 +109,7 @@ pub extern "C" fn mouldgrey_intersect_ranges(
     other_end: u32,
     subset: &mut [u32; 3],
 ) -> u32
-    ensures { λ r. ⌜ ((output : List ℕ) → Answers (λ answer. Answered (intersectReply (range start end) (range «other_start» «other_end») (length output)) output answer output) subsetView encodeSubset (now (subset .entry)) r (now (subset .exit))) ⌝ }
+    ensures { λ r. ⌜ ((output : List ℕ) → Answers (λ answer. Answered (intersectReply (range start end) (range «other_start» «other_end») (length output)) output answer output) subsetHeadView encodeSubset (now (subset .entry)) r (now (subset .exit))) ⌝ }
 {
     let answer = offsets_intersect::intersect_ranges(start, end, other_start, other_end);
     store_subset(answer, subset)

@@ -36,7 +36,7 @@ of-twelve : (m : List ℕ) → decodeHeader (take 12 m) ≡ decodeHeader m
 unfolding decodeHeader
 of-twelve m =
     let g : (i : ℕ) → i < 12 → getD (take 12 m) i 0 ≡ getD m i 0 = λ i h. getD-take 12 m i 0 h in
-    rw (g 0 (omega arith), g 1 (omega arith), g 2 (omega arith), g 3 (omega arith), g 4 (omega arith), g 5 (omega arith), g 6 (omega arith), g 7 (omega arith), g 8 (omega arith), g 9 (omega arith), g 10 (omega arith), g 11 (omega arith))
+    simp getD-drop (rw (g 0 (omega arith), g 1 (omega arith), g 2 (omega arith), g 3 (omega arith), g 4 (omega arith), g 5 (omega arith), g 6 (omega arith), g 7 (omega arith), g 8 (omega arith), g 9 (omega arith), g 10 (omega arith), g 11 (omega arith)))
 
 pub header-of : (z w e : List ℕ) → length z ≡ 12 → 16 ≤ length w → e ≡ splice z 0 (take 12 (drop 2 w)) → decodeHeader e ≡ headerIn w
 unfolding headerIn

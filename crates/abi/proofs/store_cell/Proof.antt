@@ -5,9 +5,10 @@ use Rattle.abi.specs.Encoding.{encodeOption, returned}
 use Rattle.abi.proofs.store_cell.Statement.{statement}
 use Rattle.abi.proofs.store_cell.Tie as tie
 use Rattle.refusals.specs.Refusals.{ifAccepted}
+use mathlib.Core.Option.{Option·elim}
 
 pub store-cell-spec : {M : Type 1} → statement M
-unfolding cellView encodeOption returned ifAccepted
+unfolding cellView encodeOption Option·elim returned ifAccepted
 store-cell-spec =
     tie.close
     (tie.spec

@@ -1,13 +1,14 @@
 -- `abi::store_page` meets its contract. Assumes nothing.
 use Rattle.abi.proofs.Prelude.{refl, stored-as, needs}
 use Rattle.query_spec.specs.Queries.{pageView}
-use Rattle.abi.specs.Encoding.{encodePage, returned, encodeNext}
+use Rattle.abi.specs.Encoding.{encodeOption, nextView, encodePage, returned}
 use Rattle.abi.proofs.store_page.Statement.{statement}
 use Rattle.abi.proofs.store_page.Tie as tie
 use Rattle.refusals.specs.Refusals.{ifAccepted}
+use mathlib.Core.Option.{Option·elim}
 
 pub store-page-spec : {M : Type 1} → statement M
-unfolding pageView encodeNext encodePage returned ifAccepted
+unfolding pageView nextView encodeOption Option·elim encodePage returned ifAccepted
 store-page-spec =
     tie.close
     (tie.spec

@@ -5,9 +5,10 @@ use Rattle.abi.specs.Encoding.{encodeOption, returned}
 use Rattle.abi.proofs.store_row.Statement.{statement}
 use Rattle.abi.proofs.store_row.Tie as tie
 use Rattle.refusals.specs.Refusals.{ifAccepted}
+use mathlib.Core.Option.{Option·elim}
 
 pub store-row-spec : {M : Type 1} → statement M
-unfolding rowView encodeOption returned ifAccepted
+unfolding rowView encodeOption Option·elim returned ifAccepted
 store-row-spec =
     tie.close
     (tie.spec

@@ -1,12 +1,12 @@
 -- `abi::store_subset` meets its contract. Assumes nothing.
 use Rattle.abi.proofs.Prelude.{refl, stored-as, needs}
-use Rattle.abi.specs.Encoding.{subsetView, encodeSubset, returned}
+use Rattle.abi.specs.Encoding.{subsetHeadView, encodeSubset, returned}
 use Rattle.abi.proofs.store_subset.Statement.{statement}
 use Rattle.abi.proofs.store_subset.Tie as tie
 use Rattle.refusals.specs.Refusals.{ifAccepted}
 
 pub store-subset-spec : {M : Type 1} → statement M
-unfolding subsetView encodeSubset returned ifAccepted
+unfolding subsetHeadView encodeSubset returned ifAccepted
 store-subset-spec =
     tie.close
     (tie.spec

@@ -4,46 +4,28 @@ use Prim.Native.Nat.{ℕ, _<_}
 use mathlib.Core.Path.{_≡_, refl}
 use mathlib.Core.Bool.{Bool, true, false}
 use mathlib.Core.List.{List}
+use mathlib.Core.Option.{Option·elim}
 use lib.ListN.{getD}
 use borrow.Author.Tests.{lt-leb}
 use Rattle.refusals.specs.Refusals.{Reply, ifAccepted}
 use Rattle.offsets.specs.declared.SubsetHead.{SubsetHead}
-use Rattle.plain_table.specs.Staged.{openable}
+use Rattle.plain_table.specs.Staged.{Opening, openable}
 use Rattle.table.specs.declared.Largest.{Largest}
 use Rattle.table.specs.declared.Largest.the-variants.{None as NoLargest, Value}
 use Rattle.table.specs.declared.Header.{Header}
+use Rattle.table.specs.Numbers.{openingOf, largestView, header}
 use Rattle.table.specs.Refusing.{outside}
-use Rattle.abi.specs.Encoding.{decodeLargest, decodeColumns, decodeHeader, decodeSubset, largestFlag, largestValue, encodeHeader, encodeSubset, returned, Stored, Answers}
+use Rattle.abi.specs.Encoding.{decodeLargest, decodeColumns, decodeHeader, decodeSubset, encodeOption, encodeHeader, encodeSubset, returned, Stored, Answers}
 
-largest-decoded : (l : Largest) → decodeLargest (largestFlag l) (largestValue l) ≡ l
-unfolding decodeLargest
-largest-decoded NoLargest = refl
-largest-decoded (Value v) = refl
-
-columns-decoded : (columns : ℕ) (l : Largest) → decodeColumns columns (largestFlag l) ≡ columns
-unfolding decodeColumns
-columns-decoded columns NoLargest = refl
-columns-decoded columns (Value v) = refl
+-- by cases of the largest sort value
+numbers-decoded : (o : Opening) (rows dead entries pending generation : ℕ) (l : Largest)
+    → decodeHeader (encodeHeader (header o rows dead entries pending generation l)) ≡ header o rows dead entries pending generation l
+unfolding decodeHeader encodeHeader encodeOption largestView decodeLargest decodeColumns Option·elim
+numbers-decoded o rows dead entries pending generation NoLargest = refl
+numbers-decoded o rows dead entries pending generation (Value v) = refl
 
 pub header-decoded : (h : Header) → decodeHeader (encodeHeader h) ≡ h
-unfolding decodeHeader encodeHeader
-header-decoded h =
-    let c = columns-decoded (h .columns) (h .largest) in
-    let l = largest-decoded (h .largest) in
-    λ i.
-    record {
-      columns = c i;
-      keys = h .keys;
-      sort = h .sort;
-      rule = h .rule;
-      capacity = h .capacity;
-      rows = h .rows;
-      dead = h .dead;
-      entries = h .entries;
-      pending = h .pending;
-      generation = h .generation;
-      largest = l i;
-    }
+header-decoded h = numbers-decoded (openingOf h) (h .rows) (h .dead) (h .entries) (h .pending) (h .generation) (h .largest)
 
 -- a flag above 1 fails check 1
 pub flag-refused : (words : List ℕ) → 1 < getD words 10 0 → outside (decodeHeader words) ≡ true

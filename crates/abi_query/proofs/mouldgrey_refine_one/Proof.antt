@@ -7,7 +7,7 @@ use Rattle.offsets.specs.Answers.{subsetOf}
 use Rattle.offsets.specs.declared.SubsetAnswer.{SubsetAnswer}
 use Rattle.offsets.proofs.SubsetAnswer as AT
 use Rattle.query_borrowed.proofs.SubsetRef.Laws as DT′
-use Rattle.abi.specs.Encoding.{subsetView, encodeSubset, Stored}
+use Rattle.abi.specs.Encoding.{subsetHeadView, encodeSubset, Stored}
 use Rattle.manual_proofs.proofs.Locals.{enters, cell, copies, lends, leaves}
 use Rattle.manual_proofs.proofs.Straight.{Cites, Knowns, reads, writes, machine, ends-ensuring, answers, skips, pads, proved}
 use Rattle.manual_proofs.proofs.Arrays.{shared-array, lent-array, FinalArray, lends-array, tokens-out, tokens-in, owns-out, owns-in}
@@ -57,7 +57,7 @@ mouldgrey-refine-one-spec 𝓤 H 𝓜 𝓖 𝓡 =
     -- [the answer's token; what the storing call requires; the locals; the query's tokens and last values; the tokens of
     -- what was decoded]
     answers ! fm sto.ended (sto.clauses 𝓤 H A mem run) (known .4) (((κs .1 .1 .1 .1 .1 .1 .0, tt), (qs .1 .1 .1 .1 .1 .1 .0, tt), tt, (r, (z, tt)), (rv ∷ [], (ptr-vals z, tt))), tt) (id⊢ 𝓤 _) refl (uint-lawful 𝓤 H A W w32) (λ v t. t .0) tt (λ tv t zs is.
-    move ! (4 ∷ []) $ heard ! (Stored subsetView encodeSubset r (now z) t (zs .1 .0)) (λ stored. leaves ! refl tt $
+    move ! (4 ∷ []) $ heard ! (Stored subsetHeadView encodeSubset r (now z) t (zs .1 .0)) (λ stored. leaves ! refl tt $
     -- [the answer's token and last words; the result; the query's tokens and last values; the tokens of what was decoded]
     tokens-out ! 1 (κs .1 .1 .1 .1 .1 .1 .0, tt) (qs .1 .1 .1 .1 .1 .1 .0, tt) $ move ! (3 ∷ []) $ tokens-out ! 3 κs′ qs′ $ move ! (3 ∷ 0 ∷ 7 ∷ 1 ∷ 8 ∷ 2 ∷ 9 ∷ []) $ tokens-in ! 7 κs qs $
     move ! (3 ∷ []) $ skips ! 4 (fsep (Final o (os .1 .1 .1 .1 .0)) ftrue) $ fsplit ! $ move ! (3 ∷ []) $ skips ! 1 (fsep (FinalArray u32 3 z (zs .1 .0)) ftrue) $ move ! (1 ∷ 0 ∷ []) $ fjoin ! $ pads ! 5 $ keep ! (2 ∷ 0 ∷ 3 ∷ []) $

@@ -11,7 +11,7 @@ use Rattle.query_borrowed.proofs.SubsetRef.Laws as DT′
 use Rattle.manual_proofs.proofs.Locals.{enters, cell, copies, lends, leaves}
 use Rattle.manual_proofs.proofs.Straight.{Cites, Knowns, reads, writes, machine, ends-ensuring, answers, skips, pads, proved}
 use Rattle.manual_proofs.proofs.Arrays.{shared-array, lent-array, FinalArray, lends-array, tokens-out, tokens-in, owns-out, owns-in}
-use Rattle.abi.specs.Encoding.{subsetView, encodeSubset, Stored}
+use Rattle.abi.specs.Encoding.{subsetHeadView, encodeSubset, Stored}
 use Rattle.abi.proofs.decode_header as hdr
 use Rattle.abi.proofs.decode_subset as sub
 use Rattle.query_borrowed.proofs.refine_ref as ask
@@ -54,7 +54,7 @@ mouldgrey-refine-ref-spec 𝓤 H 𝓜 𝓖 𝓡 =
     -- [the answer's token; what the storing call requires; the locals; the query's tokens and last values; the tokens of
     -- what was decoded]
     answers ! fm sto.ended (sto.clauses 𝓤 H A mem run) (known .3) (((κs .1 .1 .1 .1 .1 .1 .0, tt), (qs .1 .1 .1 .1 .1 .1 .0, tt), tt, (r, (z, tt)), (rv ∷ [], (ptr-vals z, tt))), tt) (id⊢ 𝓤 _) refl (uint-lawful 𝓤 H A W w32) (λ v t. t .0) tt (λ tv t zs is.
-    move ! (4 ∷ []) $ heard ! (Stored subsetView encodeSubset r (now z) t (zs .1 .0)) (λ stored. leaves ! refl tt $
+    move ! (4 ∷ []) $ heard ! (Stored subsetHeadView encodeSubset r (now z) t (zs .1 .0)) (λ stored. leaves ! refl tt $
     -- [the answer's token and last words; the result; the query's tokens and last values; the tokens of what was decoded]
     tokens-out ! 1 (κs .1 .1 .1 .1 .1 .1 .0, tt) (qs .1 .1 .1 .1 .1 .1 .0, tt) $ move ! (3 ∷ []) $ tokens-out ! 4 κs′ qs′ $ move ! (4 ∷ 0 ∷ 1 ∷ 2 ∷ 8 ∷ 3 ∷ 9 ∷ []) $ tokens-in ! 7 κs qs $
     move ! (3 ∷ []) $ skips ! 4 (fsep (Final o (os .1 .1 .1 .1 .0)) ftrue) $ fsplit ! $ move ! (3 ∷ []) $ skips ! 1 (fsep (FinalArray u32 3 z (zs .1 .0)) ftrue) $ move ! (1 ∷ 0 ∷ []) $ fjoin ! $ pads ! 5 $ keep ! (2 ∷ 0 ∷ 3 ∷ []) $

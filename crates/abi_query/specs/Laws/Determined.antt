@@ -10,21 +10,21 @@ use Rattle.constraints.specs.declared.Constraint.{Constraint}
 use Rattle.table.specs.declared.Header.{Header}
 use Rattle.query_spec.specs.Queries.{matchView, pageView, Matched, PageRead, RefinedOne, RefinedList}
 use Rattle.query_spec.specs.Laws.Determined.{refined-one-determined, refined-list-determined, matched-determined, page-read-determined}
-use Rattle.abi.specs.Encoding.{encodeBool, subsetView, encodeSubset, encodePage, Answers}
+use Rattle.abi.specs.Encoding.{encodeBool, subsetHeadView, encodeSubset, encodePage, Answers}
 use Rattle.abi.specs.Laws.Determined.{SameOutcome, answers-determined}
 
 module _ {words words₁ words₂ : List ℕ} {r₁ r₂ : ℕ} (h : Header) (rows : List ℕ) (subset : Subset) where
   pub refine-one-determined : (condition output output₁ output₂ : List ℕ)
-      → Answers (λ a. RefinedOne h rows subset (conditionIn condition 0) output a output₁) subsetView encodeSubset words r₁ words₁
-      → Answers (λ a. RefinedOne h rows subset (conditionIn condition 0) output a output₂) subsetView encodeSubset words r₂ words₂
-      → SameOutcome subsetView (λ x y. Same x y output₁ output₂) r₁ r₂ words₁ words₂
+      → Answers (λ a. RefinedOne h rows subset (conditionIn condition 0) output a output₁) subsetHeadView encodeSubset words r₁ words₁
+      → Answers (λ a. RefinedOne h rows subset (conditionIn condition 0) output a output₂) subsetHeadView encodeSubset words r₂ words₂
+      → SameOutcome subsetHeadView (λ x y. Same x y output₁ output₂) r₁ r₂ words₁ words₂
   refine-one-determined condition output output₁ output₂ = answers-determined (λ x y. refined-one-determined)
 
   module _ (conditions : List Constraint) where
     pub refine-ref-determined : (output output₁ output₂ : List ℕ)
-        → Answers (λ a. RefinedList h rows subset conditions output a output₁) subsetView encodeSubset words r₁ words₁
-        → Answers (λ a. RefinedList h rows subset conditions output a output₂) subsetView encodeSubset words r₂ words₂
-        → SameOutcome subsetView (λ x y. Same x y output₁ output₂) r₁ r₂ words₁ words₂
+        → Answers (λ a. RefinedList h rows subset conditions output a output₁) subsetHeadView encodeSubset words r₁ words₁
+        → Answers (λ a. RefinedList h rows subset conditions output a output₂) subsetHeadView encodeSubset words r₂ words₂
+        → SameOutcome subsetHeadView (λ x y. Same x y output₁ output₂) r₁ r₂ words₁ words₂
     refine-ref-determined output output₁ output₂ = answers-determined (λ x y. refined-list-determined)
 
     pub contains-match-determined : Answers (Matched h rows subset conditions) matchView encodeBool words r₁ words₁

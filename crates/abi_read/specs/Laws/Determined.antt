@@ -18,7 +18,7 @@ use Rattle.table.specs.Contracts.{CellRead, RangeRead, RowsSince, RowsSinceVers
 use Rattle.table.specs.Laws.Determined.{KnownKeys, cell-read-determined, range-read-determined, version-read-determined, rows-since-determined}
 use Rattle.precedence.specs.Precedence.{precedenceRefusal, precedenceView, PrecedenceChecked}
 use Rattle.precedence.specs.Laws.Determined.{precedence-determined}
-use Rattle.abi.specs.Encoding.{encodeOption, encodeRange, encodeVersion, subsetView, encodeSubset, Answers}
+use Rattle.abi.specs.Encoding.{encodeOption, encodeRange, encodeVersion, subsetHeadView, encodeSubset, Answers}
 use Rattle.abi.specs.Laws.Determined.{SameOutcome, answers-determined}
 use Rattle.abi_read.specs.Encoding.{encodeFailure}
 use Rattle.table.specs.Laws.Determined as library
@@ -50,8 +50,8 @@ module _ {words words₁ words₂ : List ℕ} {r₁ r₂ : ℕ} where
 
   -- both intersections
   pub intersect-determined : (a b : Subset) (output output₁ output₂ : List ℕ)
-      → Answers (λ x. Answered (intersectReply a b (length output)) output x output₁) subsetView encodeSubset words r₁ words₁ → Answers (λ x. Answered (intersectReply a b (length output)) output x output₂) subsetView encodeSubset words r₂ words₂
-      → SameOutcome subsetView (λ x y. Same x y output₁ output₂) r₁ r₂ words₁ words₂
+      → Answers (λ x. Answered (intersectReply a b (length output)) output x output₁) subsetHeadView encodeSubset words r₁ words₁ → Answers (λ x. Answered (intersectReply a b (length output)) output x output₂) subsetHeadView encodeSubset words r₂ words₂
+      → SameOutcome subsetHeadView (λ x y. Same x y output₁ output₂) r₁ r₂ words₁ words₂
   intersect-determined a b output output₁ output₂ = answers-determined (λ x y. answered-determined)
 
 pub check-precedence-determined : {words words₁ words₂ : List ℕ} {r₁ r₂ : ℕ} (h : Header) (rows keys : List ℕ) (column : ℕ) (pairs : List ℕ)

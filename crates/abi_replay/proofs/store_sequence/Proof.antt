@@ -1,5 +1,6 @@
 -- `abi_replay::store_sequence` meets its contract. Assumes nothing.
 use mathlib.Core.Path.{refl}
+use mathlib.Core.Option.{Option·elim}
 use Rattle.refusals.specs.Refusals.{ifAccepted}
 use Rattle.short_histories.specs.Sequences.{sequenceView}
 use Rattle.abi.specs.Encoding.{encodeOption, returned}
@@ -9,7 +10,7 @@ use Rattle.abi_replay.proofs.store_sequence.Statement.{statement}
 use Rattle.abi_replay.proofs.store_sequence.Tie as tie
 
 pub store-sequence-spec : {M : Type 1} → statement M
-unfolding sequenceView encodeOption returned ifAccepted
+unfolding sequenceView encodeOption Option·elim returned ifAccepted
 store-sequence-spec =
     tie.close
     (tie.spec

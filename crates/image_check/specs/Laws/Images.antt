@@ -1,7 +1,8 @@
 -- Words are an image exactly if they pass all tests, and then it is the one whose parts are at their places. Assumes nothing.
-use Rattle.image_check.specs.Laws.Prelude.{ℕ, suc, _+_, _-_, _*_, _/_, _≤_, _<_, _≡_, refl, sym, ap, ap₂, _∙_, inl, inr, true, false, not, _&&_, true≢false, List, [], _∷_, _++_, append-assoc, Option, none, some, ℕ-discrete, arith, leb, eqb, length, take, drop, getD, length-append, length-take, length-drop, take-append-drop, drop-of-length-le, take-at, drop-at, drop-drop, drop-cons, take-append-le, getD-at, getD-drop, getD-take, length-take-le, leb-true, leb-false, eqb-true, le-leb, eq-eqb, ne-eqb, not-true, all, split, and-left, and-right, all-of, all-getD, crc32, bytesOf, Largest, Header, outside, header-decoded, flag-refused, Layout, length-packed}
-use Rattle.table.specs.declared.Largest.the-variants.{None as NoLargest, Value}
-use Rattle.abi.specs.Encoding.{decodeLargest, decodeColumns, decodeHeader, largestFlag, largestValue, encodeHeader}
+use Rattle.image_check.specs.Laws.Prelude.{ℕ, suc, _+_, _-_, _*_, _/_, _≤_, _<_, _≡_, refl, sym, ap, ap₂, _∙_, inl, inr, true, false, not, _&&_, true≢false, List, [], _∷_, _++_, append-assoc, Option, none, some, ℕ-discrete, arith, leb, eqb, length, take, drop, getD, length-append, length-take, length-drop, take-append-drop, drop-of-length-le, take-at, drop-at, drop-drop, drop-cons, take-append-le, getD-at, getD-drop, getD-take, length-take-le, leb-true, leb-false, eqb-true, le-leb, eq-eqb, ne-eqb, not-true, all, split, and-left, and-right, all-of, all-getD, crc32, bytesOf, Header, outside, header-decoded, flag-refused, Layout, length-packed}
+use Rattle.abi.specs.Encoding.{decodeLargest, decodeColumns, decodeHeader, encodeOption, encodeHeader}
+use Rattle.table.specs.Numbers.{largestView}
+use mathlib.Core.Option.{Option·elim, Option·getD}
 use Rattle.image_spec.specs.Image.{Image, packed, imageBody, imageWords, isImage, Reads, reads, reads-none}
 use Rattle.image_check.specs.inner.Parsed.{headerIn, layoutOf, Placed, part, imageIn, Marked, Filled, Whole, Passes, IsAt}
 use Rattle.image_check.specs.Laws.Bytes.{length-bytes, bytes-append, isByte, bytes-small, packed-bytes}
@@ -70,12 +71,12 @@ module _ (ws : List ℕ) where
 
   -- a header that was decoded is encoded as it was
   header-encoded : outside (decodeHeader ws) ≡ false → (getD ws 10 0 ≡ 0 → getD ws 11 0 ≡ 0) → encodeHeader (decodeHeader ws) ≡ getD ws 0 0 ∷ getD ws 1 0 ∷ getD ws 2 0 ∷ getD ws 3 0 ∷ getD ws 4 0 ∷ getD ws 5 0 ∷ getD ws 6 0 ∷ getD ws 7 0 ∷ getD ws 8 0 ∷ getD ws 9 0 ∷ getD ws 10 0 ∷ getD ws 11 0 ∷ []
-  unfolding encodeHeader decodeHeader decodeColumns decodeLargest
+  unfolding encodeHeader encodeOption largestView Option·elim decodeHeader decodeColumns decodeLargest
   header-encoded e bare =
       let few = flag-few e in
       elim (ℕ-discrete (getD ws 10 0) 1) [
-        | yes q ↦ rw (le-leb (getD ws 10 0) 1 few, eq-eqb (getD ws 10 0) 1 q, q)
-        | no q ↦ let z : getD ws 10 0 ≡ 0 = omega arith in rw (le-leb (getD ws 10 0) 1 few, ne-eqb (getD ws 10 0) 1 q, z, bare z)
+        | yes q ↦ rw (le-leb (getD ws 10 0) 1 few, eq-eqb (getD ws 10 0) 1 q, q) (simp getD-drop)
+        | no q ↦ let z : getD ws 10 0 ≡ 0 = omega arith in rw (le-leb (getD ws 10 0) 1 few, ne-eqb (getD ws 10 0) 1 q, z, bare z) (simp getD-drop)
       ]
 
 -- what words begin with
@@ -181,7 +182,7 @@ module _ (words : List ℕ) (l : Layout) (p : Placed l) (counted : length words 
       e ∙ ap (λ (r : List ℕ). 1112819533 ∷ 1 ∷ (encodeHeader (l .header) ++ (l .text ∷ r))) (rest-parts f) ∙ ap {B = List ℕ} (λ (r : List ℕ). 1112819533 ∷ 1 ∷ r) g
 
 length-body : (i : Image) → Proper i → length (imageBody i) ≡ 15 + (length (i .text) + 3) / 4 + i .header .rows * i .header .columns + 2 * i .header .entries + i .header .pending
-unfolding imageBody encodeHeader
+unfolding imageBody encodeHeader encodeOption
 length-body i p =
     let a = length-packed (i .text) in
     let b = length-append (i .sorts) (i .pending) in
@@ -217,22 +218,23 @@ module _ (words : List ℕ) (t : Passes words) where
 
 -- ---- an image passes all tests, and is the one whose parts are at their places
 
+no-value : (o : Option ℕ) → Option·elim {B = ℕ} o 0 (λ n. 1) ≡ 0 → Option·getD o 0 ≡ 0
+unfolding Option·elim
+no-value none e = refl
+no-value (some v) e = absurd (omega arith)
+
 module _ (i : Image) (p : Proper i) where
   header-back : headerIn (imageWords i) ≡ i .header
-  unfolding headerIn imageWords imageBody encodeHeader decodeHeader
+  unfolding headerIn imageWords imageBody encodeHeader encodeOption decodeHeader
   header-back = header-decoded (i .header)
 
   text-back : getD (imageWords i) 14 0 ≡ length (i .text)
-  unfolding imageWords imageBody encodeHeader
+  unfolding imageWords imageBody encodeHeader encodeOption
   text-back = refl
 
   marked-back : Marked (imageWords i)
-  unfolding imageWords imageBody encodeHeader
-  marked-back = record { magic = refl; format = refl; no-value = no-value (i .header .largest) }
-    where
-      no-value : (l : Largest) → largestFlag l ≡ 0 → largestValue l ≡ 0
-      no-value NoLargest e = refl
-      no-value (Value v) e = absurd (omega arith)
+  unfolding imageWords imageBody encodeHeader encodeOption
+  marked-back = record { magic = refl; format = refl; no-value = no-value (largestView (i .header .largest)) }
 
   abbrev stored : Layout
   stored = layoutOf (i .header) (length (i .text))
@@ -249,7 +251,7 @@ module _ (i : Image) (p : Proper i) where
   behind = i .rows ++ (i .sorts ++ (i .pending ++ (crc32 (bytesOf (imageBody i)) ∷ [])))
 
   rest-back : drop 15 (imageWords i) ≡ packed (i .text) ++ behind
-  unfolding imageWords imageBody encodeHeader
+  unfolding imageWords imageBody encodeHeader encodeOption
   rest-back = simp append-assoc
 
   bytes-back : take (length (i .text)) (bytesOf (drop 15 (imageWords i))) ≡ i .text
@@ -294,11 +296,11 @@ module _ (i : Image) (p : Proper i) where
   front = 1112819533 ∷ 1 ∷ (encodeHeader (i .header) ++ (length (i .text) ∷ packed (i .text)))
 
   length-front-is : length front ≡ 15 + (length (i .text) + 3) / 4
-  unfolding encodeHeader
+  unfolding encodeHeader encodeOption
   length-front-is = omega (arith, length-packed (i .text))
 
   split-front : imageWords i ≡ front ++ behind
-  unfolding imageWords imageBody encodeHeader
+  unfolding imageWords imageBody encodeHeader encodeOption
   split-front = simp append-assoc
 
   image-back : imageIn (imageWords i) stored ≡ i

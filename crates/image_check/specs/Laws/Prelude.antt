@@ -22,4 +22,3 @@ pub use Rattle.lists.specs.Lists.{all}
 pub use Rattle.sort_entries.specs.inner.Checks.{Decides}
 pub use Rattle.table.specs.Refusing.{outside}
 pub use Rattle.table.specs.declared.Header.{Header}
-pub use Rattle.table.specs.declared.Largest.{Largest}

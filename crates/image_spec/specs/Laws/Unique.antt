@@ -12,11 +12,10 @@ use borrow.Author.Tests.{ltb-true, leb-true, eqb-true, not-true, le-leb, eq-eqb}
 use Rattle.lists.specs.Lists.{all}
 use Rattle.lists.specs.Laws.Filter.{and-left, and-right}
 use Rattle.lists.specs.Laws.All.{all-head, all-tail}
-use Rattle.table.specs.declared.Largest.{Largest}
-use Rattle.table.specs.declared.Largest.the-variants.{None as NoLargest, Value}
 use Rattle.table.specs.declared.Header.{Header}
 use Rattle.table.specs.Refusing.{outside}
-use Rattle.abi.specs.Encoding.{largestFlag, largestValue, encodeHeader}
+use Rattle.abi.specs.Encoding.{decodeHeader, encodeOption, encodeHeader}
+use Rattle.abi.specs.Laws.Encoding.{header-decoded}
 use Rattle.image_spec.specs.Image.{Image, packed, imageBody, imageWords, isImage, Reads, reads, reads-none}
 
 -- ---- lists
@@ -30,39 +29,8 @@ joined-second a b c d n e = sym (drop-append-seam a c) ∙ ap (drop (length a)) 
 
 -- ---- headers
 
-largest-unique : (a b : Largest) → largestFlag a ≡ largestFlag b → largestValue a ≡ largestValue b → a ≡ b
-largest-unique NoLargest NoLargest e f = refl
-largest-unique NoLargest (Value v) e f = absurd (omega (arith, e))
-largest-unique (Value v) NoLargest e f = absurd (omega (arith, e))
-largest-unique (Value v) (Value w) e f = ap Value f
-
 pub header-unique : (h k : Header) → encodeHeader h ≡ encodeHeader k → h ≡ k
-unfolding encodeHeader
-header-unique h k e =
-    let l : h .largest ≡ k .largest = largest-unique (h .largest) (k .largest) (ap (λ (x : List ℕ). getD x 10 0) e) (ap (λ (x : List ℕ). getD x 11 0) e) in
-    let c₀ : h .columns ≡ k .columns = ap (λ (x : List ℕ). getD x 0 0) e in
-    let c₁ : h .keys ≡ k .keys = ap (λ (x : List ℕ). getD x 1 0) e in
-    let c₂ : h .sort ≡ k .sort = ap (λ (x : List ℕ). getD x 2 0) e in
-    let c₃ : h .rule ≡ k .rule = ap (λ (x : List ℕ). getD x 3 0) e in
-    let c₄ : h .capacity ≡ k .capacity = ap (λ (x : List ℕ). getD x 4 0) e in
-    let c₅ : h .rows ≡ k .rows = ap (λ (x : List ℕ). getD x 5 0) e in
-    let c₆ : h .dead ≡ k .dead = ap (λ (x : List ℕ). getD x 6 0) e in
-    let c₇ : h .entries ≡ k .entries = ap (λ (x : List ℕ). getD x 7 0) e in
-    let c₈ : h .pending ≡ k .pending = ap (λ (x : List ℕ). getD x 8 0) e in
-    let c₉ : h .generation ≡ k .generation = ap (λ (x : List ℕ). getD x 9 0) e in
-    λ i. record {
-      columns = c₀ i;
-      keys = c₁ i;
-      sort = c₂ i;
-      rule = c₃ i;
-      capacity = c₄ i;
-      rows = c₅ i;
-      dead = c₆ i;
-      entries = c₇ i;
-      pending = c₈ i;
-      generation = c₉ i;
-      largest = l i;
-    }
+header-unique h k e = sym (header-decoded h) ∙ ap decodeHeader e ∙ header-decoded k
 
 -- ---- texts
 
@@ -164,7 +132,7 @@ parts-image i p =
     )
 
 pub length-encoded : (h : Header) → length (encodeHeader h) ≡ 12
-unfolding encodeHeader
+unfolding encodeOption encodeHeader
 length-encoded h = refl
 
 last-off : (a b : List ℕ) (x y : ℕ) → a ++ (x ∷ []) ≡ b ++ (y ∷ []) → a ≡ b

@@ -1,6 +1,6 @@
 -- The parts of an image, written one after another: what the output has then, and how many words that is. Assumes nothing.
 use Rattle.image_write.specs.Laws.Prelude.{ℕ, _+_, _*_, _/_, _≤_, _<_, _≡_, refl, sym, ap, ap₂, _∙_, List, [], _∷_, _++_, append-assoc, arith, length, take, getD, set, length-append, length-take-le, take-suc, add-one, splice, length-splice, part-splice, splice-then, set-splice, set-set-splice, crc32, bytesOf, Header, length-packed}
-use Rattle.abi.specs.Encoding.{encodeHeader}
+use Rattle.abi.specs.Encoding.{encodeOption, encodeHeader}
 use Rattle.image_spec.specs.Image.{packed, imageBody, imageWords, imageOf, imageLength}
 use Rattle.image_write.specs.inner.Parts.{imageHead, storeWords, wordsInUse, Holds}
 
@@ -33,17 +33,17 @@ put-three l a b c at n m e f h p q r =
     ∙ ap (splice l at) (append-assoc a b c)
 
 pub length-head : (h : Header) (text : ℕ) → length (imageHead h text) ≡ 15
-unfolding imageHead encodeHeader
+unfolding imageHead encodeHeader encodeOption
 length-head h text = refl
 
 pub length-header : (h : Header) → length (encodeHeader h) ≡ 12
-unfolding encodeHeader
+unfolding encodeHeader encodeOption
 length-header h = refl
 
 -- the words before the text
 pub head-written : (l : List ℕ) (h : Header) (text : ℕ) → 15 ≤ length l
     → set (splice (set (set l 0 1112819533) 1 1) 2 (encodeHeader h)) 14 text ≡ splice l 0 (imageHead h text)
-unfolding imageHead encodeHeader
+unfolding imageHead encodeHeader encodeOption
 head-written l h text k =
     ap (λ (x : List ℕ). set (splice x 2 (encodeHeader h)) 14 text) (set-set-splice l 0 1112819533 1 (omega arith))
     ∙ ap (λ (x : List ℕ). set x 14 text) (splice-then l (1112819533 ∷ 1 ∷ []) (encodeHeader h) 0 (omega arith))
@@ -74,7 +74,7 @@ module _ (h : Header) (rows sorts pending : List ℕ) (holds : Holds h rows sort
 
   module _ (text : List ℕ) where
     body-parts : imageBody (imageOf h rows sorts pending text) ≡ imageHead h (length text) ++ (packed text ++ storeWords h rows sorts pending)
-    unfolding imageBody imageHead encodeHeader storeWords
+    unfolding imageBody imageHead encodeHeader encodeOption storeWords
     body-parts = refl
 
     pub length-body : length (imageBody (imageOf h rows sorts pending text)) ≡ 15 + (length text + 3) / 4 + wordsInUse h
