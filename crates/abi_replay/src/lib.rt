@@ -14,8 +14,8 @@ ghost use Rattle.table.specs.Contracts.{body, compactionWords};
 ghost use Rattle.replay.specs.Replays.{Replayed};
 ghost use Rattle.replay_queries.specs.RunQueries.{RunMade};
 ghost use Rattle.abi.specs.Encoding.{decodeHeader, decodeSubset, encodeHeader, Stored, Answers, encodeNumber, encodeOption};
-ghost use Rattle.abi_replay.specs.Encoding.{encodeRun, encodeCall};
-ghost use Rattle.short_histories.specs.Sequences.{stepView, positionView, sequenceView, StepAnswered, PositionAnswered, SequenceFound, NextFound};
+ghost use Rattle.abi_replay.specs.Encoding.{encodeRun, stepWords};
+ghost use Rattle.short_histories.specs.Sequences.{positionView, sequenceView, StepAnswered, PositionAnswered, SequenceFound, NextFound};
 use abi::decode_header;
 use abi::decode_subset;
 use abi::encode_bool;
@@ -121,7 +121,7 @@ const REMOVE: u32 = 1;
 const MERGE: u32 = 2;
 
 fn store_step(answer: StepAnswer, words: &mut [u32; 4]) -> u32
-    ensures { λ r. ⌜ Stored stepView encodeCall answer (now (words .entry)) r (now (words .exit)) ⌝ }
+    ensures { λ r. ⌜ Stored stepWords (λ words. words) answer (now (words .entry)) r (now (words .exit)) ⌝ }
 {
     match answer {
         StepAnswer::Refused(number) => number,
@@ -171,7 +171,7 @@ fn store_sequence(answer: SequenceAnswer, words: &mut [u32; 2]) -> u32
 // The call of a step, in four words: 0, key, stamp, third cell; 1, key, 0, 0; 2, 0, 0, 0.
 #[no_mangle]
 pub extern "C" fn mouldgrey_step_at(step: u32, answer: &mut [u32; 4]) -> u32
-    ensures { λ r. ⌜ Answers (StepAnswered step) stepView encodeCall (now (answer .entry)) r (now (answer .exit)) ⌝ }
+    ensures { λ r. ⌜ Answers (StepAnswered step) stepWords (λ words. words) (now (answer .entry)) r (now (answer .exit)) ⌝ }
 {
     store_step(short_histories::step_at(step), answer)
 }

@@ -25,10 +25,10 @@ use Rattle.replay.specs.Laws.Determined.{ReplayLeft, SameReplay, replayed-deter
 use Rattle.replay_queries.specs.RunQueries.{RunMade}
 use Rattle.replay_queries.specs.Laws.Determined.{RunLeft, SameRun, run-made-determined}
 use Rattle.refusals.specs.Laws.Determined.{Same}
-use Rattle.short_histories.specs.Sequences.{stepView, positionView, sequenceView, StepAnswered, PositionAnswered, SequenceAnswered}
+use Rattle.short_histories.specs.Sequences.{positionView, sequenceView, StepAnswered, PositionAnswered, SequenceAnswered}
 use Rattle.abi.specs.Encoding.{encodeHeader, Answers, encodeNumber, encodeOption}
 use Rattle.abi.specs.Laws.Determined.{SameOutcome, answers-determined}
-use Rattle.abi_replay.specs.Encoding.{encodeRun, encodeCall}
+use Rattle.abi_replay.specs.Encoding.{encodeRun, stepWords}
 use Rattle.short_histories.specs.Laws.Determined as library
 
 abbrev replayLeft : TableAnswer → Body → List ℕ → CompactionWords → List ℕ → ReplayLeft
@@ -60,8 +60,8 @@ module _ (h : Header) (rows sorts : List ℕ) (start : Subset) (ids : List ℕ) 
       answers-determined (λ x y. run-made-determined h rows sorts start ids queries first second (runLeft x first₁ second₁) (runLeft y first₂ second₂))
 
 module _ {words words₁ words₂ : List ℕ} {r₁ r₂ : ℕ} where
-  pub step-at-determined : (step : ℕ) → Answers (StepAnswered step) stepView encodeCall words r₁ words₁ → Answers (StepAnswered step) stepView encodeCall words r₂ words₂
-      → SameOutcome stepView (λ x y. x ≡ y) r₁ r₂ words₁ words₂
+  pub step-at-determined : (step : ℕ) → Answers (StepAnswered step) stepWords (λ x. x) words r₁ words₁ → Answers (StepAnswered step) stepWords (λ x. x) words r₂ words₂
+      → SameOutcome stepWords (λ x y. x ≡ y) r₁ r₂ words₁ words₂
   step-at-determined step = answers-determined (λ x y. library.step-determined step)
 
   pub position-of-determined : (sequence : List ℕ) → Answers (PositionAnswered sequence) positionView encodeNumber words r₁ words₁ → Answers (PositionAnswered sequence) positionView encodeNumber words r₂ words₂
