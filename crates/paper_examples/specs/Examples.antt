@@ -23,7 +23,7 @@ use Rattle.plain_table.specs.Plain.{Row, Plain, with, opened, added, merged, co
 use Rattle.table.specs.Stores.{headerOf}
 use Rattle.query_spec.specs.Queries.{refineOneReply, refineListReply, pageIds, pageReply}
 
--- a table of one column whose rows have their number as cell, and which of them are live
+-- a table of one column: row i has the cell i and is live if `live i` is true
 abbrev pub tableOf : ℕ → (ℕ → Bool) → Plain
 tableOf count live =
     let rows : List Row = map (λ i. record { live = live i; cells = i ∷ [] }) (iota 0 count) in
@@ -58,11 +58,11 @@ oneStaged cells =
 
 -- of the next merge: its status, *added*, the place 0, and the rows after it, all of them live
 abbrev pub Merges : List ℕ → ℕ → Bool → List (List ℕ) → Type 0
-Merges cells status more rows =
+Merges cells status isAdded rows =
     let p = oneStaged cells in
     (merged p .status ≡ status)
     × (merged p .place ≡ 0)
-    × (added p ≡ more)
+    × (added p ≡ isAdded)
     × (merged p .table .rows ≡ map (λ cells. record { live = true; cells = cells }) rows)
 
 pub record PaperExamples : Type 0 where
