@@ -5,7 +5,7 @@
 ghost use mathlib.Core.Path.{_≡_};
 ghost use mathlib.Core.List.{foldl};
 ghost use Prim.Native.Nat.{_+_, _*_, _%_, _≤_, _<_};
-ghost use Rattle.crc32.specs.Crc.{bitSteps, byteStep, register, crc32, wordBytes, bytesOf};
+ghost use Rattle.crc32.specs.Crc.{bitSteps, byteStep, crc32, wordBytes, bytesOf};
 ghost use Rattle.crc32.specs.inner.Tables.{Tables};
 
 mod tables;
@@ -66,7 +66,7 @@ fn after_two(tables: &[u32; ENTRIES], register: u32, first: u32, second: u32) ->
 // The register after words.
 fn after_words(tables: &[u32; ENTRIES], words: &[u32]) -> u32
     requires { ⌜ Tables (now tables) ⌝ }
-    ensures { λ r. ⌜ r ≡ register (bytesOf (now (words .entry))) ⌝ }
+    ensures { λ r. ⌜ r ≡ foldl byteStep 4294967295 (bytesOf (now (words .entry))) ⌝ }
 {
     let mut register = ALL_ONES;
     let mut i = 0;

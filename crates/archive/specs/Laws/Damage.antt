@@ -2,7 +2,8 @@
 use Rattle.archive.specs.Laws.Prelude.{ℕ, zero, suc, _+_, _<_, _≡_, refl, sym, ap, _∙_, true, List, [], _∷_, _++_, _⊎_, inl, inr, Option, none, some, arith, length, getD, Below, bytes-of-append, bytes-of-below, bytes-of-cons, damage-shows, residue-of-crc, Header, TableAnswer, Table, tableView, Damaged, damaged, RefusedAsImage}
 use Rattle.lists.specs.Lists.{flatten}
 use Rattle.refusals.specs.Refusals.{Reply, refused, accepted, reply, outcome}
-use Rattle.crc32.specs.Crc.{register, crc32, bytesOf, wordBytes}
+use Rattle.crc32.specs.Crc.{crc32, bytesOf, wordBytes}
+use Rattle.crc32.specs.Laws.Register.{register}
 use Rattle.image_spec.specs.Image.{Image, imageBody, imageWords, isImage, Reads, reads, reads-none}
 use Rattle.image_spec.specs.Contracts.{lengthView, checkReply, readRefusal, textRefusal, textOf, ImageChecked, ImageRead, TextRead}
 

@@ -1,7 +1,7 @@
 -- `crc32::after_words` meets its contract. The loop's invariant: the register after the words to come, from the register so
 -- far, is that after all words. Assumes nothing.
 use Rattle.crc32.proofs.Prelude.{_-_, _≤_, _≡_, refl, sym, _∙_, foldl, length, drop, needs}
-use Rattle.crc32.specs.Crc.{byteStep, register, bytesOf}
+use Rattle.crc32.specs.Crc.{byteStep, bytesOf}
 use Rattle.crc32.proofs.Words.{two-next, one-left, none-left}
 use Rattle.crc32.proofs.after_words.Statement.{statement}
 use Rattle.crc32.proofs.after_words.Tie as tie
@@ -19,14 +19,12 @@ loop-again c =
     (search needs, l .inv .1 ∙ two-next _ (l .i) (l .register) (c .before .before .before .loop-test .taken) ∙ rw (c .after-two .ensures))
 
 returns : tie.Need-returns Inv-loop μ-loop
-unfolding register
 returns c =
     let l = c .before .before .before .before .loop in
     c .after-word .ensures
     ∙ sym (l .inv .1 ∙ one-left _ (l .i) (l .register) (c .before .before .if1 .taken) (c .before .before .before .loop-test .left))
 
 pub after-words-spec : {M : Type 1} → statement M
-unfolding register
 after-words-spec =
     tie.close
     (tie.spec

@@ -1,11 +1,11 @@
 -- What a checksum shows of damaged bytes. Assumes nothing.
 use Rattle.crc32.specs.Laws.Prelude.{ℕ, suc, _*_, _^_, _<_, _≡_, refl, sym, ap, _∙_, List, [], _∷_, _++_, foldl, foldl-append, arith, bitXor, xor-lt, length}
-use Rattle.crc32.specs.Crc.{bitStep, bitSteps, byteStep, register, crc32, wordBytes}
+use Rattle.crc32.specs.Crc.{bitStep, bitSteps, byteStep, crc32, wordBytes}
 use Rattle.crc32.specs.Bytes.{Below, numberOf}
 use Rattle.crc32.specs.Laws.Xor.{xor-cancel, xor-cancel-right, xor-twice}
 use Rattle.crc32.specs.Laws.Steps.{steps-injective}
 use Rattle.crc32.specs.Laws.Bytes.{number-injective}
-use Rattle.crc32.specs.Laws.Register.{bytes-at-once, word-at-once, byte-step-fits, bytes-fit, register-word, crc-word}
+use Rattle.crc32.specs.Laws.Register.{register, bytes-at-once, word-at-once, byte-step-fits, bytes-fit, register-word, crc-word}
 
 -- Registers that differ stay different under the same byte.
 pub byte-step-injective : (s t b : ℕ) → s < 2 ^ 32 → t < 2 ^ 32 → b < 256 → byteStep s b ≡ byteStep t b → s ≡ t
@@ -48,7 +48,6 @@ four-bytes-injective s g x y h k l m e =
 -- Damage within four bytes in a row shows in the register, if the bytes before and after are unchanged.
 pub damage-shows : (a x y z : List ℕ) → Below 256 a → Below 256 x → Below 256 y → Below 256 z → length x ≡ 4 → length y ≡ 4
     → register (a ++ x ++ z) ≡ register (a ++ y ++ z) → x ≡ y
-unfolding register
 damage-shows a x y z f h k g l m e =
     let s = foldl byteStep 4294967295 a in
     let b : s < 2 ^ 32 = bytes-fit a f 4294967295 (omega arith) in
@@ -70,7 +69,6 @@ damage-shows-crc a x y z f h k g l m e =
 
 -- The register after a body and a word, by the register after the body.
 body-word : (body : List ℕ) (c : ℕ) → c < 2 ^ 32 → register (body ++ wordBytes c) ≡ bitSteps 32 (bitXor (register body) c)
-unfolding register
 body-word body c h =
     foldl-append byteStep 4294967295 body (wordBytes c) ∙ word-at-once (foldl byteStep 4294967295 body) c h
 

@@ -1,10 +1,14 @@
 -- The register over bytes: bytes in one number, added at once. Assumes nothing.
 use Rattle.crc32.specs.Laws.Prelude.{ℕ, suc, _+_, _*_, _^_, _<_, _≡_, refl, sym, ap, ap₂, _∙_, List, [], _∷_, foldl, suc-mul, add-comm, arith, bitXor, xor-shifted, xor-zero-r, xor-comm, xor-lt, length}
-use Rattle.crc32.specs.Crc.{bitStep, bitSteps, byteStep, register, crc32, wordBytes}
+use Rattle.crc32.specs.Crc.{bitStep, bitSteps, byteStep, crc32, wordBytes}
 use Rattle.crc32.specs.Bytes.{Below, numberOf}
 use Rattle.crc32.specs.Laws.Xor.{xor-assoc}
 use Rattle.crc32.specs.Laws.Steps.{steps-xor, steps-add, steps-shifted, steps-fit}
 use Rattle.crc32.specs.Laws.Bytes.{word-bytes-length, word-bytes-below, word-bytes-number}
+
+-- The register after bytes, from its start on.
+abbrev pub register : List ℕ → ℕ
+register bytes = foldl byteStep 4294967295 bytes
 
 -- Eight steps more.
 pub eight-more : (n r : ℕ) → bitSteps (suc n * 8) r ≡ bitSteps (n * 8) (bitSteps 8 r)
@@ -45,7 +49,6 @@ bytes-fit [] h s k = k
 bytes-fit (b ∷ bytes) h s k = bytes-fit bytes (λ i. h (suc i)) (byteStep s b) (byte-step-fits s b k (h 0))
 
 pub register-word : (bytes : List ℕ) → Below 256 bytes → register bytes < 2 ^ 32
-unfolding register
 register-word bytes h = bytes-fit bytes h 4294967295 (omega arith)
 
 -- The checksum is a word.
@@ -55,5 +58,5 @@ crc-word bytes h = xor-lt 32 (register bytes) 4294967295 (register-word bytes h)
 
 -- The check value of the published algorithm: the bytes of "123456789" have the checksum 0xCBF43926.
 pub check-value : crc32 (49 ∷ 50 ∷ 51 ∷ 52 ∷ 53 ∷ 54 ∷ 55 ∷ 56 ∷ 57 ∷ []) ≡ 3421780262
-unfolding crc32 register byteStep bitSteps bitStep
+unfolding crc32 byteStep bitSteps bitStep
 check-value = refl
