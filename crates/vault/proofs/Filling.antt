@@ -1,6 +1,6 @@
 -- The output filled cell by cell, column by column, block by block, and all of it. Assumes nothing.
 use Rattle.vault.proofs.Prelude.{ℕ, zero, suc, _+_, _-_, _*_, _%_, _^_, _≤_, _<_, _≡_, refl, sym, ap, subst, _∙_, Bool, true, arith, List, zero-add, zero-mul, suc-mul, mul-comm, mul-le-mul-right, decLt, ℕ-discrete, add-one, length, getD, set, length-set, getD-set-same, getD-set-other, ext-getD, splice, length-splice, getD-splice-in, getD-splice-after, row-in, Cells, length-to, length-from, to-place, from-place}
-use Rattle.vault.specs.Columns.{minus, plus, toColumns, fromColumns}
+use Rattle.vault.specs.Columns.{minus, toColumns, fromColumns}
 use Rattle.vault.specs.inner.Filling.{cellAbove, Shaped, Within, byColumns, byRows, Filled, ordered, placed, Begun}
 
 module _ {target : List ℕ} {place : ℕ → ℕ → ℕ} where
@@ -186,9 +186,6 @@ abbrev pub Summing : ℕ → ℕ → ℕ → ℕ → List ℕ → List ℕ → L
 Summing width start end column cells output output′ above row =
     ColumnScan (fromColumns width cells) (fromColumns width cells) (byRows width) width start end column output output′ above row
 
-plus-wraps : (d above : ℕ) → (d + above) % 2 ^ 32 ≡ plus d above
-plus-wraps d above = unfold plus in refl
-
 module _ {width rows start end column : ℕ} {cells output : List ℕ} (s : Shaped width rows cells output) (w : Within start end rows) (k : column < width) (f : Cells cells)
     {output′ : List ℕ} {above row r : ℕ} (h : row < end) where
   -- one row more
@@ -213,7 +210,7 @@ module _ {width rows start end column : ℕ} {cells output : List ℕ} (s : Shap
       let n : row < rows = omega (arith, w .inside) in
       let l = length-from width rows (s .some) cells (s .whole) in
       let v : r ≡ getD (fromColumns width cells) (row * width + column) 0 =
-      e ∙ plus-wraps _ above ∙ ap (plus (getD cells (column * rows + row) 0)) (x .cell) ∙ sym (from-place width rows (s .some) cells (s .whole) f row column n k) in
+      e ∙ ap (λ (a : ℕ). (getD cells (column * rows + row) 0 + a) % 2 ^ 32) (x .cell) ∙ sym (from-place width rows (s .some) cells (s .whole) f row column n k) in
       record {
         after = omega (arith, x .after);
         before = omega arith;

@@ -20,24 +20,17 @@ unfoldable pub differences : List ℕ → List ℕ
 differences cells = take 1 cells ++ zipWith minus (drop 1 cells) cells
 
 -- the inverse: each difference replaced by its sum with the cell above, modulo 2^32
-unfoldable pub plus : ℕ → ℕ → ℕ
-plus difference above = (difference + above) % 2 ^ 32
-
 unfoldable pub sumsBelow : ℕ → List ℕ → List ℕ
 sumsBelow above [] = []
-sumsBelow above (d ∷ ds) = plus d above ∷ sumsBelow (plus d above) ds
+sumsBelow above (d ∷ ds) = let cell = (d + above) % 2 ^ 32 in cell ∷ sumsBelow cell ds
 
 unfoldable pub sums : List ℕ → List ℕ
 sums [] = []
 sums (cell ∷ ds) = cell ∷ sumsBelow cell ds
 
--- the cells of column j
-unfoldable pub column : ℕ → List (List ℕ) → List ℕ
-column j rows = map (λ row. getD row j 0) rows
-
--- the first n columns of rows; applied to columns, the rows
+-- the first n columns of these rows; applied to columns, it gives the rows back
 unfoldable pub transposed : ℕ → List (List ℕ) → List (List ℕ)
-transposed n rows = map (λ j. column j rows) (iota 0 n)
+transposed n rows = map (λ j. map (λ row. getD row j 0) rows) (iota 0 n)
 
 -- "a rearrangement of a list of rows: all cells of the first column, then the second, and so on"
 unfoldable pub toColumns : ℕ → List ℕ → List ℕ

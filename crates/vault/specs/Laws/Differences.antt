@@ -1,22 +1,25 @@
 -- One column: differences and sums are inverse to each other; the value at each place. Assumes nothing.
-use Rattle.vault.specs.Laws.Prelude.{ℕ, zero, suc, _^_, _<_, _≡_, refl, ap, ap₂, _∙_, arith, length, getD}
+use Rattle.vault.specs.Laws.Prelude.{ℕ, zero, suc, _+_, _%_, _^_, _<_, _≡_, refl, ap, ap₂, _∙_, arith, length, getD}
 use mathlib.Core.List.{List, [], _∷_, zipWith}
-use Rattle.vault.specs.Columns.{minus, differences, plus, sumsBelow, sums}
+use Rattle.vault.specs.Columns.{minus, differences, sumsBelow, sums}
 
 -- each cell is a u32
 abbrev pub Cells : List ℕ → Type 0
 Cells cells = (i : ℕ) → getD cells i 0 < 2 ^ 32
 
+-- the sum of a difference and the cell above
+abbrev pub plus : ℕ → ℕ → ℕ
+plus difference above = (difference + above) % 2 ^ 32
+
 plus-minus : (cell above : ℕ) → cell < 2 ^ 32 → above < 2 ^ 32 → plus (minus cell above) above ≡ cell
-unfolding plus minus
+unfolding minus
 plus-minus cell above h k = omega arith
 
 minus-plus : (d above : ℕ) → d < 2 ^ 32 → above < 2 ^ 32 → minus (plus d above) above ≡ d
-unfolding plus minus
+unfolding minus
 minus-plus d above h k = omega arith
 
 plus-below : (d above : ℕ) → plus d above < 2 ^ 32
-unfolding plus
 plus-below d above = omega arith
 
 -- ---- the cells below one, each replaced by its difference from the cell above
@@ -115,7 +118,6 @@ sumsBelow-at a (d ∷ ds) zero h = refl
 sumsBelow-at a (d ∷ ds) (suc i) h = sumsBelow-at (plus d a) ds i (omega arith)
 
 plus-zero : (d : ℕ) → d < 2 ^ 32 → d ≡ plus d 0
-unfolding plus
 plus-zero d h = omega arith
 
 pub sums-at : (ds : List ℕ) → Cells ds → (i : ℕ) → i < length ds → getD (sums ds) i 0 ≡ plus (getD ds i 0) (above (sums ds) i)

@@ -2,10 +2,10 @@
 use Rattle.vault.specs.Laws.Prelude.{ℕ, zero, suc, _+_, _*_, _<_, _≡_, refl, sym, ap, ap₂, _∙_, mul-comm, arith, length, getD, length-map, getD-map-below, length-rowsOf, getD-rowsOf, getD-rowAt, rowsOf-widths}
 use mathlib.Core.List.{List, [], _∷_, map, zipWith}
 use Rattle.lists.specs.Lists.{rowsOf, flatten, iota}
-use Rattle.vault.specs.Columns.{minus, differences, plus, sums, column, transposed, toColumns, fromColumns}
+use Rattle.vault.specs.Columns.{minus, differences, sums, transposed, toColumns, fromColumns}
 use Rattle.vault.specs.inner.Filling.{cellAbove}
-use Rattle.vault.specs.Laws.Differences.{Cells, above, differences-at, sums-at}
-use Rattle.vault.specs.Laws.Transposed.{length-column, length-transposed, column-at, transposed-at, width-at, flat-at, rowsOf-cells, column-cells}
+use Rattle.vault.specs.Laws.Differences.{Cells, plus, above, differences-at, sums-at}
+use Rattle.vault.specs.Laws.Transposed.{column, length-column, length-transposed, column-at, transposed-at, width-at, flat-at, rowsOf-cells, column-cells}
 use Rattle.vault.specs.Laws.Inverse.{to-columns, from-columns, columns-widths, rows-widths, columnsIn, rowsBack}
 
 -- the cell above in a column is one row earlier in the rows
@@ -60,5 +60,5 @@ module _ (width n : ℕ) (some : 0 < width) (cells : List ℕ) (e : length cells
 
 -- the example of docs/FORMAT.md, three rows of two
 pub worked : toColumns 2 (1 ∷ 10 ∷ 6 ∷ 10 ∷ 5 ∷ 12 ∷ []) ≡ 1 ∷ 5 ∷ 4294967295 ∷ 10 ∷ 0 ∷ 2 ∷ []
-unfolding toColumns transposed column differences zipWith minus rowsOf flatten iota
+unfolding toColumns transposed differences zipWith minus rowsOf flatten iota
 worked = refl

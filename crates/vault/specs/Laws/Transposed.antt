@@ -1,11 +1,14 @@
 -- Rows and columns: the columns of the columns are the rows. Assumes nothing.
 use Rattle.vault.specs.Laws.Prelude.{ℕ, zero, suc, _+_, _*_, _<_, _≡_, refl, sym, ap, ap₂, _∙_, true, List, [], _∷_, map, append-nil, zero-add, decLt, arith, eqb, length, take, drop, getD, length-map, List·getD-eq-default, getD-drop, ext-getD, eqb-true, eq-eqb, all-getD, all-head, all-tail, all-cons, getD-map-below, length-iota, getD-iota, widths, getD-rowsOf, getD-rowAt, rowsOf-flatten}
 use Rattle.lists.specs.Lists.{all, rowsOf, flatten, iota}
-use Rattle.vault.specs.Columns.{column, transposed}
+use Rattle.vault.specs.Columns.{transposed}
 use Rattle.vault.specs.Laws.Differences.{Cells}
 
+-- the cells of column j
+abbrev pub column : ℕ → List (List ℕ) → List ℕ
+column j rows = map (λ row. getD row j 0) rows
+
 pub length-column : (j : ℕ) (rows : List (List ℕ)) → length (column j rows) ≡ length rows
-unfolding column
 length-column j rows = length-map rows _
 
 pub length-transposed : (n : ℕ) (rows : List (List ℕ)) → length (transposed n rows) ≡ n
@@ -14,7 +17,6 @@ length-transposed n rows = length-map (iota 0 n) _ ∙ length-iota 0 n
 
 -- the cell of row i in column j
 pub column-at : (j : ℕ) (rows : List (List ℕ)) (i : ℕ) → i < length rows → getD (column j rows) i 0 ≡ getD (getD rows i []) j 0
-unfolding column
 column-at j rows i h = getD-map-below (λ row. getD row j 0) rows i [] 0 h
 
 pub transposed-at : (n : ℕ) (rows : List (List ℕ)) (j : ℕ) → j < n → getD (transposed n rows) j [] ≡ column j rows
@@ -83,7 +85,6 @@ rowsOf-cells w (suc n) cells f zero j = take-cells w cells f j
 rowsOf-cells w (suc n) cells f (suc i) j = rowsOf-cells w n (drop w cells) (λ k. rw getD-drop (f (w + k))) i j
 
 pub column-cells : (j : ℕ) (rows : List (List ℕ)) → AllCells rows → Cells (column j rows)
-unfolding column
 column-cells j [] f i = omega arith
 column-cells j (row ∷ rows) f zero = f 0 j
 column-cells j (row ∷ rows) f (suc i) = column-cells j rows (λ k. f (suc k)) i
