@@ -5,7 +5,7 @@ use mathlib.Core.Bool.{Bool, cond, not, _&&_, _||_}
 use mathlib.Core.List.{List, [], _∷_, map}
 use lib.ListN.{length, getD, drop}
 use lib.Dec.{leb, ltb, eqb}
-use Rattle.lists.specs.Lists.{all}
+use Rattle.lists.specs.Lists.{all, elem}
 
 -- adds a byte at the front of the first of these texts
 unfoldable pub prependToFirst : ℕ → List (List ℕ) → List (List ℕ)
@@ -41,18 +41,15 @@ letter bytes = getD bytes 0 0
 unfoldable pub numbers : List ℕ → List ℕ
 numbers bytes = map (valueFrom 0) (drop 1 (fields bytes))
 
--- the letters without numbers: M (77), V (86), L (76), U (85; document 02, change 11), C (67), G (71)
-unfoldable pub isBare : ℕ → Bool
-isBare letter = eqb letter 77 || eqb letter 86 || eqb letter 76 || eqb letter 85 || eqb letter 67 || eqb letter 71
-
--- the valid forms: how many numbers O (79), I (73), R (82), K (75), F (70) and the bare letters have
+-- the valid forms: how many numbers O (79), I (73), R (82), K (75) and F (70) have; M (77), V (86), L (76), U (85; document 02,
+-- change 11), C (67) and G (71) have none
 unfoldable pub isForm : ℕ → ℕ → Bool
 isForm letter count =
     cond (eqb letter 79) (eqb count 6)
     (cond (eqb letter 73 || eqb letter 82) (leb 1 count)
     (cond (eqb letter 75) (leb 2 count)
     (cond (eqb letter 70) (eqb count 3)
-    (isBare letter && eqb count 0))))
+    (elem letter (77 ∷ 86 ∷ 76 ∷ 85 ∷ 67 ∷ 71 ∷ []) && eqb count 0))))
 
 -- "a line not of these forms" is refused with 11
 unfoldable pub ofForms : List ℕ → Bool

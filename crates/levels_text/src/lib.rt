@@ -1,8 +1,8 @@
 // Parses the lines that `levels` reads: a letter and comma-separated decimals, as specs/Lines.antt defines them. There are no
 // preconditions: if there is no room for the numbers, every line is wrong.
 ghost use mathlib.Core.Path.{_≡_};
-ghost use Rattle.levels_text.specs.Lines.{isBare, isForm};
-ghost use Rattle.levels_text.specs.inner.Reading.{FieldIs, LineIs, ParsedIs};
+ghost use Rattle.levels_text.specs.Lines.{isForm};
+ghost use Rattle.levels_text.specs.inner.Reading.{isBare, FieldIs, LineIs, ParsedIs};
 
 pub mod write; // write.rt: a line of output put behind the bytes of a text
 

@@ -3,13 +3,14 @@ use Prim.Native.Nat.{ℕ, _≤_}
 use mathlib.Core.Path.{_≡_, sym, subst}
 use mathlib.Core.Logic.{_⊎_, inl, inr}
 use mathlib.Core.Bool.{true, false≢true}
-use mathlib.Core.List.{List}
+use mathlib.Core.List.{List, [], _∷_}
 use native.Mathlib.Omega.{arith}
 use lib.Dec.{eqb}
 use borrow.Author.Tests.{ne-eqb, eqb-true}
+use Rattle.lists.specs.Lists.{elem}
 use Rattle.lists.specs.Laws.Filter.{split, and-left}
 use Rattle.table.specs.Contracts.{Stores}
-use Rattle.levels_text.specs.Lines.{isBare, isForm}
+use Rattle.levels_text.specs.Lines.{isForm}
 use Rattle.levels_text.specs.Laws.Lines.{form-insert, form-by-row, form-by-key}
 use Rattle.levels_spec.specs.declared.Response.{Response}
 use Rattle.levels_spec.specs.inner.Responses.{Serving}
@@ -17,13 +18,13 @@ use Rattle.levels_spec.specs.inner.Responses.{Serving}
 -- F, L, U and V are the letters left after the others are excluded
 pub query-letters : {letter : ℕ} (count : ℕ) → isForm letter count ≡ true → ((letter ≡ 73) ⊎ ((letter ≡ 75) ⊎ (letter ≡ 82)) → ⊥) → (letter ≡ 77 → ⊥)
     → ((letter ≡ 67) ⊎ ((letter ≡ 71) ⊎ (letter ≡ 79)) → ⊥) → (letter ≡ 70) ⊎ ((letter ≡ 76) ⊎ ((letter ≡ 85) ⊎ (letter ≡ 86)))
-unfolding isForm isBare
+unfolding isForm elem
 query-letters {letter} count form staging merge making =
     elim (split (eqb letter 70)) [
       | inl f ↦ inl (eqb-true letter 70 f)
       | inr f ↦
-          let bare : isBare letter ≡ true =
-          and-left (isBare letter) (eqb count 0)
+          let bare : elem letter (77 ∷ 86 ∷ 76 ∷ 85 ∷ 67 ∷ 71 ∷ []) ≡ true =
+          and-left (elem letter (77 ∷ 86 ∷ 76 ∷ 85 ∷ 67 ∷ 71 ∷ [])) (eqb count 0)
           (rw (ne-eqb letter 79 (λ e. making (inr (inr e))), ne-eqb letter 73 (λ e. staging (inl e)), ne-eqb letter 82 (λ e. staging (inr (inr e))), ne-eqb letter 75 (λ e. staging (inr (inl e))), f) at form)
           in
           elim (split (eqb letter 86)) [

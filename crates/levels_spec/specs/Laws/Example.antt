@@ -1,6 +1,6 @@
 -- The paper's example of a session: the bytes of its lines, in ASCII, and the bytes that they print. Assumes nothing.
 use Rattle.levels_spec.specs.Laws.Prelude.{ℕ, _≡_, refl, List, [], _∷_}
-use Rattle.lists.specs.Lists.{flatten, all, same, count, filter, iota, find}
+use Rattle.lists.specs.Lists.{flatten, all, same, count, filter, iota, find, elem}
 use Rattle.refusals.specs.Refusals.{firstRefusal, reply}
 use Rattle.cells.specs.Cells.{isDead}
 use Rattle.merge_rules.specs.Rules.{ruledColumn, signed, smaller, larger, taken, madeCell, madeFrom, changesFrom, ruled}
@@ -12,7 +12,7 @@ use Rattle.plain_table.specs.Plain.{liveFrom, liveRows, lookup, dead, opened, s
 use Rattle.plain_table.specs.Calls.{refusal, done, after}
 use Rattle.table.specs.Stores.{entries}
 use Rattle.table.specs.Contracts.{fastAmong}
-use Rattle.levels_text.specs.Lines.{fields, valueFrom, isDecimal, isLine, letter, numbers, isBare, isForm, ofForms, prependToFirst}
+use Rattle.levels_text.specs.Lines.{fields, valueFrom, isDecimal, isLine, letter, numbers, isForm, ofForms, prependToFirst}
 use Rattle.levels_text.specs.Written.{digitsIn, decimal, field, textLine}
 use Rattle.listing_spec.specs.Listings.{headLetter, listingText}
 use Rattle.listing_write.specs.Writing.{headNumbers, rowFields, tableListing}
@@ -47,5 +47,5 @@ output =
     ∷ []
 
 pub example : printed input ≡ output
-unfolding printed session linesIn prependToFirst input output flatten all same count filter iota find firstRefusal reply isDead ruledColumn signed smaller larger taken madeCell madeFrom changesFrom ruled known rebuiltFrom rebuilt firstRow entriesFrom byKind fastRange openable wordsOf wordsAll inserts hasKey skipped compactionDue storesShort wordsShort wrongWidth noSuchRow overfull openRefusal stageChecks mergeChecks liveFrom liveRows lookup dead opened stage liveWithKey killIf withoutKey withoutRow removed below stop raised append upsert insertion insertAll applied added compacted unstaged compactsAfter merged refusal done after entries fields valueFrom isDecimal isLine letter numbers isBare isForm ofForms digitsIn decimal field textLine replied openNumber opens calls queries mergeText fastSubsetOf fastAmong rangeText listText listingText headLetter headNumbers rowFields tableListing served Option·elim result lineResult
+unfolding printed session linesIn prependToFirst input output flatten all same count filter iota find elem firstRefusal reply isDead ruledColumn signed smaller larger taken madeCell madeFrom changesFrom ruled known rebuiltFrom rebuilt firstRow entriesFrom byKind fastRange openable wordsOf wordsAll inserts hasKey skipped compactionDue storesShort wordsShort wrongWidth noSuchRow overfull openRefusal stageChecks mergeChecks liveFrom liveRows lookup dead opened stage liveWithKey killIf withoutKey withoutRow removed below stop raised append upsert insertion insertAll applied added compacted unstaged compactsAfter merged refusal done after entries fields valueFrom isDecimal isLine letter numbers isForm ofForms digitsIn decimal field textLine replied openNumber opens calls queries mergeText fastSubsetOf fastAmong rangeText versionText listText listingText headLetter headNumbers rowFields tableListing served onTable Option·elim result lineResult
 example = refl

@@ -1,12 +1,12 @@
 -- In a session on any input, a line U after an accepted O prints a listing in the new form, and a line L prints one in the old form
 -- (document 02, change 11). Assumes nothing.
 use Rattle.levels_spec.specs.Laws.Prelude.{ℕ, _≤_, _≡_, refl, sym, ap, _∙_, inl, inr, Bool, true, false, cond, not, _&&_, false≢true, List, [], _∷_, _++_, append-assoc, Option, none, some, decLt, arith, leb, ltb, eqb, length, drop, getD, List·getD-eq-default, eqb-true, leb-true, not-false, or-second, split, and-left, and-right, all-getD, check, Proper, firstRefusal-no, opened-proper, after-proper, line-numbers}
-use Rattle.lists.specs.Lists.{all, any}
+use Rattle.lists.specs.Lists.{all, any, elem}
 use Rattle.plain_table.specs.Staged.{Opening, openable, insert, removeKey, removeRow, inserts, openingIn}
 use Rattle.plain_table.specs.Refusing.{Lengths, storesShort, openRefusal}
 use Rattle.plain_table.specs.Plain.{Plain, opened}
 use Rattle.plain_table.specs.Calls.{Call, staging, merging, compacting, clearing, done, after}
-use Rattle.levels_text.specs.Lines.{fields, isDecimal, isLine, letter, numbers, isBare, isForm, ofForms, prependToFirst}
+use Rattle.levels_text.specs.Lines.{fields, isDecimal, isLine, letter, numbers, isForm, ofForms, prependToFirst}
 use Rattle.listing_spec.specs.Listings.{Listing, areNumbers, ParsesAs}
 use Rattle.levels_spec.specs.Response.{LineResult, printing, replied, openNumber, opens, calls, queries, listText, served, result, lineResult}
 use Rattle.levels_spec.specs.Laws.Letters.{onTable}
@@ -162,7 +162,7 @@ abbrev pub listLine : Bool → List ℕ
 listLine numbered = cond numbered 85 76 ∷ []
 
 line-lists : (numbered : Bool) (p : Plain) → lineResult programLengths (some p) (listLine numbered) ≡ printing (listText numbered p) (some p)
-unfolding lineResult ofForms isLine isForm isBare fields prependToFirst letter numbers all isDecimal result Option·elim served queries replied
+unfolding lineResult ofForms isLine isForm elem fields prependToFirst letter numbers all isDecimal result onTable Option·elim served queries replied
 line-lists true p = refl
 line-lists false p = refl
 

@@ -1,11 +1,11 @@
 -- `levels_text::is_bare` meets its contract. Assumes nothing.
 use Rattle.levels_text.proofs.Prelude.{sym, bare-last}
-use Rattle.levels_text.specs.Lines.{isBare}
+use Rattle.lists.specs.Lists.{elem}
 use Rattle.levels_text.proofs.is_bare.Statement.{statement}
 use Rattle.levels_text.proofs.is_bare.Tie as tie
 
 pub is-bare-spec : {M : Type 1} → statement M
-unfolding isBare
+unfolding elem
 is-bare-spec =
     tie.close
     (tie.spec

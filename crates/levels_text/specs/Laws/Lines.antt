@@ -1,8 +1,8 @@
 -- Laws of fields and decimals in the order in which a reader needs them: byte by byte up to a comma or the end, and field by field.
 -- Assumes nothing.
-use Rattle.levels_text.specs.Laws.Prelude.{ℕ, _+_, _-_, _≤_, _<_, _≡_, refl, ap, inl, inr, true, false, _&&_, and-false, List, [], _∷_, add-one, arith, leb, eqb, length, drop, getD, length-drop, drop-of-length-le, drop-cons, drop-drop, eq-eqb, ne-eqb, le-leb, lt-leb, eqb-true, eqb-false, leb-true, split}
-use Rattle.lists.specs.Lists.{all}
-use Rattle.levels_text.specs.Lines.{prependToFirst, fields, isDecimal, isLine, letter, numbers, isBare, isForm, ofForms}
+use Rattle.levels_text.specs.Laws.Prelude.{ℕ, _+_, _-_, _≤_, _<_, _≡_, refl, ap, inl, inr, true, false, _&&_, and-false, or-false, List, [], _∷_, add-one, arith, leb, eqb, length, drop, getD, length-drop, drop-of-length-le, drop-cons, drop-drop, eq-eqb, ne-eqb, le-leb, lt-leb, eqb-true, eqb-false, leb-true, split}
+use Rattle.lists.specs.Lists.{all, elem}
+use Rattle.levels_text.specs.Lines.{prependToFirst, fields, isDecimal, isLine, letter, numbers, isForm, ofForms}
 
 -- ---- the first field, and the others
 
@@ -135,9 +135,9 @@ unfolding ofForms
 line-forms line e = rw e
 
 -- of the letters without numbers, the last one left
-pub bare-last : (letter : ℕ) → (letter ≡ 77 → ⊥) → (letter ≡ 86 → ⊥) → (letter ≡ 76 → ⊥) → (letter ≡ 85 → ⊥) → (letter ≡ 67 → ⊥) → isBare letter ≡ eqb letter 71
-unfolding isBare
-bare-last letter m v l u c = rw (ne-eqb letter 77 m, ne-eqb letter 86 v, ne-eqb letter 76 l, ne-eqb letter 85 u, ne-eqb letter 67 c)
+pub bare-last : (letter : ℕ) → (letter ≡ 77 → ⊥) → (letter ≡ 86 → ⊥) → (letter ≡ 76 → ⊥) → (letter ≡ 85 → ⊥) → (letter ≡ 67 → ⊥) → elem letter (77 ∷ 86 ∷ 76 ∷ 85 ∷ 67 ∷ 71 ∷ []) ≡ eqb letter 71
+unfolding elem
+bare-last letter m v l u c = rw (ne-eqb letter 77 m, ne-eqb letter 86 v, ne-eqb letter 76 l, ne-eqb letter 85 u, ne-eqb letter 67 c, or-false (eqb letter 71))
 
 -- ---- how many numbers a line of a form has
 

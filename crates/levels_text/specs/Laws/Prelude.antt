@@ -1,6 +1,6 @@
 -- The names that the laws of this crate take from elsewhere, re-exported. It defines nothing of its own.
 pub use Prim.Native.Nat.{_%_, _*_, _+_, _-_, _/_, _<_, _^_, _≤_, suc, zero, ℕ}
-pub use mathlib.Core.Bool.{Bool, _&&_, _||_, and-false, false, false≢true, not, or-true, true}
+pub use mathlib.Core.Bool.{Bool, _&&_, _||_, and-false, false, false≢true, not, or-false, or-true, true}
 pub use mathlib.Core.List.{List, [], _++_, _∷_, append-nil, map, map-append}
 pub use mathlib.Core.Logic.{inl, inr}
 pub use mathlib.Core.Path.{_∙_, _≡_, ap, refl, sym}

@@ -3,12 +3,12 @@ use Prim.Native.Nat.{ℕ, _+_, _≤_, _<_}
 use mathlib.Core.Path.{_≡_, refl, sym, ap, _∙_}
 use mathlib.Core.Logic.{inl, inr}
 use mathlib.Core.Bool.{Bool, true, false, false≢true}
-use mathlib.Core.List.{List, []}
+use mathlib.Core.List.{List, [], _∷_}
 use native.Mathlib.Omega.{arith}
 use lib.Dec.{leb}
 use borrow.Author.Tests.{leb-true, leb-false}
 use lib.ListN.{length, take, drop, getD, length-append, length-take}
-use Rattle.lists.specs.Lists.{splice}
+use Rattle.lists.specs.Lists.{splice, elem}
 use Rattle.lists.specs.Laws.Filter.{split, and-right}
 use Rattle.levels_text.specs.declared.Parsed.{Parsed}
 use Rattle.levels_text.specs.declared.Parsed.the-variants.{Wrong, Line}
@@ -16,6 +16,10 @@ use Rattle.levels_text.specs.declared.Field.{Field}
 use Rattle.levels_text.specs.declared.Field.the-variants.{Wrong as NoField, Decimal}
 use Rattle.levels_text.specs.Laws.Lines.{no-forms, line-forms}
 use Rattle.levels_text.specs.Lines.{fields, valueFrom, isDecimal, isLine, isForm, letter, numbers, ofForms}
+
+-- M, V, L, U, C and G: the letters without numbers
+abbrev pub isBare : ℕ → Bool
+isBare letter = elem letter (77 ∷ 86 ∷ 76 ∷ 85 ∷ 67 ∷ 71 ∷ [])
 
 -- the field that begins at an offset
 unfoldable pub fieldAt : List ℕ → ℕ → List ℕ
