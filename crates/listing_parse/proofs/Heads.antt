@@ -1,18 +1,13 @@
 -- The ways through `head_at` and `scan_text`. Assumes nothing.
-use Rattle.listing_parse.proofs.Prelude.{ℕ, _-_, _≤_, _<_, _≡_, refl, sym, ap, _∙_, Bool, true, false, cond, not, _&&_, and-false, false≢true, inl, inr, split, List, [], _∷_, _++_, map, append-nil, append-assoc, arith, length-append, getD-at, lineOf, line-ended, shown-text, text-shown, length, take, drop, getD, List·getD-eq-default, eq-eqb, ne-eqb, le-leb, lt-leb, lt-ltb, leb, eqb, getD-take, length-take-le, take-suc, ℕ-discrete, bounds-columns, Survey, lineFrom, Found, LineAt, and-true}
+use Rattle.listing_parse.proofs.Prelude.{ℕ, _-_, _≤_, _<_, _≡_, refl, sym, ap, _∙_, Bool, true, false, cond, not, _&&_, false≢true, inl, inr, split, List, [], _∷_, _++_, map, append-nil, append-assoc, arith, length-append, getD-at, lineOf, line-ended, shown-text, text-shown, length, take, drop, getD, List·getD-eq-default, eq-eqb, ne-eqb, le-leb, lt-leb, lt-ltb, leb, eqb, getD-take, length-take-le, take-suc, ℕ-discrete, Survey, lineFrom, Found, LineAt}
 use Rattle.lists.specs.Lists.{flatten}
 use Rattle.levels_text.specs.Written.{textLine}
-use Rattle.listing_spec.specs.Listings.{listingText, headLetter, headWidth, keepsBounds, isHead}
-use Rattle.plain_table.specs.Staged.{openable}
+use Rattle.listing_spec.specs.Listings.{listingText, headLetter, headWidth, isHead}
+use Rattle.plain_table.specs.Laws.Proper.{openable-bounds}
 use Rattle.table.specs.inner.Bounds.{boundsKept}
 use Rattle.listing_spec.specs.inner.Checking.{pieces, begins, rowsGood, linesToRows, piecesGood, listingOf, textGood, listingIn}
 use Rattle.listing_parse.specs.inner.Lines.{endsLine}
 use Rattle.listing_parse.specs.inner.Surveys.{Counted, HeadFound, HeadAt, headOf, Surveyed}
-
--- the bounds of an opening are those of a head
-bounds-kept : (columns keys sort rule : ℕ) → boundsKept columns keys sort rule ≡ keepsBounds columns keys sort rule
-unfolding keepsBounds openable
-bounds-kept columns keys sort rule = and-true _ ∙ and-true _
 
 -- ---- the head line
 
@@ -25,10 +20,6 @@ last-number : (numbered : Bool) (stored : List ℕ) → headWidth numbered ≤ l
 unfolding headWidth
 last-number true stored wide = getD-take 6 stored 5 0 (omega arith)
 last-number false stored wide = List·getD-eq-default (take 5 stored) 0 (omega (arith, length-take-le 5 stored wide))
-
-count-few : (numbered : Bool) (n m : ℕ) → n ≡ cond numbered m 0 → cond numbered (leb n 65536) true ≡ leb n 65536
-count-few true n m e = refl
-count-few false n m e = sym (le-leb n 65536 (omega (arith, e)))
 
 pub head-no-line : (numbered : Bool) (text : List ℕ) {next : ℕ} {stored stored′ : List ℕ} → LineAt text 0 (headLetter numbered) (headWidth numbered) next stored → next ≡ 0 → HeadAt numbered text 0 stored′
 head-no-line numbered text l zero = record { wrong = λ z. unfold textGood in no-head (pieces text) (l .wrong zero); found = λ some. absurd (omega (arith, some)) }
@@ -52,29 +43,26 @@ module _ (numbered : Bool) (text : List ℕ) {next : ℕ} {stored : List ℕ} (f
   last = last-number numbered stored (f .wide) ∙ sym counted
 
   in-bounds : Bool
-  in-bounds = keepsBounds (getD stored 0 0) (getD stored 1 0) (getD stored 2 0) (getD stored 3 0)
+  in-bounds = boundsKept (getD stored 0 0) (getD stored 1 0) (getD stored 2 0) (getD stored 3 0)
 
-  head-tests : isHead numbered ns ≡ (in-bounds && leb count 65536)
+  head-tests : isHead numbered ns ≡ (leb count 65536 && in-bounds)
   unfolding isHead in-bounds
   head-tests =
-      rw (eq-eqb (length ns) (headWidth numbered) (length-take-le (headWidth numbered) stored (f .wide)), at-place 0 (omega arith), at-place 1 (omega arith), at-place 2 (omega arith), at-place 3 (omega arith), last, count-few numbered count (getD stored 5 0) counted)
+      rw (eq-eqb (length ns) (headWidth numbered) (length-take-le (headWidth numbered) stored (f .wide)), at-place 0 (omega arith), at-place 1 (omega arith), at-place 2 (omega arith), at-place 3 (omega arith), last)
 
-  text-tests : textGood numbered text ≡ (in-bounds && leb count 65536 && rowsGood numbered (getD stored 0 0) count 0 65536 (pieces (drop next text)))
+  text-tests : textGood numbered text ≡ (leb count 65536 && in-bounds && rowsGood numbered (getD stored 0 0) count 0 65536 (pieces (drop next text)))
   unfolding textGood piecesGood
   text-tests =
       let good : begins (headLetter numbered) (headWidth numbered) (lineFrom text ∷ pieces (drop next text)) ≡ true = rw cut at (f .good) in
       rw (cut, good, ← f .read, head-tests, at-place 0 (omega arith), last)
 
   pub head-large : {stored′ : List ℕ} → 65536 < count → HeadAt numbered text 0 stored′
-  head-large h = record { wrong = λ z. text-tests ∙ rw (lt-leb count 65536 h, and-false in-bounds); found = λ some. absurd (omega (arith, some)) }
+  head-large h = record { wrong = λ z. text-tests ∙ rw (lt-leb count 65536 h); found = λ some. absurd (omega (arith, some)) }
 
   module _ (few : count ≤ 65536) {b : Bool} (kept : b ≡ boundsKept (getD stored 0 0) (getD stored 1 0) (getD stored 2 0) (getD stored 3 0)) where
-    e : b ≡ keepsBounds (getD stored 0 0) (getD stored 1 0) (getD stored 2 0) (getD stored 3 0)
-    e = kept ∙ bounds-kept (getD stored 0 0) (getD stored 1 0) (getD stored 2 0) (getD stored 3 0)
-
     pub head-unbound : {stored′ : List ℕ} → b ≡ false → HeadAt numbered text 0 stored′
     unfolding in-bounds
-    head-unbound no-bounds = record { wrong = λ z. text-tests ∙ rw (← e, no-bounds); found = λ some. absurd (omega (arith, some)) }
+    head-unbound no-bounds = record { wrong = λ z. text-tests ∙ rw (le-leb count 65536 few, ← kept, no-bounds); found = λ some. absurd (omega (arith, some)) }
 
     pub head-found : b ≡ true → HeadAt numbered text next stored
     unfolding in-bounds
@@ -82,8 +70,8 @@ module _ (numbered : Bool) (text : List ℕ) {next : ℕ} {stored : List ℕ} (f
       wrong = λ z. absurd (omega (arith, z, f .forward));
       found = λ some. record {
         inside = f .inside;
-        narrow = bounds-columns (getD stored 0 0) (getD stored 1 0) (getD stored 2 0) (getD stored 3 0) (sym e ∙ all-kept);
-        good = text-tests ∙ rw (← e, all-kept, le-leb count 65536 few, counted);
+        narrow = let bounds = openable-bounds _ (sym kept ∙ all-kept) in (bounds .columns-some, bounds .columns-few);
+        good = text-tests ∙ rw (le-leb count 65536 few, ← kept, all-kept, counted);
         head = head-same;
         rows = rows-same;
       };

@@ -18,7 +18,7 @@ pub use Rattle.listing_spec.specs.Laws.Decimals.{decimal-parts}
 pub use Rattle.listing_spec.specs.Laws.Lines.{fields-length, line-decimals, line-ended, line-letter, lineOf}
 pub use Rattle.listing_parse.specs.declared.Survey.{Survey}
 pub use native.Mathlib.Numerals.{add-one}
-pub use Rattle.listing_spec.specs.Laws.Texts.{bounds-columns, good-last, good-more, no-row, rows-more, shown-text, text-shown}
+pub use Rattle.listing_spec.specs.Laws.Texts.{good-last, good-more, no-row, rows-more, shown-text, text-shown}
 pub use Rattle.lists.specs.Laws.Rising.{bool-ext}
 pub use mathlib.Core.Logic.{_⊎_, inl, inr, ⊎-elim}
 pub use Rattle.levels_text.specs.Lines.{isLine, numbers}

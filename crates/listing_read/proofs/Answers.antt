@@ -1,5 +1,6 @@
 -- The ways through `write_converted`, `lacks_room` and `convert_found`. Assumes nothing.
 use Rattle.listing_read.proofs.Prelude.{ℕ, _+_, _-_, _≤_, _<_, _≡_, refl, sym, ap, _∙_, Bool, true, false, not, _&&_, false≢true, List, [], _∷_, _++_, map, arith, length, drop, getD, length-append, inl, inr, none, some, ℕ-discrete, ltb, eqb, eq-eqb, ne-eqb, lt-ltb, le-ltb, ltb-true, ltb-false, flatten, split, bool-ext, reply-refused, textLine, Appended, appended-then, appended-put, Refused, Written, textGood, listingIn, shown-listing, shown-text, text-shown, text-wrong, lacks-none, lacks-no-row, fieldsLength, numbered-longer, plain-shorter, Survey}
+use mathlib.Core.Option.{Option·elim}
 use Rattle.refusals.specs.Refusals.{firstRefusal, refused, reply}
 use Rattle.listing_spec.specs.Listings.{Listing, headLetter, listingText, numberedFrom, toNumbered, fromNumbered, lacksRow, convertedText, convertRefusal, textView, ListingConverted}
 use Rattle.listing_parse.specs.inner.Surveys.{headOf, Listed}
@@ -21,7 +22,7 @@ rows-forth n (ns ∷ rows) = ap (λ (l : List (List ℕ)). (n ∷ ns) ∷ l) (ro
 module _ (text : List ℕ) (s : Survey) where
   pub converted-text : (numbered : Bool) → Listed numbered text s
       → convertedText numbered (some (listingIn text)) ≡ textLine (headLetter (not numbered)) (convertedHead numbered s) ++ flatten (map (textLine 68) (convertedFrom numbered 0 (rowsFrom text (s .start))))
-  unfolding convertedText listingText fromNumbered toNumbered headLetter convertedHead headOf rowsFrom
+  unfolding convertedText Option·elim listingText fromNumbered toNumbered headLetter convertedHead headOf rowsFrom
   converted-text true l = rw (l .head, l .rows-there, rows-back 0 _)
   converted-text false l = rw (l .head, ← l .counted, l .rows-there, rows-forth 0 _)
 
@@ -47,7 +48,7 @@ module _ (text : List ℕ) (s : Survey) where
       missing e = rw (ne-eqb (s .rows) (s .count) e)
 
   longer : (numbered : Bool) → Listed numbered text s → (numbered && lacksRow (listingIn text)) ≡ false → (numbered ≡ true → fieldsLength (s .rows) ≤ length text) × (length (convertedText numbered (some (listingIn text))) ≡ convertedLength numbered (s .rows) (length text))
-  unfolding convertedText convertedLength
+  unfolding convertedText Option·elim convertedLength
   longer true l full =
       let shown = text-shown true text (l .of-form) in
       let e = ap length (shown-text shown) ∙ plain-shorter (listingIn text) (shown-listing shown) full ∙ ap (λ (n : ℕ). length (listingText false (fromNumbered (listingIn text))) + fieldsLength n) (sym (l .counted)) in
@@ -67,7 +68,7 @@ unfolding textView
 view-refused n = refl
 
 pub converted-wrong : (numbered : Bool) (text output : List ℕ) → textGood numbered text ≡ false → ListingConverted numbered text output (Refused 11) output
-unfolding textView convertRefusal reply
+unfolding textView convertRefusal Option·elim reply
 converted-wrong numbered text output e = record {
   listing = none;
   shown = text-wrong numbered text e;
@@ -81,15 +82,15 @@ converted-wrong numbered text output e = record {
 
 module _ (numbered : Bool) (l : Listing) (output : ℕ) where
   gives-17 : (numbered && lacksRow l) ≡ true → convertRefusal numbered (some l) output ≡ 17
-  unfolding convertRefusal firstRefusal
+  unfolding convertRefusal Option·elim firstRefusal
   gives-17 e = rw e
 
   gives-2 : (numbered && lacksRow l) ≡ false → output < length (convertedText numbered (some l)) → convertRefusal numbered (some l) output ≡ 2
-  unfolding convertRefusal firstRefusal
+  unfolding convertRefusal Option·elim firstRefusal
   gives-2 e h = rw (e, lt-ltb output (length (convertedText numbered (some l))) h)
 
   gives-0 : (numbered && lacksRow l) ≡ false → length (convertedText numbered (some l)) ≤ output → convertRefusal numbered (some l) output ≡ 0
-  unfolding convertRefusal firstRefusal
+  unfolding convertRefusal Option·elim firstRefusal
   gives-0 e h = rw (e, le-ltb output (length (convertedText numbered (some l))) h)
 
 module _ (numbered : Bool) (text : List ℕ) (s : Survey) (l : Listed numbered text s) (output : List ℕ) where

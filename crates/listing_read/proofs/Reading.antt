@@ -1,5 +1,6 @@
 -- The ways out of `read_found` and `read`. Assumes nothing.
 use Rattle.listing_read.proofs.Prelude.{ℕ, _+_, _*_, _≤_, _<_, _≡_, refl, sym, ap, _∙_, Bool, true, false, not, List, none, some, mul-le-mul, arith, eqb, length, getD, lt-ltb, le-ltb, splice, flatten, all-weaker, and-left, widths, length-flatten, pieces, linesToRows, textGood, listingIn, rows-shown, text-shown, text-wrong, Survey, ReadResult}
+use mathlib.Core.Option.{Option·elim}
 use Rattle.refusals.specs.Refusals.{firstRefusal, reply}
 use Rattle.listing_spec.specs.Listings.{Listing, prefixWidth, isRow, listingCells, readRefusal, readWords, listingView, numberedView, ListingRead}
 use Rattle.listing_spec.specs.declared.ListingAnswer.the-variants.{Refused as ListingRefused, Listing as ListingFound}
@@ -11,11 +12,11 @@ use Rattle.listing_read.specs.inner.ReadResults.{readView}
 
 module _ (l : Listing) (output : ℕ) where
   too-short : output < length (flatten (l .rows)) → readRefusal (some l) output ≡ 2
-  unfolding readRefusal firstRefusal
+  unfolding readRefusal Option·elim firstRefusal
   too-short less = rw (lt-ltb output (length (flatten (l .rows))) less)
 
   long-enough : length (flatten (l .rows)) ≤ output → readRefusal (some l) output ≡ 0
-  unfolding readRefusal firstRefusal
+  unfolding readRefusal Option·elim firstRefusal
   long-enough fits = rw (le-ltb output (length (flatten (l .rows))) fits)
 
 module _ (numbered : Bool) (text : List ℕ) (s : Survey) (l : Listed numbered text s) where
@@ -69,9 +70,9 @@ module _ (numbered : Bool) (text : List ℕ) (s : Survey) (l : Listed numbered t
       shown = text-shown numbered text (l .of-form);
       effect =
           record {
-            answers = rw accepts (unfold reply readWords in rw (l .head, l .counted));
+            answers = rw accepts (unfold reply readWords Option·elim in rw (l .head, l .counted));
             unchanged = λ more. absurd (omega (arith, more, accepts));
-            written = λ zero. put ∙ ap (λ (rs : List (List ℕ)). splice output 0 (flatten rs)) rows-there ∙ unfold listingCells in refl;
+            written = λ zero. put ∙ ap (λ (rs : List (List ℕ)). splice output 0 (flatten rs)) rows-there ∙ unfold listingCells Option·elim in refl;
           };
     }
       where
@@ -79,7 +80,7 @@ module _ (numbered : Bool) (text : List ℕ) (s : Survey) (l : Listed numbered t
         accepts = long-enough (listingIn text) (length output) (omega (arith, cells-count e, same-cells))
 
 pub read-wrong : (numbered : Bool) (text output : List ℕ) → textGood numbered text ≡ false → ListingRead numbered text output (readView numbered (Refused 11)) output
-unfolding readView readRefusal reply
+unfolding readView readRefusal Option·elim reply
 read-wrong numbered text output e = record {
   listing = none;
   shown = text-wrong numbered text e;

@@ -1,6 +1,7 @@
 -- Listings as text (document 01, "The program `levels`"; document 02, change 11): the form that L prints, and the new form, which
--- has row numbers. A definition that takes a Bool takes true for the new form; for a conversion it is the form of the given text. L
--- and U print such texts (`levels_spec` laws `plain-text-parses`, `numbered-text-parses`). Bytes are numbers, in ASCII. Assumes nothing.
+-- has row numbers. A definition that takes a Bool takes true for the new form; for a conversion, true if the given text is of the
+-- new form. L and U print such texts (`levels_spec` laws `plain-text-parses`, `numbered-text-parses`). Bytes are numbers, in ASCII.
+-- Assumes nothing.
 --
 -- In the old form and in the new, of the same table:
 --
@@ -13,11 +14,12 @@ use Prim.Native.Nat.{ℕ, suc, _+_}
 use mathlib.Core.Path.{_≡_}
 use mathlib.Core.Bool.{Bool, true, false, cond, not, _&&_}
 use mathlib.Core.List.{List, [], _∷_, _++_, map}
-use mathlib.Core.Option.{Option, none, some}
+use mathlib.Core.Option.{Option, none, some, Option·elim}
 use lib.ListN.{length, take, drop, getD}
 use lib.Dec.{leb, ltb, eqb}
 use Rattle.lists.specs.Lists.{splice, all, flatten, iota, rising, elem}
 use Rattle.refusals.specs.Refusals.{check, firstRefusal, Reply, refused, accepted, Effect}
+use Rattle.plain_table.specs.Staged.{openable}
 use Rattle.levels_text.specs.Written.{textLine}
 use Rattle.listing_spec.specs.declared.ListingAnswer.{ListingAnswer}
 use Rattle.listing_spec.specs.declared.ListingAnswer.the-variants.{Refused as ReadRefused, Listing as Read}
@@ -51,17 +53,12 @@ listingText numbered l = textLine (headLetter numbered) (l .head) ++ flatten (ma
 unfoldable pub areNumbers : List ℕ → Bool
 areNumbers ns = all (λ n. leb n 4294967295) ns
 
--- "the head's numbers keep test 1's bounds": 1 to 8 columns, 1 to that many keys, a sort column, rules 0 to 3
-unfoldable pub keepsBounds : ℕ → ℕ → ℕ → ℕ → Bool
-keepsBounds columns keys sort rule =
-    leb 1 columns && leb columns 8 && leb 1 keys && leb keys columns && ltb sort columns && leb rule 3
-
--- ".. row count at most 65,536"
+-- "the head's numbers keep test 1's bounds", which are those of an opening (of capacity 1, since a head has none); ".. row count at
+-- most 65,536" (it is 0 if the head has none)
 unfoldable pub isHead : Bool → List ℕ → Bool
 isHead numbered ns =
-    eqb (length ns) (headWidth numbered)
-    && keepsBounds (getD ns 0 0) (getD ns 1 0) (getD ns 2 0) (getD ns 3 0)
-    && cond numbered (leb (getD ns 5 0) 65536) true
+    eqb (length ns) (headWidth numbered) && leb (getD ns 5 0) 65536
+    && openable (record { columns = getD ns 0 0; keys = getD ns 1 0; sort = getD ns 2 0; rule = getD ns 3 0; capacity = 1 })
 
 -- "each D line has one cell for each column, its first cell is not 4294967295"
 unfoldable pub isRow : Bool → ℕ → List ℕ → Bool
@@ -79,8 +76,7 @@ areNumbered count rows = rising (rowNumbers rows) && all (λ n. ltb n count) (ro
 -- a listing of a form: "rows .. at most 65,536"
 unfoldable pub isListing : Bool → Listing → Bool
 isListing numbered l =
-    areNumbers (l .head)
-    && all areNumbers (l .rows)
+    all areNumbers (l .head ∷ l .rows)
     && isHead numbered (l .head)
     && leb (length (l .rows)) 65536
     && all (isRow numbered (getD (l .head) 0 0)) (l .rows)
@@ -95,18 +91,15 @@ pub data ParsesAs (numbered : Bool) (text : List ℕ) : Option Listing → Type 
 
 -- "write each row's cells in turn, in the new form after its number"
 unfoldable pub listingCells : Option Listing → List ℕ
-listingCells none = []
-listingCells (some l) = flatten (l .rows)
+listingCells listing = Option·elim listing [] (λ l. flatten (l .rows))
 
 -- "11, a text not of the form named, .. then 2, an output shorter than what is to be written"
 unfoldable pub readRefusal : Option Listing → ℕ → ℕ
-readRefusal none output = 11
-readRefusal (some l) output = firstRefusal (check (ltb output (length (flatten (l .rows)))) 2 ∷ [])
+readRefusal listing output = Option·elim listing 11 (λ l. firstRefusal (check (ltb output (length (flatten (l .rows)))) 2 ∷ []))
 
 -- "give the head's numbers"; the number of listed rows is added, so that the caller finds the end of the cells
 unfoldable pub readWords : Option Listing → List ℕ
-readWords none = []
-readWords (some l) = l .head ++ (length (l .rows) ∷ [])
+readWords listing = Option·elim listing [] (λ l. l .head ++ (length (l .rows) ∷ []))
 
 -- the reply that an answer represents
 unfoldable pub listingView : ListingAnswer → Reply (List ℕ)
@@ -144,15 +137,13 @@ lacksRow l = not (all (λ n. elem n (rowNumbers (l .rows))) (iota 0 (getD (l .he
 
 -- the text of a listing in the other form
 unfoldable pub convertedText : Bool → Option Listing → List ℕ
-convertedText numbered none = []
-convertedText numbered (some l) = cond numbered (listingText false (fromNumbered l)) (listingText true (toNumbered l))
+convertedText numbered listing = Option·elim listing [] (λ l. cond numbered (listingText false (fromNumbered l)) (listingText true (toNumbered l)))
 
 -- "After 11, a text not of the form named, comes 17, given on the way to the old form exactly when some number below the count has
 -- no row, then 2, an output shorter than what is to be written"
 unfoldable pub convertRefusal : Bool → Option Listing → ℕ → ℕ
-convertRefusal numbered none output = 11
-convertRefusal numbered (some l) output =
-    firstRefusal (check (numbered && lacksRow l) 17 ∷ check (ltb output (length (convertedText numbered (some l)))) 2 ∷ [])
+convertRefusal numbered listing output =
+    Option·elim listing 11 (λ l. firstRefusal (check (numbered && lacksRow l) 17 ∷ check (ltb output (length (convertedText numbered listing))) 2 ∷ []))
 
 -- the reply that an answer represents: how many bytes were written, so that the caller finds the end of the text
 unfoldable pub textView : TextAnswer → Reply ℕ

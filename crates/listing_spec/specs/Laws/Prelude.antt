@@ -9,7 +9,7 @@ pub use native.Mathlib.Decide.{decLt}
 pub use native.Mathlib.Nat.{pow-succ', zero-add}
 pub use native.Mathlib.Omega.{arith}
 pub use lib.Dec.{eqb, leb, ltb}
-pub use lib.ListN.{List·getD-append, drop, getD, length, length-append, length-map, take}
+pub use lib.ListN.{List·getD-append, List·getD-eq-default, drop, getD, length, length-append, length-map, take}
 pub use lib.Seq.{getD-at, getD-take, length-take-le, take-all, take-at, take-suc}
 pub use borrow.Author.Tests.{eq-eqb, eqb-false, eqb-true, le-leb, le-ltb, leb-true, lt-ltb, ltb-true, ne-eqb}
 pub use Rattle.levels_text.specs.Laws.Decimals.{fields-more, length-fields, length-line}

@@ -1,5 +1,6 @@
 -- A listing converted to the other form is of that form, and converting it back restores the text. Assumes nothing.
-use Rattle.listing_spec.specs.Laws.Prelude.{ℕ, zero, suc, _+_, _-_, _≤_, _<_, _≡_, refl, sym, ap, ap₂, _∙_, inl, inr, Bool, true, false, _&&_, false≢true, List, [], _∷_, _++_, map, Option, none, some, decLt, arith, leb, ltb, length, take, drop, getD, length-append, List·getD-append, getD-take, length-take-le, getD-at, eq-eqb, le-leb, lt-ltb, le-ltb, all-head, all-tail, all-cons, all-snoc, split, all-getD, all-of, take-put, TextAnswer, Written}
+use Rattle.listing_spec.specs.Laws.Prelude.{ℕ, zero, suc, _+_, _-_, _≤_, _<_, _≡_, refl, sym, ap, ap₂, _∙_, inl, inr, Bool, true, false, _&&_, false≢true, List, [], _∷_, _++_, map, Option, none, some, decLt, arith, leb, ltb, length, take, drop, getD, length-append, List·getD-append, List·getD-eq-default, getD-take, length-take-le, getD-at, eq-eqb, le-leb, lt-ltb, le-ltb, all-head, all-tail, all-cons, all-snoc, split, all-getD, all-of, take-put, TextAnswer, Written}
+use mathlib.Core.Option.{Option·elim}
 use Rattle.lists.specs.Lists.{all, splice}
 use Rattle.refusals.specs.Refusals.{check, firstRefusal, accepted, reply, Effect}
 use Rattle.listing_spec.specs.Listings.{Listing, headWidth, prefixWidth, listingText, areNumbers, isHead, isRow, isListing, ParsesAs, parses, numberedFrom, toNumbered, fromNumbered, lacksRow, convertedText, convertRefusal, textView, ListingConverted, RestoresText}
@@ -101,7 +102,7 @@ module _ (l : Listing) (e : isListing true l ≡ true) where
 
   head-plain : isHead false (take 5 (l .head)) ≡ true
   unfolding isHead headWidth
-  head-plain = rw (eq-eqb (length (take 5 (l .head))) 5 long, kept 0 (omega arith), kept 1 (omega arith), kept 2 (omega arith), kept 3 (omega arith), head-bounds true (l .head) (numbered-parts .head-good))
+  head-plain = rw (eq-eqb (length (take 5 (l .head))) 5 long, kept 0 (omega arith), kept 1 (omega arith), kept 2 (omega arith), kept 3 (omega arith), List·getD-eq-default (take 5 (l .head)) 0 {n = 5} (omega (arith, long)), head-bounds true (l .head) (numbered-parts .head-good))
 
   head-fits-plain : areNumbers (take 5 (l .head)) ≡ true
   unfolding areNumbers
@@ -146,7 +147,7 @@ module _ {numbered : Bool} {text output output′ : List ℕ} {bytes : ℕ} (x :
   converted-taken = rw (converted-bytes, x .effect .written accepted-conversion) (take-put output (convertedText numbered (x .listing)))
 
 none-missing : (l : Listing) (room : ℕ) → convertRefusal true (some l) room ≡ 0 → lacksRow l ≡ false
-unfolding convertRefusal firstRefusal
+unfolding convertRefusal Option·elim firstRefusal
 none-missing l room given =
     elim (split (lacksRow l)) [
       | inl t ↦ absurd (let z : _≡_ {A = ℕ} 17 0 = rw t at given in omega (arith, z))
@@ -163,12 +164,12 @@ record Back (numbered : Bool) (text : List ℕ) (m : Option Listing) : Type 0 wh
   pub number : (room : ℕ) → convertRefusal numbered m room ≡ short text room
 
 back-of : (numbered : Bool) (text : List ℕ) (l : Listing) → (numbered && lacksRow l) ≡ false → convertedText numbered (some l) ≡ text → Back numbered text (some l)
-back-of numbered text l full e = record { same = e; number = λ room. unfold convertRefusal in rw e (unfold firstRefusal in rw full) }
+back-of numbered text l full e = record { same = e; number = λ room. unfold convertRefusal Option·elim in rw e (unfold firstRefusal in rw full) }
 
 come-back : (text : List ℕ) (k : Option Listing) (room : ℕ) → ParsesAs false text k → convertRefusal false k room ≡ 0 → (moved : List ℕ) → moved ≡ convertedText false k → (m : Option Listing) → ParsesAs true moved m
     → Back true text m
-unfolding convertedText
-come-back text none room s given moved e m sm = absurd (unfold convertRefusal in omega (arith, given))
+unfolding convertedText Option·elim
+come-back text none room s given moved e m sm = absurd (unfold convertRefusal Option·elim in omega (arith, given))
 come-back text (some l) room s given moved e m sm =
     let good = shown-listing s in
     let there : ParsesAs true moved (some (toNumbered l)) = parses (toNumbered l) (to-listing l good) e in
@@ -177,8 +178,8 @@ come-back text (some l) room s given moved e m sm =
 
 come-again : (text : List ℕ) (k : Option Listing) (room : ℕ) → ParsesAs true text k → convertRefusal true k room ≡ 0 → (moved : List ℕ) → moved ≡ convertedText true k → (m : Option Listing) → ParsesAs false moved m
     → Back false text m
-unfolding convertedText
-come-again text none room s given moved e m sm = absurd (unfold convertRefusal in omega (arith, given))
+unfolding convertedText Option·elim
+come-again text none room s given moved e m sm = absurd (unfold convertRefusal Option·elim in omega (arith, given))
 come-again text (some l) room s given moved e m sm =
     let good = shown-listing s in
     let there : ParsesAs false moved (some (fromNumbered l)) = parses (fromNumbered l) (from-listing l good) e in

@@ -1,8 +1,10 @@
 -- Which texts are of a form, checked line by line; a text determines its listing. Assumes nothing.
 use Rattle.listing_spec.specs.Laws.Prelude.{ℕ, suc, _+_, _-_, _≤_, _<_, _≡_, refl, sym, ap, subst, _∙_, inl, inr, Bool, true, false, cond, not, _&&_, and-false, false≢true, List, [], _∷_, _++_, map, append-assoc, Option, none, some, arith, leb, ltb, eqb, length, getD, eqb-true, eq-eqb, ne-eqb, leb-true, le-leb, ltb-true, lt-ltb, all-head, all-tail, all-cons, split, and-left, and-right, isLine, letter, numbers}
 use Rattle.lists.specs.Lists.{all, flatten, above, rising}
+use Rattle.plain_table.specs.Staged.{Opening, openable}
+use Rattle.plain_table.specs.Laws.Proper.{openable-bounds}
 use Rattle.levels_text.specs.Written.{textLine}
-use Rattle.listing_spec.specs.Listings.{Listing, headLetter, headWidth, prefixWidth, listingText, areNumbers, keepsBounds, isHead, isRow, rowNumbers, areNumbered, isListing, ParsesAs, parses, parses-none}
+use Rattle.listing_spec.specs.Listings.{Listing, headLetter, headWidth, prefixWidth, listingText, areNumbers, isHead, isRow, rowNumbers, areNumbered, isListing, ParsesAs, parses, parses-none}
 use Rattle.listing_spec.specs.inner.Checking.{pieces, isNil, begins, rowFits, rowsGood, linesToRows, piecesGood, listingOf, textGood, listingIn}
 use Rattle.listing_spec.specs.Laws.Pieces.{joined, joined-pieces, pieces-some, pieces-line}
 use Rattle.listing_spec.specs.Laws.Lines.{line-written, line-numbers, lineOf, line-ended, read-numbers, read-letter, read-line, read-ended}
@@ -247,31 +249,21 @@ unfolding headWidth
 width-few true = omega arith
 width-few false = omega arith
 
-pub bounds-columns : (columns keys sort rule : ℕ) → keepsBounds columns keys sort rule ≡ true → (1 ≤ columns) × (columns ≤ 8)
-unfolding keepsBounds
-bounds-columns columns keys sort rule e =
-    let a = leb 1 columns in
-    let b = leb columns 8 in
-    let c = leb 1 keys in
-    let d = leb keys columns in
-    let s = ltb sort columns in
-    let r = leb rule 3 in
-    let both = and-left (a && b) c (and-left (a && b && c) d (and-left (a && b && c && d) s (and-left (a && b && c && d && s) r e))) in
-    (leb-true 1 columns (and-left a b both), leb-true columns 8 (and-right a b both))
+-- the numbers of a head as those of an opening
+abbrev pub headOpening : List ℕ → Opening
+headOpening ns = record { columns = getD ns 0 0; keys = getD ns 1 0; sort = getD ns 2 0; rule = getD ns 3 0; capacity = 1 }
 
 module _ (numbered : Bool) (ns : List ℕ) (e : isHead numbered ns ≡ true) where
-  head-first : (eqb (length ns) (headWidth numbered) && keepsBounds (getD ns 0 0) (getD ns 1 0) (getD ns 2 0) (getD ns 3 0)) ≡ true
-  unfolding isHead
-  head-first = and-left (eqb (length ns) (headWidth numbered) && keepsBounds (getD ns 0 0) (getD ns 1 0) (getD ns 2 0) (getD ns 3 0)) (cond numbered (leb (getD ns 5 0) 65536) true) e
-
   pub head-wide : length ns ≡ headWidth numbered
-  head-wide = eqb-true (length ns) (headWidth numbered) (and-left (eqb (length ns) (headWidth numbered)) (keepsBounds (getD ns 0 0) (getD ns 1 0) (getD ns 2 0) (getD ns 3 0)) head-first)
+  unfolding isHead
+  head-wide = eqb-true _ _ (and-left _ _ (and-left _ _ e))
 
-  pub head-bounds : keepsBounds (getD ns 0 0) (getD ns 1 0) (getD ns 2 0) (getD ns 3 0) ≡ true
-  head-bounds = and-right (eqb (length ns) (headWidth numbered)) (keepsBounds (getD ns 0 0) (getD ns 1 0) (getD ns 2 0) (getD ns 3 0)) head-first
+  pub head-bounds : openable (headOpening ns) ≡ true
+  unfolding isHead
+  head-bounds = and-right (eqb (length ns) (headWidth numbered) && leb (getD ns 5 0) 65536) _ e
 
   pub head-narrow : getD ns 0 0 ≤ 8
-  head-narrow = bounds-columns (getD ns 0 0) (getD ns 1 0) (getD ns 2 0) (getD ns 3 0) head-bounds .1
+  head-narrow = openable-bounds (headOpening ns) head-bounds .columns-few
 
 -- a listing within the bounds, part by part
 pub record Bounded (numbered : Bool) (l : Listing) : Type 0 where
@@ -299,30 +291,29 @@ module _ (numbered : Bool) (l : Listing) where
   pub listing-of : Bounded numbered l → isListing numbered l ≡ true
   unfolding isListing
   listing-of b =
-      rw (b .head-fits, b .rows-fit .fit, b .head-good, le-leb (length (l .rows)) 65536 (b .rows-fit .few), b .rows-fit .wide)
+      rw (all-cons areNumbers (l .head) (l .rows) (b .head-fits) (b .rows-fit .fit), b .head-good, le-leb (length (l .rows)) 65536 (b .rows-fit .few), b .rows-fit .wide)
       (ordered-of (getD (l .head) 5 0) (l .rows) numbered (b .rows-fit .ordered))
 
   pub listing-parts : isListing numbered l ≡ true → Bounded numbered l
   unfolding isListing
   listing-parts e =
-      let a = areNumbers (l .head) in
-      let b = all areNumbers (l .rows) in
+      let a = all areNumbers (l .head ∷ l .rows) in
       let c = isHead numbered (l .head) in
       let d = leb (length (l .rows)) 65536 in
       let f = all (isRow numbered (getD (l .head) 0 0)) (l .rows) in
       let g = cond numbered (areNumbered (getD (l .head) 5 0) (l .rows)) true in
-      let e₅ = and-left (a && b && c && d && f) g e in
-      let e₄ = and-left (a && b && c && d) f e₅ in
-      let e₃ = and-left (a && b && c) d e₄ in
-      let e₂ = and-left (a && b) c e₃ in
+      let e₄ = and-left (a && c && d && f) g e in
+      let e₃ = and-left (a && c && d) f e₄ in
+      let e₂ = and-left (a && c) d e₃ in
+      let e₁ = and-left a c e₂ in
       record {
-        head-fits = and-left a b e₂;
-        head-good = and-right (a && b) c e₃;
+        head-fits = all-head areNumbers (l .head) (l .rows) e₁;
+        head-good = and-right a c e₂;
         rows-fit = record {
-          few = leb-true (length (l .rows)) 65536 (and-right (a && b && c) d e₄);
-          fit = and-right a b e₂;
-          wide = and-right (a && b && c && d) f e₅;
-          ordered = ordered-parts (getD (l .head) 5 0) (l .rows) numbered (and-right (a && b && c && d && f) g e);
+          few = leb-true (length (l .rows)) 65536 (and-right (a && c) d e₃);
+          fit = all-tail areNumbers (l .head) (l .rows) e₁;
+          wide = and-right (a && c && d) f e₄;
+          ordered = ordered-parts (getD (l .head) 5 0) (l .rows) numbered (and-right (a && c && d && f) g e);
         };
       }
 

@@ -3,8 +3,9 @@
 use Rattle.listing_write.specs.Laws.Prelude.{ℕ, suc, _+_, _-_, _≤_, _<_, _≡_, refl, inl, inr, Bool, true, false, cond, not, _||_, false≢true, List, [], _∷_, map, some, arith, leb, eqb, length, getD, eqb-true, le-leb, lt-ltb, all-head, all-tail, all-cons, or-second, split, Opening, Bounds, RowsFit, fit-none, fit-more, row-of, listing-of}
 use Rattle.lists.specs.Lists.{all}
 use Rattle.cells.specs.Cells.{isDead}
+use Rattle.plain_table.specs.Staged.{openable}
 use Rattle.plain_table.specs.Plain.{Row, liveFrom}
-use Rattle.listing_spec.specs.Listings.{headWidth, prefixWidth, listingText, areNumbers, keepsBounds, isHead, ParsesAs, parses}
+use Rattle.listing_spec.specs.Listings.{headWidth, prefixWidth, listingText, areNumbers, isHead, ParsesAs, parses}
 use Rattle.listing_write.specs.Writing.{headNumbers, rowFields, tableListing}
 
 -- every cell of a row is a u32, if the row is live
@@ -73,8 +74,8 @@ module _ (o : Opening) (generation : ℕ) (rows : List Row) (b : Bounds o) (fits
   most : length rows ≤ 65536
   most = omega (arith, few, b .capacity-few)
 
-  within : keepsBounds (o .columns) (o .keys) (o .sort) (o .rule) ≡ true
-  unfolding keepsBounds
+  within : openable (record { columns = o .columns; keys = o .keys; sort = o .sort; rule = o .rule; capacity = 1 }) ≡ true
+  unfolding openable
   within =
       rw (le-leb 1 (o .columns) (b .columns-some), le-leb (o .columns) 8 (b .columns-few), le-leb 1 (o .keys) (b .keys-some), le-leb (o .keys) (o .columns) (b .keys-few), lt-ltb (o .sort) (o .columns) (b .sort-column), le-leb (o .rule) 3 (b .rule-known))
 

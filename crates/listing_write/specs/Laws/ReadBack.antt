@@ -1,5 +1,6 @@
 -- A listing that is written is read back. Assumes nothing.
 use Rattle.listing_write.specs.Laws.Prelude.{ℕ, _≤_, _<_, _≡_, ap, _∙_, Bool, true, List, [], _∷_, _++_, Option, some, arith, ltb, length, take, lt-ltb, le-ltb, splice, flatten, Header, Written, parses-determined, ListingWritten}
+use mathlib.Core.Option.{Option·elim}
 use Rattle.refusals.specs.Refusals.{check, firstRefusal, Reply, reply}
 use Rattle.listing_spec.specs.Listings.{Listing, areNumbers, ParsesAs, listingCells, readRefusal, readWords, ListingRead}
 use Rattle.listing_write.specs.Laws.Answers.{inside, stored, written-taken}
@@ -14,16 +15,16 @@ pub record ReadBack (l : Listing) (output : List ℕ) (view : Reply (List ℕ)) 
 
 module _ (l : Listing) (room : ℕ) where
   short-none : length (flatten (l .rows)) ≤ room → readRefusal (some l) room ≡ 0
-  unfolding readRefusal firstRefusal
+  unfolding readRefusal Option·elim firstRefusal
   short-none long = rw (le-ltb room (length (flatten (l .rows))) long)
 
   short-some : room < length (flatten (l .rows)) → 0 < readRefusal (some l) room
-  unfolding readRefusal firstRefusal
+  unfolding readRefusal Option·elim firstRefusal
   short-some less = rw (lt-ltb room (length (flatten (l .rows))) less) (omega arith)
 
 -- the listing of a text is read from it
 shown-read : {numbered : Bool} {text output output′ : List ℕ} {view : Reply (List ℕ)} {l : Listing} → ParsesAs numbered text (some l) → ListingRead numbered text output view output′ → ReadBack l output view output′
-unfolding readRefusal readWords listingCells
+unfolding readRefusal readWords listingCells Option·elim
 shown-read {numbered} {output = output} {l = l} s x =
     let e : x .listing ≡ some l = parses-determined numbered (x .shown) s in
     let n : readRefusal (x .listing) (length output) ≡ readRefusal (some l) (length output) = ap (λ (k : Option Listing). readRefusal k (length output)) e in
