@@ -17,8 +17,8 @@ use Rattle.levels_text.specs.Laws.Decimals.{fields-more, length-fields, length-
 use Rattle.levels_text.specs.inner.Appending.{Appended, appended-none, appended-then, appended-put}
 use Rattle.listing_spec.specs.declared.TextAnswer.the-variants.{Refused, Written}
 use Rattle.listing_spec.specs.Listings.{headLetter, textView}
-use Rattle.listing_write.specs.Writing.{headNumbers, storedText, writeRefusal, ListingWritten}
-use Rattle.listing_write.specs.inner.Lines.{headLine, rowLine, rowLines, Stored}
+use Rattle.listing_write.specs.Writing.{storedText, writeRefusal, ListingWritten}
+use Rattle.listing_write.specs.inner.Lines.{headNumbers, headLine, rowLine, rowLines, Stored}
 use Rattle.listing_write.specs.Laws.Lines.{stored-lines}
 use Rattle.listing_write.specs.Laws.Lengths.{row-numbered, row-live, row-dead, length-rows, length-head, length-stored}
 

@@ -2,34 +2,27 @@
 -- program `levels` prints for the lines L and U. A definition that takes a Bool takes true for the new form. Bytes are numbers, in
 -- ASCII. Assumes nothing.
 use Prim.Native.Nat.{ℕ}
-use mathlib.Core.Bool.{Bool, true, false, cond}
+use mathlib.Core.Bool.{Bool, cond}
 use mathlib.Core.List.{List, [], _∷_, map}
 use lib.ListN.{length}
 use lib.Dec.{ltb}
 use Rattle.lists.specs.Lists.{splice}
 use Rattle.refusals.specs.Refusals.{check, firstRefusal, Effect}
 use Rattle.plain_table.specs.Staged.{Opening}
-use Rattle.plain_table.specs.Plain.{Row, Numbered, liveFrom}
+use Rattle.plain_table.specs.Plain.{Row, liveFrom}
 use Rattle.table.specs.declared.Header.{Header}
 use Rattle.table.specs.Numbers.{openingOf}
 use Rattle.table.specs.Refusing.{outside, rowsShort}
 use Rattle.table.specs.Stores.{rowsIn}
 use Rattle.listing_spec.specs.declared.TextAnswer.{TextAnswer}
-use Rattle.listing_spec.specs.Listings.{Listing, listingText, textView}
+use Rattle.listing_spec.specs.Listings.{Listing, listingText, fromNumbered, textView}
 
--- the numbers of the head line: "(columns, keys, sort, rule, generation)", in the new form "with the row count added as a last field"
-unfoldable pub headNumbers : Bool → Opening → ℕ → ℕ → List ℕ
-headNumbers true o generation count = o .columns ∷ o .keys ∷ o .sort ∷ o .rule ∷ generation ∷ count ∷ []
-headNumbers false o generation count = o .columns ∷ o .keys ∷ o .sort ∷ o .rule ∷ generation ∷ []
-
--- the numbers of a D line: its cells; in the new form it "has the row number as its first field"
-unfoldable pub rowFields : Bool → Numbered → List ℕ
-rowFields numbered row = cond numbered (row .number ∷ row .cells) (row .cells)
-
--- the listing of a table with these numbers and rows: "(each live row, rising)"
+-- the listing of a table with these numbers and rows: "(columns, keys, sort, rule, generation)", "(each live row, rising)"; in the
+-- new form the head has the row count as its last field and each D line the row number as its first; the old form leaves these out
 unfoldable pub tableListing : Bool → Opening → ℕ → List Row → Listing
 tableListing numbered o generation rows =
-    record { head = headNumbers numbered o generation (length rows); rows = map (rowFields numbered) (liveFrom 0 rows) }
+    let l : Listing = record { head = o .columns ∷ o .keys ∷ o .sort ∷ o .rule ∷ generation ∷ length rows ∷ []; rows = map (λ row. row .number ∷ row .cells) (liveFrom 0 rows) } in
+    cond numbered l (fromNumbered l)
 
 -- the text of the listing of a header and a row store
 unfoldable pub storedText : Bool → Header → List ℕ → List ℕ

@@ -14,8 +14,8 @@ use Rattle.table.specs.Stores.{entries}
 use Rattle.table.specs.Contracts.{fastAmong}
 use Rattle.levels_text.specs.Lines.{fields, valueFrom, isDecimal, isLine, letter, numbers, isForm, ofForms, prependToFirst}
 use Rattle.levels_text.specs.Written.{digitsIn, decimal, field, textLine}
-use Rattle.listing_spec.specs.Listings.{headLetter, listingText}
-use Rattle.listing_write.specs.Writing.{headNumbers, rowFields, tableListing}
+use Rattle.listing_spec.specs.Listings.{headLetter, listingText, fromNumbered}
+use Rattle.listing_write.specs.Writing.{tableListing}
 use Rattle.levels_spec.specs.Session.{linesIn, session, printed}
 use Rattle.levels_spec.specs.Response.{replied, openNumber, opens, calls, queries, mergeText, fastSubsetOf, rangeText, listText, served, result, lineResult}
 use mathlib.Core.Option.{Option·elim}
@@ -47,5 +47,5 @@ output =
     ∷ []
 
 pub example : printed input ≡ output
-unfolding printed session linesIn prependToFirst input output flatten all same count filter iota find elem firstRefusal reply isDead ruledColumn signed smaller larger taken madeCell madeFrom changesFrom ruled known rebuiltFrom rebuilt firstRow entriesFrom byKind fastRange openable wordsOf wordsAll inserts hasKey skipped compactionDue storesShort wordsShort wrongWidth noSuchRow overfull openRefusal stageChecks mergeChecks liveFrom liveRows lookup dead opened stage liveWithKey killIf withoutKey withoutRow removed below stop raised append upsert insertion insertAll applied added compacted unstaged compactsAfter merged refusal done after entries fields valueFrom isDecimal isLine letter numbers isForm ofForms digitsIn decimal field textLine replied openNumber opens calls queries mergeText fastSubsetOf fastAmong rangeText versionText listText listingText headLetter headNumbers rowFields tableListing served onTable Option·elim result lineResult
+unfolding printed session linesIn prependToFirst input output flatten all same count filter iota find elem firstRefusal reply isDead ruledColumn signed smaller larger taken madeCell madeFrom changesFrom ruled known rebuiltFrom rebuilt firstRow entriesFrom byKind fastRange openable wordsOf wordsAll inserts hasKey skipped compactionDue storesShort wordsShort wrongWidth noSuchRow overfull openRefusal stageChecks mergeChecks liveFrom liveRows lookup dead opened stage liveWithKey killIf withoutKey withoutRow removed below stop raised append upsert insertion insertAll applied added compacted unstaged compactsAfter merged refusal done after entries fields valueFrom isDecimal isLine letter numbers isForm ofForms digitsIn decimal field textLine replied openNumber opens calls queries mergeText fastSubsetOf fastAmong rangeText versionText listText listingText headLetter tableListing fromNumbered served onTable Option·elim result lineResult
 example = refl

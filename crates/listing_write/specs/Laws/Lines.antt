@@ -1,12 +1,18 @@
 -- The text of a table's listing is its head line and the lines of its live rows, row by row. Assumes nothing.
-use Rattle.listing_write.specs.Laws.Prelude.{ℕ, zero, suc, _*_, _≡_, refl, inl, inr, Bool, false, List, _++_, map, mul-le-mul-right, arith, length, take, drop, ltb-false, split, isLive, Header, rowOfCells, length-rowsIn, outside-inside, textLine}
+use Rattle.listing_write.specs.Laws.Prelude.{ℕ, zero, suc, _*_, _≡_, refl, ap, inl, inr, Bool, true, false, List, _++_, map, map-map, mul-le-mul-right, arith, length, take, drop, ltb-false, split, isLive, Opening, Header, openingOf, rowOfCells, length-rowsIn, outside-inside, textLine}
 use Rattle.lists.specs.Lists.{rowsOf, flatten}
-use Rattle.plain_table.specs.Plain.{liveFrom}
+use Rattle.plain_table.specs.Plain.{Row, liveFrom}
 use Rattle.table.specs.Refusing.{outside, rowsShort}
 use Rattle.table.specs.Stores.{rowsIn}
-use Rattle.listing_spec.specs.Listings.{listingText}
-use Rattle.listing_write.specs.Writing.{rowFields, tableListing, storedText}
-use Rattle.listing_write.specs.inner.Lines.{headLine, rowLine, rowLines, Stored}
+use Rattle.listing_spec.specs.Listings.{listingText, fromNumbered}
+use Rattle.listing_write.specs.Writing.{tableListing, storedText}
+use Rattle.listing_write.specs.inner.Lines.{headNumbers, rowFields, listedLines, headLine, rowLine, rowLines, Stored}
+
+pub listing-lines : (numbered : Bool) (o : Opening) (generation : ℕ) (rows : List Row) → tableListing numbered o generation rows ≡ listedLines numbered o generation rows
+unfolding tableListing fromNumbered headNumbers rowFields
+listing-lines true o generation rows = refl
+listing-lines false o generation rows =
+    ap (λ (rs : List (List ℕ)). record { head = headNumbers false o generation (length rows); rows = rs }) (map-map (drop 1) (rowFields true) (liveFrom 0 rows))
 
 live-lines : (numbered : Bool) (columns number count : ℕ) (rows : List ℕ)
     → flatten (map (textLine 68) (map (rowFields numbered) (liveFrom number (map rowOfCells (rowsOf columns count rows))))) ≡ rowLines numbered columns number count rows
@@ -19,8 +25,8 @@ live-lines numbered columns number (suc count) rows =
     ]
 
 pub stored-lines : (numbered : Bool) (h : Header) (rows : List ℕ) → storedText numbered h rows ≡ headLine numbered h ++ rowLines numbered (h .columns) 0 (h .rows) rows
-unfolding storedText tableListing listingText headLine
-stored-lines numbered h rows = rw (length-rowsIn h rows) (unfold rowsIn in rw (live-lines numbered (h .columns) 0 (h .rows) rows))
+unfolding storedText listingText headLine
+stored-lines numbered h rows = rw (listing-lines numbered (openingOf h) (h .generation) (rowsIn h rows), length-rowsIn h rows) (unfold rowsIn in rw (live-lines numbered (h .columns) 0 (h .rows) rows))
 
 -- what checks 1 and 2 establish
 pub stored-rows : (h : Header) (rows : List ℕ) → outside h ≡ false → rowsShort h (length rows) ≡ false → Stored h rows

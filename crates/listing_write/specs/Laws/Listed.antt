@@ -6,7 +6,9 @@ use Rattle.cells.specs.Cells.{isDead}
 use Rattle.plain_table.specs.Staged.{openable}
 use Rattle.plain_table.specs.Plain.{Row, liveFrom}
 use Rattle.listing_spec.specs.Listings.{headWidth, prefixWidth, listingText, areNumbers, isHead, ParsesAs, parses}
-use Rattle.listing_write.specs.Writing.{headNumbers, rowFields, tableListing}
+use Rattle.listing_write.specs.Writing.{tableListing}
+use Rattle.listing_write.specs.inner.Lines.{headNumbers, rowFields, listedLines}
+use Rattle.listing_write.specs.Laws.Lines.{listing-lines}
 
 -- every cell of a row is a u32, if the row is live
 abbrev pub liveFits : Row → Bool
@@ -102,8 +104,8 @@ module _ (o : Opening) (generation : ℕ) (rows : List Row) (b : Bounds o) (fits
     rows-bounded false = rows-fit (o .columns) 0 (omega arith) false 0 0 65536 rows (λ t. absurd (false≢true t)) most wide live cells
 
     pub table-listed : (numbered : Bool) → ParsesAs numbered (listingText numbered (tableListing numbered o generation rows)) (some (tableListing numbered o generation rows))
-    unfolding tableListing
     table-listed numbered =
-        parses (tableListing numbered o generation rows)
-        (listing-of numbered (tableListing numbered o generation rows) record { head-fits = numbers-fit numbered; head-good = head-good numbered; rows-fit = rows-bounded numbered })
-        refl
+        rw (listing-lines numbered o generation rows)
+        (parses (listedLines numbered o generation rows)
+        (listing-of numbered (listedLines numbered o generation rows) record { head-fits = numbers-fit numbered; head-good = head-good numbered; rows-fit = rows-bounded numbered })
+        refl)

@@ -1,7 +1,7 @@
 -- The names that the laws of this crate take from elsewhere, re-exported. It defines nothing of its own.
 pub use Prim.Native.Nat.{_*_, _+_, _-_, _<_, _≤_, suc, zero, ℕ}
 pub use mathlib.Core.Bool.{Bool, _||_, cond, false, false≢true, not, true}
-pub use mathlib.Core.List.{List, [], _++_, _∷_, map}
+pub use mathlib.Core.List.{List, [], _++_, _∷_, map, map-map}
 pub use mathlib.Core.Logic.{inl, inr, ⊎-elim}
 pub use mathlib.Core.Option.{Option, some}
 pub use mathlib.Core.Path.{_∙_, _≡_, ap, refl, sym}
