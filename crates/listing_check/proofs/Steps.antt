@@ -1,5 +1,6 @@
 -- The transitions of the scan: its start, one row processed, and its final state. Assumes nothing.
 use Rattle.listing_check.proofs.Prelude.{ℕ, suc, _+_, _-_, _≤_, _<_, _≡_, refl, sym, ap, _∙_, Bool, true, false, cond, not, Bool·beq, false≢true, List, [], _∷_, decLt, ℕ-discrete, arith, lt-ltb, le-ltb, eq-eqb, ne-eqb, eqb-true, length, take, drop, getD, drop-of-length-le, List·getD-eq-default, drop-cons, Option, none, some, add-one, eqb, above-head, above-cons, above-weaker, Constraint, textGood, listingIn, text-shown, text-wrong, shown-listing, Survey, Right, Misplaced, Wrong, CheckAnswer, Refused, Checked, CheckScan, misplaced-none, above-kept, right-rising}
+use mathlib.Core.Option.{Option·elim}
 use Rattle.lists.specs.Lists.{filter, all, above}
 use Rattle.refusals.specs.Refusals.{check, firstRefusal, accepted, reply}
 use Rattle.constraints.specs.Constraints.{known, met, meets}
@@ -7,7 +8,8 @@ use Rattle.listing_spec.specs.Listings.{rowNumbers}
 use Rattle.listing_parse.specs.inner.Surveys.{headOf, Listed}
 use Rattle.listing_parse.specs.Laws.Steps.{rowsFrom, none-from}
 use Rattle.listing_check.specs.declared.Row.{Row}
-use Rattle.listing_check.specs.Answers.{rightNumbers, misplaced, wrongNumbers, lowest, verdictFor, verdictOn, checkView, checkReply, AnswersChecked}
+use Rattle.listing_check.specs.Answers.{rightNumbers, misplaced, wrongNumbers, lowest, verdictOn, checkView, checkReply, AnswersChecked}
+use Rattle.listing_check.specs.Laws.Verdicts.{verdictFor}
 use Rattle.listing_check.specs.inner.Scanning.{firstApart, rightAmong, unlessWrong, RowRead, rowsLeft, Underway, finishedAs, Stepped, closed}
 use Rattle.listing_check.proofs.Apart.{apart-same, apart-left, apart-right, lowest-first}
 
@@ -20,7 +22,7 @@ settle {given = given} p = record { whole = λ l. absurd (omega arith); due = λ
 -- ---- the beginning
 
 view-right : (o : Option ℕ) → checkView (unlessWrong (Checked Right) o) ≡ accepted (verdictFor none o)
-unfolding checkView unlessWrong verdictFor
+unfolding checkView unlessWrong Option·elim
 view-right none = refl
 view-right (some n) = refl
 
@@ -35,7 +37,7 @@ left-from text at e =
 
 module _ (text : List ℕ) (conditions : List Constraint) (given : List ℕ) where
   pub no-listing : textGood true text ≡ false → AnswersChecked text conditions given (Refused 11)
-  unfolding checkView checkReply
+  unfolding checkView checkReply Option·elim
   no-listing e = record { listing = none; shown = text-wrong true text e; answers = refl }
 
   module _ (s : Survey) (l : Listed true text s) where
@@ -45,7 +47,7 @@ module _ (text : List ℕ) (conditions : List Constraint) (given : List ℕ) whe
 
     answered : {answer : CheckAnswer} → checkView answer ≡ reply (cond (not (all (known (s .columns)) conditions)) 6 0) (verdictOn given (rightNumbers conditions (listingIn text)))
         → AnswersChecked text conditions given answer
-    unfolding checkReply
+    unfolding checkReply Option·elim
     answered e = record { listing = some (listingIn text); shown = text-shown true text (l .of-form); answers = rw refusal-is e }
 
     pub unknown : all (known (s .columns)) conditions ≡ false → AnswersChecked text conditions given (Refused 6)
@@ -54,7 +56,7 @@ module _ (text : List ℕ) (conditions : List Constraint) (given : List ℕ) whe
 
     module _ (knows : all (known (s .columns)) conditions ≡ true) where
       pub out-of-place : {place : ℕ} → misplaced given ≡ some place → AnswersChecked text conditions given (Checked (Misplaced place))
-      unfolding checkView reply verdictOn verdictFor
+      unfolding checkView reply verdictOn Option·elim
       out-of-place e = answered (rw (knows, e))
 
       pub begin : misplaced given ≡ none → Underway (s .columns) text conditions given (record { answer = Checked Right; start = s .start; end = length text; place = 0 })

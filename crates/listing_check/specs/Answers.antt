@@ -4,7 +4,7 @@ use Prim.Native.Nat.{ℕ, suc, min}
 use mathlib.Core.Path.{_≡_}
 use mathlib.Core.Bool.{true, cond, not}
 use mathlib.Core.List.{List, [], _∷_, _++_, foldl}
-use mathlib.Core.Option.{Option, none, some}
+use mathlib.Core.Option.{Option, none, some, Option·elim}
 use lib.ListN.{drop, getD}
 use lib.Dec.{ltb}
 use Rattle.lists.specs.Lists.{filter, all, elem}
@@ -30,8 +30,8 @@ unfoldable pub misplaced : List ℕ → Option ℕ
 misplaced [] = none
 misplaced (n ∷ ns) = misplacedBehind n 1 ns
 
--- "wrongly present", then those wrongly "absent". "A number without a row in the listing counts as wrongly present": it is not
--- among the right ones.
+-- the numbers "wrongly present", then those wrongly "absent". "A number without a row in the listing counts as wrongly
+-- present": it is not among the right ones.
 unfoldable pub wrongNumbers : List ℕ → List ℕ → List ℕ
 wrongNumbers given right = filter (λ n. not (elem n right)) given ++ filter (λ n. not (elem n given)) right
 
@@ -41,13 +41,8 @@ lowest (n ∷ ns) = some (foldl min n ns)
 
 -- "It says yes" (`Right`), "or, if the list is not strictly rising, the place" (`Misplaced`); else "the lowest row number wrongly
 -- present or absent" (`Wrong`)
-unfoldable pub verdictFor : Option ℕ → Option ℕ → Verdict
-verdictFor (some place) wrong = Misplaced place
-verdictFor none (some number) = Wrong number
-verdictFor none none = Right
-
 unfoldable pub verdictOn : List ℕ → List ℕ → Verdict
-verdictOn given right = verdictFor (misplaced given) (lowest (wrongNumbers given right))
+verdictOn given right = Option·elim (misplaced given) (Option·elim (lowest (wrongNumbers given right)) Right Wrong) Misplaced
 
 -- the reply that an answer represents
 unfoldable pub checkView : CheckAnswer → Reply Verdict
@@ -56,9 +51,8 @@ checkView (Checked verdict) = accepted verdict
 
 -- "After 11 comes 6, as for any condition"
 unfoldable pub checkReply : Option Listing → List Constraint → List ℕ → Reply Verdict
-checkReply none conditions given = refused 11
-checkReply (some l) conditions given =
-    reply (firstRefusal (check (not (all (known (getD (l .head) 0 0)) conditions)) 6 ∷ [])) (verdictOn given (rightNumbers conditions l))
+checkReply listing conditions given =
+    Option·elim listing (refused 11) (λ l. reply (firstRefusal (check (not (all (known (getD (l .head) 0 0)) conditions)) 6 ∷ [])) (verdictOn given (rightNumbers conditions l)))
 
 -- The contract of the check. It writes to no store.
 pub record AnswersChecked (text : List ℕ) (conditions : List Constraint) (given : List ℕ) (answer : CheckAnswer) : Type 0 where

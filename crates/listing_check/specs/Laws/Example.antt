@@ -1,10 +1,11 @@
--- A listing with the rows 2, 5 and 8, of which 2 and 8 meet the condition that the first cell is 7, and the findings for some given
+-- A listing with the rows 2, 5 and 8, of which 2 and 8 meet the condition that the first cell is 7, and the verdicts for some given
 -- numbers. Assumes nothing.
 use Rattle.listing_check.specs.Laws.Prelude.{_≡_, refl, [], _∷_, map, Constraint}
+use mathlib.Core.Option.{Option·elim}
 use Rattle.lists.specs.Lists.{filter, all, elem}
 use Rattle.constraints.specs.Constraints.{compares, met}
 use Rattle.listing_spec.specs.Listings.{Listing, rowNumbers}
-use Rattle.listing_check.specs.Answers.{rightNumbers, misplacedBehind, misplaced, wrongNumbers, lowest, verdictFor, verdictOn}
+use Rattle.listing_check.specs.Answers.{rightNumbers, misplacedBehind, misplaced, wrongNumbers, lowest, verdictOn}
 use Rattle.listing_check.specs.declared.Verdict.the-variants.{Right, Misplaced, Wrong}
 
 abbrev listing : Listing
@@ -15,5 +16,5 @@ condition = record { kind = 1; column = 0; value = 7 }
 
 pub example : map (λ given. verdictOn given (rightNumbers (condition ∷ []) listing)) ((2 ∷ 8 ∷ []) ∷ (2 ∷ 5 ∷ 8 ∷ []) ∷ (2 ∷ []) ∷ (1 ∷ 2 ∷ 8 ∷ []) ∷ (9 ∷ 2 ∷ 8 ∷ []) ∷ (2 ∷ 2 ∷ []) ∷ [])
     ≡ Right ∷ Wrong 5 ∷ Wrong 8 ∷ Wrong 1 ∷ Misplaced 1 ∷ Misplaced 1 ∷ []
-unfolding verdictOn rightNumbers rowNumbers filter all met compares misplaced misplacedBehind wrongNumbers elem lowest verdictFor
+unfolding verdictOn rightNumbers rowNumbers filter all met compares misplaced misplacedBehind wrongNumbers elem lowest Option·elim
 example = refl

@@ -1,9 +1,11 @@
 -- What each verdict implies about the numbers given and the right ones. Assumes nothing.
 use Rattle.listing_check.specs.Laws.Prelude.{ℕ, _≡_, refl, _∙_, inl, inr, Bool, true, List, [], _∷_, Option, none, some, arith, drop, getD, split, above-head, above-tail, above-cons, above-weaker, above-rising, rising-ext, Constraint, met, rising-from, listing-parts}
+use mathlib.Core.Option.{Option·elim}
 use Rattle.lists.specs.Lists.{filter, all, above, rising}
 use Rattle.listing_spec.specs.Listings.{Listing, rowNumbers, isListing}
-use Rattle.listing_check.specs.Answers.{rightNumbers, misplaced, wrongNumbers, lowest, verdictFor, verdictOn}
+use Rattle.listing_check.specs.Answers.{rightNumbers, misplaced, wrongNumbers, lowest, verdictOn}
 use Rattle.listing_check.specs.Laws.Numbers.{Apart, wrong-none, wrong-some, wrong-same, FirstNotAbove, misplaced-none, misplaced-rising, misplaced-some, misplaced-at}
+use Rattle.listing_check.specs.declared.Verdict.{Verdict}
 use Rattle.listing_check.specs.declared.Verdict.the-variants.{Right, Misplaced, Wrong}
 
 -- ---- the right numbers rise
@@ -35,21 +37,25 @@ right-rising conditions l e =
 
 -- ---- the cases of a verdict
 
+-- by the place of the first number out of place, and by the lowest wrong number
+abbrev pub verdictFor : Option ℕ → Option ℕ → Verdict
+verdictFor o w = Option·elim o (Option·elim w Right Wrong) Misplaced
+
 finding-right : (o w : Option ℕ) → verdictFor o w ≡ Right → (o ≡ none) × (w ≡ none)
-unfolding verdictFor
+unfolding Option·elim
 finding-right none none e = (refl, refl)
 finding-right none (some m) e = absurd (let z : _≡_ {A = ℕ} 0 1 = cc in omega arith)
 finding-right (some m) w e = absurd (let z : _≡_ {A = ℕ} 0 1 = cc in omega arith)
 
 module _ (n : ℕ) where
   finding-wrong : (o w : Option ℕ) → verdictFor o w ≡ Wrong n → w ≡ some n
-  unfolding verdictFor
+  unfolding Option·elim
   finding-wrong none none e = absurd (let z : _≡_ {A = ℕ} 0 1 = cc in omega arith)
   finding-wrong none (some m) e = cc
   finding-wrong (some m) w e = absurd (let z : _≡_ {A = ℕ} 0 1 = cc in omega arith)
 
   finding-misplaced : (o w : Option ℕ) → verdictFor o w ≡ Misplaced n → o ≡ some n
-  unfolding verdictFor
+  unfolding Option·elim
   finding-misplaced none none e = absurd (let z : _≡_ {A = ℕ} 0 1 = cc in omega arith)
   finding-misplaced none (some m) e = absurd (let z : _≡_ {A = ℕ} 0 1 = cc in omega arith)
   finding-misplaced (some m) w e = cc
@@ -62,7 +68,7 @@ module _ (given right : List ℕ) where
     λ e.
         let s = finding-right (misplaced given) (lowest (wrongNumbers given right)) e in
         rising-ext given right (misplaced-none given (s .0)) rises (wrong-none given right (s .1)),
-    λ e. rw (e, misplaced-rising right rises, wrong-same right) (unfold verdictFor in refl),
+    λ e. rw (e, misplaced-rising right rises, wrong-same right) (unfold Option·elim in refl),
   )
 
   -- "the lowest row number wrongly present or absent"
@@ -77,7 +83,7 @@ module _ (given right : List ℕ) where
 
   pub first-misplaced : {place : ℕ} → FirstNotAbove given place → verdictOn given right ≡ Misplaced place
   unfolding verdictOn
-  first-misplaced {place} f = rw (misplaced-at given f) (unfold verdictFor in refl)
+  first-misplaced {place} f = rw (misplaced-at given f) (unfold Option·elim in refl)
 
 -- the same for a listing
 pub yes-exactly : (conditions : List Constraint) (l : Listing) (given : List ℕ) → isListing true l ≡ true
