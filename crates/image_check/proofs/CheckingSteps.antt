@@ -3,7 +3,7 @@ use Prim.Native.Nat.{ℕ, _≤_}
 use mathlib.Core.Path.{_≡_, refl, sym}
 use mathlib.Core.Bool.{Bool, true, false, true≢false, false≢true}
 use mathlib.Core.List.{List}
-use mathlib.Core.Option.{Option, none, some}
+use mathlib.Core.Option.{Option, none, some, Option·elim}
 use native.Mathlib.Omega.{arith}
 use lib.ListN.{length}
 use Rattle.refusals.specs.Refusals.{firstRefusal, reply}
@@ -123,7 +123,7 @@ module _ (words : List ℕ) (l : Layout) (t : IsAt words l) where
 
 module _ (words : List ℕ) where
   pub decoding-none : Reads words none → (slots : List ℕ) → DecodingIs words (Refused 19) slots
-  unfolding checkReply
+  unfolding checkReply Option·elim
   decoding-none n slots =
       record {
         decoded =
@@ -141,7 +141,7 @@ module _ (words : List ℕ) where
 
   module _ (l : Layout) (t : IsAt words l) where
     pub decoding-unsound : (SoundImage (imageIn words l) → ⊥) → (slots : List ℕ) → DecodingIs words (Refused 20) slots
-    unfolding checkReply reply firstRefusal
+    unfolding checkReply Option·elim reply firstRefusal
     decoding-unsound f slots =
         record {
           decoded =
@@ -187,7 +187,7 @@ module _ (words : List ℕ) (r : Decoding) (slots : List ℕ) (d : DecodingIs wo
   checked-refused n e = record { decoded = d .decoded; answers = sym (d .refusal n e) }
 
   pub checked-sound : (l : Layout) → r ≡ Sound l → ImageChecked words (Table (l .header))
-  unfolding tableView checkReply reply firstRefusal imageIn
+  unfolding tableView checkReply Option·elim reply firstRefusal imageIn
   checked-sound l e =
       let s = d .sound-at l e in
       record { decoded = d .decoded; answers = rw (s .image-is, s .sound-is) }

@@ -1,5 +1,6 @@
 -- The steps of loading an image's table: one law for each way that a function returns. Assumes nothing.
 use Rattle.image_read.proofs.Prelude.{ℕ, _*_, _+_, _-_, _≤_, _<_, _≡_, refl, sym, ap, _∙_, Bool, true, false, _||_, List, [], Option, none, some, mul-le-mul-right, arith, ltb, length, take, drop, getD, getD-take, length-take-le, ltb-false, lt-ltb, le-ltb, eq-eqb, ne-eqb, or-no-left, or-no-right, length-splice, drop-splice, getD-splice-in, slots-alike, outcome-refused, outcome-accepted, IndexShape, KeysSound, sizeClassFor, sizeClass-most, sizeClass-enough, keys-longer, Fits, RowsIn, past-sizeClass, Rebuilt, firstRefusal-no, firstRefusal-rest, Header, TableAnswer, Refused, Table, indexShapeOf, Body, body, lengths, LongEnough, stores-long, Inside, outside-inside, inside-fits, Image, Layout, image-in-proper, Decoding, DecodingIs}
+use mathlib.Core.Option.{Option·elim}
 use Rattle.lists.specs.Lists.{splice}
 use Rattle.refusals.specs.Refusals.{refused, accepted, firstRefusal, reply}
 use Rattle.plain_table.specs.Refusing.{Lengths, storesShort}
@@ -166,7 +167,7 @@ module _ (words : List ℕ) (l : Layout) (capacity : ℕ) (b : Body) (pending : 
 -- words that the check refuses are refused with the same number when they are read
 refusal-same : (image : Option Image) (sound : Bool) (number : ℕ) (capacity : ℕ) (b : Body) (pending : List ℕ) → checkReply image sound ≡ refused number
     → (readRefusal image sound capacity b pending ≡ number) × (0 < number)
-unfolding checkReply readRefusal reply firstRefusal
+unfolding checkReply readRefusal Option·elim reply firstRefusal
 refusal-same none sound number capacity b pending e = let k : 19 ≡ number = cc in (k, omega arith)
 refusal-same (some i) true number capacity b pending e = absurd (let z : _≡_ {A = ℕ} 0 1 = cc in omega arith)
 refusal-same (some i) false number capacity b pending e = let k : 20 ≡ number = cc in (k, omega arith)
@@ -196,7 +197,7 @@ module _ (words : List ℕ) (capacity : ℕ) (b : Body) (pending : List ℕ) (r 
       }
     where
       same : readRefusal (some (imageIn words l)) true capacity b pending ≡ storesRefusal l capacity b pending
-      same = unfold readRefusal firstRefusal loadRefusal imageIn in refl
+      same = unfold readRefusal Option·elim firstRefusal loadRefusal imageIn in refl
 
       some-same : {i j : Image} → _≡_ {A = Option Image} (some i) (some j) → i ≡ j
       some-same e = cc

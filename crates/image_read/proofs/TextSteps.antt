@@ -91,7 +91,7 @@ module _ (words output : List ℕ) (l : Layout) (t : IsAt words l) where
       }
     where
       refused-by : textRefusal (some (imageIn words l)) (length output) ≡ 2
-      refused-by = unfold textRefusal firstRefusal in rw (length-is, lt-ltb _ _ k)
+      refused-by = unfold textRefusal Option·elim firstRefusal in rw (length-is, lt-ltb _ _ k)
 
       answer-is : lengthView (Refused 2) ≡ reply 2 (length (textOf (some (imageIn words l))))
       answer-is = unfold lengthView reply in refl
@@ -111,7 +111,7 @@ module _ (words output : List ℕ) (l : Layout) (t : IsAt words l) where
       }
     where
       accepted-by : textRefusal (some (imageIn words l)) (length output) ≡ 0
-      accepted-by = unfold textRefusal firstRefusal in rw (length-is, le-ltb _ _ k)
+      accepted-by = unfold textRefusal Option·elim firstRefusal in rw (length-is, le-ltb _ _ k)
 
       answer-is : lengthView (Length (l .text)) ≡ reply 0 (length (textOf (some (imageIn words l))))
       answer-is = unfold lengthView reply textOf Option·elim in rw length-is

@@ -1,7 +1,8 @@
--- What the functions that write, check and read images promise: the answer and every lent cell, accepted or refused. A store that a
--- contract has no second name for is lent shared, so it is unchanged. New refusals: 19, words that are no image: of another length than their header and
--- text have, with a header outside its bounds, a text that is too long or filled up with other bytes than 0, or another checksum; 20, an
--- image of a table that is not sound; 21, a text to be written of more than 4,096 bytes. Assumes nothing.
+-- The contracts of the functions that size, write, check and read images: the answer and every lent cell, accepted or refused. A store
+-- without a primed name is lent shared and does not change. New refusals: 19, words that are no image (the first word, the format's
+-- number, the length or the checksum is wrong; a number of the header is outside its bounds; the flag of the largest value is above 1, or
+-- it is 0 and the value is not; the text is too long, or a byte after it is not 0); 20, an image of a table that is not sound; 21, a
+-- text to be written of more than 4,096 bytes. Assumes nothing.
 use Prim.Native.Nat.{ℕ, _*_, _<_}
 use mathlib.Core.Path.{_≡_}
 use mathlib.Core.Bool.{Bool, true, false, cond, not, _||_}
@@ -31,11 +32,8 @@ lengthView (Length n) = accepted n
 -- ---- sizes and writing
 
 -- *Image size*: 1, 21
-unfoldable pub sizeRefusal : Header → ℕ → ℕ
-sizeRefusal h text = firstRefusal (check (outside h) 1 ∷ check (ltb 4096 text) 21 ∷ [])
-
 pub record ImageSized (h : Header) (text : ℕ) (answer : LengthAnswer) : Type 0 where
-  pub answers : lengthView answer ≡ reply (sizeRefusal h text) (imageLength h text)
+  pub answers : lengthView answer ≡ reply (firstRefusal (check (outside h) 1 ∷ check (ltb 4096 text) 21 ∷ [])) (imageLength h text)
 
 -- *Write image*: 1, 2, 21; "2 again" for an output shorter than the image
 unfoldable pub writeRefusal : Header → ℕ → ℕ → ℕ → ℕ → ℕ → ℕ
@@ -47,14 +45,14 @@ writeRefusal h rows sorts pending text output =
     ∷ check (ltb output (imageLength h text)) 2
     ∷ [])
 
--- lent rows, sort entries, pending and a text; the image is at the start of the output, and nothing behind it changes
+-- lent rows, sort entries, pending and a text; the image is at the start of the output, and cells past it are unchanged
 pub record ImageWritten (h : Header) (rows sorts pending text output : List ℕ) (answer : LengthAnswer) (output′ : List ℕ) : Type 0 where
   pub effect : Effect (writeRefusal h (length rows) (length sorts) (length pending) (length text) (length output)) (lengthView answer)
       (imageLength h (length text)) output output′ (splice output 0 (imageWords (imageOf h rows sorts pending text)))
 
 -- ---- checking and reading
 
--- the image that words are, and whether it is of a sound table; of words that are no image `sound` means nothing
+-- the image that these words encode, and whether its table is sound; without an image `sound` may be either
 pub record Decoded (words : List ℕ) : Type 0 where
   pub image : Option Image
   pub reads : Reads words image
@@ -73,8 +71,7 @@ withCapacity h capacity = header (resizedOpening (openingOf h) capacity) (h .row
 
 -- *Check image*: 19, 20; else the image's header
 unfoldable pub checkReply : Option Image → Bool → Reply Header
-checkReply none sound = refused 19
-checkReply (some i) sound = reply (firstRefusal (check (not sound) 20 ∷ [])) (i .header)
+checkReply image sound = Option·elim image (refused 19) (λ i. reply (firstRefusal (check (not sound) 20 ∷ [])) (i .header))
 
 pub record ImageChecked (words : List ℕ) (answer : TableAnswer) : Type 0 where
   pub decoded : Decoded words
@@ -89,10 +86,11 @@ storesChecks h capacity b pending =
 
 -- *Read image*: 19, 20, then those of the caller's capacity and stores
 unfoldable pub readRefusal : Option Image → Bool → ℕ → Body → List ℕ → ℕ
-readRefusal none sound capacity b pending = 19
-readRefusal (some i) sound capacity b pending = firstRefusal (check (not sound) 20 ∷ storesChecks (i .header) capacity b pending)
+readRefusal image sound capacity b pending =
+    Option·elim image 19 (λ i. firstRefusal (check (not sound) 20 ∷ storesChecks (i .header) capacity b pending))
 
--- the stores hold the image from their start on, and nothing behind it changes; of the key store soundness is promised
+-- The stores begin with the image's words, and cells past them are unchanged. The key store is sound; its slots are the program's
+-- choice.
 pub record Loaded (i : Image) (capacity : ℕ) (b : Body) (pending : List ℕ) (answer : TableAnswer) (b′ : Body) (pending′ : List ℕ) : Type 0 where
   pub answers : tableView answer ≡ accepted (withCapacity (i .header) capacity)
   pub rows-after : b′ .rows ≡ splice (b .rows) 0 (i .rows)
@@ -109,11 +107,10 @@ pub record ImageRead (words : List ℕ) (capacity : ℕ) (b : Body) (pending : L
   pub loaded : (i : Image) → decoded .image ≡ some i → readRefusal (decoded .image) (decoded .sound) capacity b pending ≡ 0
       → Loaded i capacity b pending answer b′ pending′
 
--- *Read text*: 19; 2 for an output shorter than the text; else the text's bytes at the start of the output. It is read of an image of an
--- unsound table too
+-- *Read text*: 19; 2 for an output shorter than the text; else the text's bytes at the start of the output. The text of an image of an
+-- unsound table can be read too.
 unfoldable pub textRefusal : Option Image → ℕ → ℕ
-textRefusal none output = 19
-textRefusal (some i) output = firstRefusal (check (ltb output (length (i .text))) 2 ∷ [])
+textRefusal image output = Option·elim image 19 (λ i. firstRefusal (check (ltb output (length (i .text))) 2 ∷ []))
 
 unfoldable pub textOf : Option Image → List ℕ
 textOf image = Option·elim image [] (λ i. i .text)

@@ -1,5 +1,5 @@
--- The image of a table: one sequence of 32-bit words that stands alone, for a file of bytes, lowest byte of each word first. It has the
--- words of a table that are in use, except for the key store, which is built anew when the image is read. Assumes nothing.
+-- The image of a table: a self-contained sequence of 32-bit words, in a file with the lowest byte of each word first. It has the words
+-- of the stores that are in use. The key store is left out and rebuilt when the image is read. Assumes nothing.
 use Prim.Native.Nat.{ℕ, _+_, _*_, _/_}
 use mathlib.Core.Path.{_≡_}
 use mathlib.Core.Bool.{Bool, true, not, cond, _&&_}
@@ -51,7 +51,7 @@ isImage i =
     && eqb (length (i .sorts)) (2 * i .header .entries)
     && eqb (length (i .pending)) (i .header .pending)
 
--- The image that words are, if they are one. No words are two images (law `reads-unique`).
+-- The image that these words encode, or none. Words encode at most one image (law `reads-unique`).
 pub data Reads (words : List ℕ) : Option Image → Type 0 where
   reads : (i : Image) → isImage i ≡ true → words ≡ imageWords i → Reads words (some i)
   reads-none : ((i : Image) → isImage i ≡ true → words ≡ imageWords i → ⊥) → Reads words none

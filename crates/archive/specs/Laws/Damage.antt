@@ -1,5 +1,6 @@
 -- An image changed within four neighbouring bytes is no image. Assumes nothing.
 use Rattle.archive.specs.Laws.Prelude.{ℕ, zero, suc, _+_, _<_, _≡_, refl, sym, ap, _∙_, true, List, [], _∷_, _++_, _⊎_, inl, inr, Option, none, some, arith, length, getD, Below, bytes-of-append, bytes-of-below, bytes-of-cons, damage-shows, residue-of-crc, Header, TableAnswer, Table, tableView, Damaged, damaged, RefusedAsImage}
+use mathlib.Core.Option.{Option·elim}
 use Rattle.lists.specs.Lists.{flatten}
 use Rattle.refusals.specs.Refusals.{Reply, refused, accepted, reply, outcome}
 use Rattle.crc32.specs.Crc.{crc32, bytesOf, wordBytes}
@@ -60,7 +61,7 @@ damaged-none words words′ i e d j f =
 
 -- every function that reads images refuses them
 pub no-image-refused : (words : List ℕ) → ((o : Option Image) → Reads words o → o ≡ none) → RefusedAsImage words
-unfolding checkReply readRefusal textRefusal reply outcome
+unfolding checkReply readRefusal textRefusal Option·elim reply outcome
 no-image-refused words never =
     record {
       checked = λ answer m. m .answers ∙ ap (λ (o : Option Image). checkReply o (m .decoded .sound)) (never _ (m .decoded .reads));

@@ -1,5 +1,6 @@
 -- Reading an image after writing it. Assumes nothing.
 use Rattle.archive.specs.Laws.Prelude.{ℕ, zero, suc, _+_, _*_, _≤_, _<_, _≡_, refl, sym, ap, _∙_, Bool, true, false, cond, not, _||_, List, [], _∷_, _++_, map, ⊎-elim, Option, none, some, mul-le-mul-right, arith, length, take, drop, getD, take-at, ltb, eqb, ltb-false, le-leb, split, length-splice, or-no-left, or-no-right, Opening, openable, wordsAll, rowOf, firstRefusal-no, firstRefusal-rest, bounds-openable, Header, TableAnswer, Table, outside, Stores, Body, joined, lengths, Represents, LongEnough, stores-long, Inside, outside-inside, Image, SoundImage, reads-unique, Saved, resized, ReadAfterWrite}
+use mathlib.Core.Option.{Option·elim}
 use Rattle.lists.specs.Lists.{splice, rowAt, all}
 use Rattle.refusals.specs.Refusals.{check, firstRefusal, Reply, refused, accepted, reply, outcome}
 use Rattle.plain_table.specs.Refusing.{storesShort}
@@ -40,7 +41,7 @@ module _ {p : Plain} {s : Stores} (r : Represents p s) {words : List ℕ} (saved
   left-number = firstRefusal (check (outside after) 1 ∷ check short 2 ∷ [])
 
   number-is : readRefusal (m .decoded .image) (m .decoded .sound) capacity b pending ≡ left-number
-  unfolding readRefusal firstRefusal
+  unfolding readRefusal Option·elim firstRefusal
   number-is = rw (image-is, sound-is)
 
   pub refusal-is : outcome (tableView answer) ≡ reply left-number tt

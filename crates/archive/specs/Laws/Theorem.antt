@@ -49,7 +49,7 @@ module _ (words : List ℕ) (capacity : ℕ) (b : Body) (pending : List ℕ) (h 
 
   -- the image
   accepted-image : IsImage words (m .decoded .image)
-  unfolding readRefusal
+  unfolding readRefusal Option·elim
   accepted-image =
       elim (read-cases words (m .decoded .image) (m .decoded .reads)) [
         | inl e ↦ absurd (let z : 19 ≡ 0 = sym (ap (λ (o : Option Image). readRefusal o (m .decoded .sound) capacity b pending) e) ∙ none-refused in omega (arith, z))
@@ -100,7 +100,7 @@ module _ (words : List ℕ) (capacity : ℕ) (b : Body) (pending : List ℕ) (h 
       storesShort (openingOf after-load) (lengths (b .rows) (b .keys) (b .sorts) pending [] []) || ltb (length pending) (image .header .pending)
 
   checks-passed : firstRefusal (check (not (m .decoded .sound)) 20 ∷ check (outside after-load) 1 ∷ check stores-short 2 ∷ []) ≡ 0
-  unfolding readRefusal
+  unfolding readRefusal Option·elim
   checks-passed = sym (ap (λ (o : Option Image). readRefusal o (m .decoded .sound) capacity b pending) (accepted-image .is-read)) ∙ none-refused
 
   image-sound : SoundImage image

@@ -3,7 +3,7 @@ use Prim.Native.Nat.{ℕ}
 use mathlib.Core.Path.{_≡_, refl, sym, _∙_}
 use mathlib.Core.Logic.{inl, inr}
 use mathlib.Core.List.{List}
-use mathlib.Core.Option.{Option, none, some}
+use mathlib.Core.Option.{Option, none, some, Option·elim}
 use Rattle.lists.specs.Laws.Filter.{split}
 use Rattle.table.specs.declared.TableAnswer.{TableAnswer}
 use Rattle.table.specs.Laws.Answers.{table-view-injective}
@@ -31,7 +31,7 @@ module _ {words : List ℕ} (a b : Decoded words) where
       ]
 
 check-same : {words : List ℕ} (a b : Decoded words) (x : Option Image) → a .image ≡ x → checkReply (a .image) (a .sound) ≡ checkReply (b .image) (b .sound)
-unfolding checkReply
+unfolding checkReply Option·elim
 check-same a b none e = rw (e, sym (same-image a b) ∙ e)
 check-same a b (some i) e = rw (e, sym (same-image a b) ∙ e, same-sound a b i e)
 

@@ -5,7 +5,7 @@ use mathlib.Core.Path.{_≡_, refl, sym, ap, _∙_}
 use mathlib.Core.Logic.{⊎-elim}
 use mathlib.Core.Bool.{Bool}
 use mathlib.Core.List.{List}
-use mathlib.Core.Option.{Option, none, some}
+use mathlib.Core.Option.{Option, none, some, Option·elim}
 use native.Mathlib.Omega.{arith}
 use lib.ListN.{length, drop}
 use Rattle.lists.specs.Lists.{splice}
@@ -52,13 +52,13 @@ text-read-determined {words} {output} {a = a} {b = b} x y =
 -- both are refused with the same number, or both accepted
 refusal-alike : {words : List ℕ} (a b : Decoded words) (capacity : ℕ) (s : Body) (pending : List ℕ) (x : Option Image) → a .image ≡ x
     → readRefusal (a .image) (a .sound) capacity s pending ≡ readRefusal (b .image) (b .sound) capacity s pending
-unfolding readRefusal
+unfolding readRefusal Option·elim
 refusal-alike a b capacity s pending none e = rw (e, sym (same-image a b) ∙ e)
 refusal-alike a b capacity s pending (some i) e = rw (e, sym (same-image a b) ∙ e, same-sound a b i e)
 
 -- words that are not refused are an image
 refusal-some : (x : Option Image) (sound : Bool) (capacity : ℕ) (s : Body) (pending : List ℕ) → readRefusal x sound capacity s pending ≡ 0 → (i : Image) × (x ≡ some i)
-unfolding readRefusal
+unfolding readRefusal Option·elim
 refusal-some none sound capacity s pending z = absurd (omega arith)
 refusal-some (some i) sound capacity s pending z = (i, refl)
 

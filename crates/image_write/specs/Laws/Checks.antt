@@ -3,7 +3,8 @@ use Rattle.image_write.specs.Laws.Prelude.{ℕ, _+_, _*_, _/_, _≤_, _<
 use Rattle.refusals.specs.Refusals.{firstRefusal}
 use Rattle.table.specs.Refusing.{outside, pendingOutside, rowsShort, pairsShort}
 use Rattle.image_spec.specs.Image.{imageLength}
-use Rattle.image_spec.specs.Contracts.{sizeRefusal, writeRefusal}
+use Rattle.image_spec.specs.Contracts.{writeRefusal}
+use Rattle.image_write.specs.inner.Parts.{sizeRefusal}
 
 -- the cells in use are within those of the capacity
 rows-within : (h : Header) → Inside h → h .rows * h .columns ≤ h .capacity * h .columns

@@ -1,9 +1,15 @@
--- The parts of an image that are written one after another. Assumes nothing.
+-- The checks of *Image size*, and the parts of an image that are written one after another. Assumes nothing.
 use Prim.Native.Nat.{ℕ, _+_, _*_, _≤_}
 use mathlib.Core.List.{List, [], _∷_, _++_}
 use lib.ListN.{length, take}
+use lib.Dec.{ltb}
+use Rattle.refusals.specs.Refusals.{check, firstRefusal}
 use Rattle.table.specs.declared.Header.{Header}
+use Rattle.table.specs.Refusing.{outside}
 use Rattle.abi.specs.Encoding.{encodeHeader}
+
+unfoldable pub sizeRefusal : Header → ℕ → ℕ
+sizeRefusal h text = firstRefusal (check (outside h) 1 ∷ check (ltb 4096 text) 21 ∷ [])
 
 -- the fifteen words before a text of so many bytes
 unfoldable pub imageHead : Header → ℕ → List ℕ
