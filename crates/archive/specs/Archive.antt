@@ -40,14 +40,15 @@ abbrev pub resized : Plain → ℕ → Plain
 resized p capacity =
     record { opening = resizedOpening (p .opening) capacity; generation = p .generation; rows = p .rows; staged = p .staged; largest = p .largest }
 
--- Loading after saving: refused by nothing but a capacity outside its bounds or a short store; else the same plain table, with that
--- capacity.
+-- Loading after saving: refused only with 1, a capacity outside its bounds, or 2, a store too short; otherwise it gives the same
+-- plain table, with that capacity.
 pub record ReadAfterWrite (p : Plain) (s : Stores) (capacity : ℕ) (b : Body) (pending : List ℕ) (answer : TableAnswer) (b′ : Body) (pending′ : List ℕ) : Type 0 where
   pub refusal : outcome (tableView answer) ≡ reply (firstRefusal (storesChecks (s .header) capacity b pending)) tt
   pub represents : (h : Header) → answer ≡ Table h → Represents (resized p capacity) (joined h b′ pending′)
 
--- An accepted image is the image of the table that was loaded, with the capacity that the image has and its text. So a table in stores
--- and a text have one image. Whoever wrote it, the table is sound (its generation is a word, so it is at most 4294967295).
+-- An accepted image is the image of the table that was loaded, with the capacity that the image has and its text. So stores and
+-- a text have one image. The loaded table is sound, whatever program wrote the image; its generation is a word, hence at most
+-- 4294967295.
 pub record ImageOfLoaded (words : List ℕ) (h : Header) (b′ : Body) (pending′ : List ℕ) : Type 0 where
   pub capacity : ℕ
   pub text : List ℕ
@@ -57,15 +58,15 @@ pub record ImageOfLoaded (words : List ℕ) (h : Header) (b′ : Body) (pending�
 
 -- ---- histories
 
--- A table saved and loaded: `write_image` is lent all but the cells `rows`, `sorts` and `pending` at the end of these stores; what is
--- loaded is a first part of other stores, which end in `rest` and `more`.
+-- A table saved and loaded: `write_image` is lent all but the cells `rows`, `sorts` and `pending` at the end of these stores;
+-- `read_image` is lent a first part of other stores; `rest` and `more` are the cells after it.
 pub data Reloaded (capacity : ℕ) : Stores → Stores → Type 0 where
   reloaded : {s t : Stores} (rows sorts pending : List ℕ) (words : List ℕ) → Saved s words
       → (b : Body) (before : List ℕ) → ImageRead words capacity b before (Table (t .header)) (bodyOf t) (t .pending)
       → (rest : Body) (more : List ℕ)
       → Reloaded capacity (behind s (body rows [] sorts) pending) (behind t rest more)
 
--- A history in which tables are also saved and loaded: the plain table, which loading changes in its capacity alone, and the stores.
+-- A history in which tables are also saved and loaded: the plain table, of which loading changes only the capacity, and the stores.
 pub data Archived : Plain → Stores → Type 0 where
   made : {o : Opening} {generation : ℕ} {calls : List LentCall} {s : Stores} → History o generation calls s
       → Archived (afterAll (opened o generation) calls) s
@@ -92,7 +93,7 @@ pub record Archives : Type 0 where
   pub read-after-write : (p : Plain) (s : Stores) (words : List ℕ) (capacity : ℕ) (b : Body) (pending : List ℕ) (answer : TableAnswer) (b′ : Body) (pending′ : List ℕ)
       → Represents p s → Saved s words → ImageRead words capacity b pending answer b′ pending′
       → ReadAfterWrite p s capacity b pending answer b′ pending′
-  -- The text after saving: refused by nothing but a short output; else the text at the start of the output.
+  -- The text after saving: refused only with 2, an output too short; otherwise the text is at the start of the output.
   pub text-after-write : (p : Plain) (s : Stores) (words : List ℕ) → Represents p s → (saved : Saved s words)
       → (output : List ℕ) (answer : LengthAnswer) (output′ : List ℕ) → TextRead words output answer output′
       → Effect (firstRefusal (check (ltb (length output) (length (saved .text))) 2 ∷ [])) (lengthView answer) (length (saved .text)) output output′
