@@ -20,9 +20,7 @@ use Rattle.table.specs.declared.Header.{Header}
 use Rattle.table.specs.declared.Merge.{Merge}
 use Rattle.table.specs.declared.Version.{Version}
 use Rattle.table.specs.Numbers.{largestView, header}
-use Rattle.query_spec.specs.declared.NextPlace.{NextPlace}
-use Rattle.query_spec.specs.declared.NextPlace.the-variants.{None, At}
-use Rattle.query_spec.specs.declared.Page.{Page}
+use Rattle.query_spec.specs.Queries.{PageReply}
 
 -- ---- arguments
 
@@ -93,14 +91,9 @@ subsetHeadView (SubsetList count) = accepted (record { dense = false; start = 0;
 unfoldable pub encodeSubset : SubsetHead → List ℕ
 encodeSubset s = bit (s .dense) ∷ s .start ∷ s .end ∷ []
 
--- the next place of a page, if there is one
-unfoldable pub nextView : NextPlace → Option ℕ
-nextView None = none
-nextView (At place) = some place
-
 -- how many ids were written, how many of the visited ids have a dead row, and the next place
-unfoldable pub encodePage : Page → List ℕ
-encodePage p = p .written ∷ p .dead ∷ encodeOption (nextView (p .next))
+unfoldable pub encodePage : PageReply → List ℕ
+encodePage p = p .written ∷ p .dead ∷ encodeOption (p .next)
 
 -- ---- contracts of C functions
 

@@ -6,10 +6,8 @@ use mathlib.Core.Option.{Option, none, some}
 use mathlib.Core.List.{List, [], _∷_, map}
 use lib.ListN.{length}
 use lib.Dec.{leb}
-use Rattle.query_spec.specs.declared.NextPlace.the-variants.{None, At}
-use Rattle.query_spec.specs.declared.NextPlace.{NextPlace}
 use Rattle.lists.specs.Lists.{iota, elem}
-use Rattle.refusals.specs.Refusals.{accepted}
+use Rattle.refusals.specs.Refusals.{accepted, reply}
 use Rattle.cells.specs.Cells.{compactHash}
 use Rattle.offsets.specs.Subsets.{Subset, range, list}
 use Rattle.offsets.specs.Answers.{intersectReply}
@@ -21,7 +19,7 @@ use Rattle.plain_table.specs.Refusing.{Lengths}
 use Rattle.plain_table.specs.Calls.{Call, staging, merging, afterAll}
 use Rattle.plain_table.specs.Plain.{Row, Plain, with, opened, added, merged, compacted}
 use Rattle.table.specs.Stores.{headerOf}
-use Rattle.query_spec.specs.Queries.{refineOneReply, refineListReply, pageIds, pageReply}
+use Rattle.query_spec.specs.Queries.{refineOneReply, refineListReply, pageIds, pageRefusal, pageOf}
 
 -- a table of one column: row i has the cell i and is live if `live i` is true
 abbrev pub tableOf : ℕ → (ℕ → Bool) → Plain
@@ -33,11 +31,11 @@ abbrev pub isSeven : Constraint
 isSeven = record { kind = 1; column = 0; value = 7 }
 
 -- a page of ten live rows: the ids written and the next place
-abbrev pub Pages : Subset → ℕ → ℕ → List ℕ → NextPlace → Type 0
+abbrev pub Pages : Subset → ℕ → ℕ → List ℕ → Option ℕ → Type 0
 Pages subset start n ids next =
     let h = headerOf (tableOf 10 (λ i. true)) in
     (pageIds h (iota 0 100) subset start n [] ≡ ids)
-    × (pageReply h (iota 0 100) subset start n [] 100 ≡ accepted (record { written = length ids; dead = 0; next = next }))
+    × (reply (pageRefusal h 100 subset start n [] 100) (pageOf h (iota 0 100) subset start n []) ≡ accepted (record { written = length ids; dead = 0; next = next }))
 
 -- the row count and the generation after a merge with nothing staged, if the first `dead` of `count` rows are dead
 abbrev pub After : ℕ → ℕ → ℕ → ℕ → Type 0
@@ -76,9 +74,9 @@ pub record PaperExamples : Type 0 where
   pub e-one : refineOneReply (headerOf (tableOf 4 (λ i. true))) (5 ∷ 7 ∷ 7 ∷ 5 ∷ iota 0 100) (range 0 4) isSeven 100 ≡ accepted (range 1 3)
   pub e-list : refineListReply (headerOf (tableOf 4 (λ i. true))) (5 ∷ 7 ∷ 7 ∷ 5 ∷ iota 0 100) (range 0 4) (isSeven ∷ []) 100 ≡ accepted (list (1 ∷ 2 ∷ []))
   -- "Page over 0..10 from 4: n = 5 next 9, n = 6 none"
-  pub f : Pages (range 0 10) 4 5 (4 ∷ 5 ∷ 6 ∷ 7 ∷ 8 ∷ []) (At 9) × Pages (range 0 10) 4 6 (4 ∷ 5 ∷ 6 ∷ 7 ∷ 8 ∷ 9 ∷ []) None
+  pub f : Pages (range 0 10) 4 5 (4 ∷ 5 ∷ 6 ∷ 7 ∷ 8 ∷ []) (some 9) × Pages (range 0 10) 4 6 (4 ∷ 5 ∷ 6 ∷ 7 ∷ 8 ∷ 9 ∷ []) none
   -- "Three ids from 1, n = 0: next 1; from 3: none"
-  pub g : Pages (list (2 ∷ 4 ∷ 6 ∷ [])) 1 0 [] (At 1) × Pages (list (2 ∷ 4 ∷ 6 ∷ [])) 3 0 [] None
+  pub g : Pages (list (2 ∷ 4 ∷ 6 ∷ [])) 1 0 [] (some 1) × Pages (list (2 ∷ 4 ∷ 6 ∷ [])) 3 0 [] none
   -- "16 dead of 32 or of 16 stay; 17 of 33 or of 17 go"
   pub h : After 16 32 32 0 × After 16 16 16 0 × After 17 33 16 1 × After 17 17 0 1
   -- "Rows 0, 2, 5 live: 5 becomes 2": as the rows close up, by the live rows before it, and by its word of the bitmap of live rows

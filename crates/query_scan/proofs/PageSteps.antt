@@ -1,8 +1,7 @@
 -- A page: what its end requires, and its answer. Assumes nothing.
-use Rattle.query_scan.proofs.Prelude.{ℕ, _+_, _-_, _≤_, _<_, min, _≡_, refl, sym, ap, ap₂, _∙_, Bool, false, cond, List, decLt, ℕ-discrete, arith, ltb, length, lt-ltb, le-ltb, splice, filter, refused, accepted, reply-refused, reply-accepted, Constraint, Header, Scan, Page, matches, deadAmong, pageRefusal, visited, nextPlace, pageIds, pageView, pageReply, PageRead, firstPlace, roomRequired, refusalOf, ScanAnswered, CanWrite, Writes, nextAt, PageClosed, idsVisited, NextPlace, None, At, PageAnswer}
+use Rattle.query_scan.proofs.Prelude.{ℕ, _+_, _-_, _≤_, _<_, min, _≡_, refl, sym, ap, ap₂, _∙_, Bool, false, cond, Option, List, decLt, ℕ-discrete, arith, ltb, length, lt-ltb, le-ltb, splice, filter, refused, accepted, reply-refused, reply-accepted, Constraint, Header, Scan, Page, matches, deadAmong, pageRefusal, visited, nextPlace, pageIds, PageReply, nextView, pageView, pageOf, PageRead, firstPlace, roomRequired, refusalOf, ScanAnswered, CanWrite, Writes, nextAt, PageClosed, idsVisited, NextPlace, None, At, PageAnswer}
 use Rattle.offsets.specs.Subsets.{Subset, size}
 use Rattle.offsets.specs.inner.RetainBuilder.{Builds}
-use Rattle.query_spec.specs.declared.Page.{Page as PageNumbers}
 use Rattle.query_spec.specs.declared.PageAnswer.the-variants.{Refused as PageIsRefused, Page as Paged}
 use Rattle.query_scan.proofs.Visits.{length-visited, visited-end, kept-few}
 
@@ -32,11 +31,11 @@ module _ (subset : Subset) (s : Scan) (output : List ℕ) where
 
 -- ---- the answer
 
-next-is : (subset : Subset) (start n next : ℕ) → start ≤ size subset → next ≡ start + min n (size subset - start) → nextAt subset next ≡ nextPlace subset start n
-unfolding nextAt nextPlace
+next-is : (subset : Subset) (start n next : ℕ) → start ≤ size subset → next ≡ start + min n (size subset - start) → nextView (nextAt subset next) ≡ nextPlace subset start n
+unfolding nextAt nextPlace nextView
 next-is subset start n next l e =
     elim (decLt (start + n) (size subset)) [
-      | yes q ↦ let m : next ≡ start + n = omega arith in ap (λ (i : ℕ). cond (ltb i (size subset)) (At i) None) m
+      | yes q ↦ let m : next ≡ start + n = omega arith in rw (m, lt-ltb (start + n) (size subset) q)
       | no q ↦
           let a : ltb next (size subset) ≡ false = le-ltb next (size subset) (omega arith) in
           let b : ltb (start + n) (size subset) ≡ false = le-ltb (start + n) (size subset) (omega arith) in
@@ -73,13 +72,13 @@ module _ (h : Header) (rows : List ℕ) (subset : Subset) (start n : ℕ) (condi
       ids : List ℕ
       ids = filter keeps (visited subset start n)
 
-      read : PageNumbers
+      read : PageReply
       read = record { written = length ids; dead = deadAmong h rows (visited subset start n); next = nextPlace subset start n }
 
       dead-is : s .refused ≡ 0 → s .dead ≡ read .dead
       dead-is z = unfold idsVisited in a .counted z .dead
 
-      goes-on : s .refused ≡ 0 → nextAt subset (s .next) ≡ nextPlace subset start n
+      goes-on : s .refused ≡ 0 → nextView (nextAt subset (s .next)) ≡ nextPlace subset start n
       goes-on z = unfold idsVisited firstPlace in
           let l : start ≤ size subset = a .within z in
           let k : length (visited subset start n) ≡ min n (size subset - start) = rw (← visited-end subset start n) (length-visited subset start (min n (size subset - start)) (omega arith)) in
@@ -87,19 +86,23 @@ module _ (h : Header) (rows : List ℕ) (subset : Subset) (start n : ℕ) (condi
 
       accepts : s .refused ≡ 0 → pageRefusal h (length rows) subset start n conditions (length output) ≡ 0 → answer ≡ Paged (record { written = length ids; dead = s .dead; next = nextAt subset (s .next) })
           → output″ ≡ splice output 0 ids → PageRead h rows subset start n conditions output answer output″
-      accepts y z p q = unfold pageReply pageIds pageView in
+      accepts y z p q = unfold pageOf pageIds pageView in
           record {
-            answers =
-                ap pageView p ∙ ap₂ (λ (d : ℕ) (m : NextPlace). accepted (record { written = length ids; dead = d; next = m })) (dead-is y) (goes-on y)
-                ∙ reply-accepted (accepted read) (pageRefusal h (length rows) subset start n conditions (length output)) read refl z;
-            unchanged = λ m. absurd (omega (arith, z, m));
-            written = λ _. q;
+            effect = record {
+              answers =
+                  ap pageView p ∙ ap₂ (λ (d : ℕ) (m : Option ℕ). accepted (record { written = length ids; dead = d; next = m })) (dead-is y) (goes-on y)
+                  ∙ reply-accepted (accepted read) (pageRefusal h (length rows) subset start n conditions (length output)) read refl z;
+              unchanged = λ m. absurd (omega (arith, z, m));
+              written = λ _. q;
+            };
           }
 
       refuses : (m : ℕ) → m ≡ pageRefusal h (length rows) subset start n conditions (length output) → (m ≡ 0 → ⊥) → answer ≡ PageIsRefused m → output″ ≡ output → PageRead h rows subset start n conditions output answer output″
-      refuses m z l p q = unfold pageReply pageIds pageView in
+      refuses m z l p q = unfold pageOf pageIds pageView in
           record {
-            answers = ap pageView p ∙ reply-refused (refused m) (pageRefusal h (length rows) subset start n conditions (length output)) m read refl z l;
-            unchanged = λ _. q;
-            written = λ e. absurd (l (z ∙ e));
+            effect = record {
+              answers = ap pageView p ∙ reply-refused (refused m) (pageRefusal h (length rows) subset start n conditions (length output)) m read refl z l;
+              unchanged = λ _. q;
+              written = λ e. absurd (l (z ∙ e));
+            };
           }

@@ -7,9 +7,8 @@ use mathlib.Core.List.{List, [], _∷_, _++_}
 use mathlib.Core.Option.{Option, none, some}
 use lib.ListN.{length, take, drop}
 use lib.Dec.{ltb}
-use Rattle.query_spec.specs.declared.Page.{Page}
 use Rattle.lists.specs.Lists.{splice, filter, count, all, any, rowAt}
-use Rattle.refusals.specs.Refusals.{Check, check, firstRefusal, Reply, refused, accepted, reply}
+use Rattle.refusals.specs.Refusals.{Check, check, firstRefusal, Reply, refused, accepted, reply, Effect}
 use Rattle.offsets.specs.declared.SubsetAnswer.{SubsetAnswer}
 use Rattle.offsets.specs.Subsets.{Subset, wellFormed, members, size, endOf, retain, narrowed}
 use Rattle.offsets.specs.Answers.{Answered}
@@ -80,23 +79,31 @@ unfoldable pub pageIds : Header → List ℕ → Subset → ℕ → ℕ → List
 pageIds h rows subset start n conditions = filter (matches h rows conditions) (visited subset start n)
 
 -- "the next place or *none*. n = 0 gives the start place back unless nothing remains"
-unfoldable pub nextPlace : Subset → ℕ → ℕ → NextPlace
-nextPlace subset start n = cond (ltb (start + n) (size subset)) (At (start + n)) None
+unfoldable pub nextPlace : Subset → ℕ → ℕ → Option ℕ
+nextPlace subset start n = cond (ltb (start + n) (size subset)) (some (start + n)) none
 
 -- "answers how many were written and the next place or *none*", and (change 1) how many of the visited ids have a dead row
-unfoldable pub pageReply : Header → List ℕ → Subset → ℕ → ℕ → List Constraint → ℕ → Reply Page
-pageReply h rows subset start n conditions output =
-    reply (pageRefusal h (length rows) subset start n conditions output)
-    (record { written = length (pageIds h rows subset start n conditions); dead = deadAmong h rows (visited subset start n); next = nextPlace subset start n })
+pub record PageReply : Type 0 where
+  pub written : ℕ
+  pub dead : ℕ
+  pub next : Option ℕ
+
+unfoldable pub pageOf : Header → List ℕ → Subset → ℕ → ℕ → List Constraint → PageReply
+pageOf h rows subset start n conditions =
+    record { written = length (pageIds h rows subset start n conditions); dead = deadAmong h rows (visited subset start n); next = nextPlace subset start n }
 
 -- the views of the answers
 unfoldable pub matchView : MatchAnswer → Reply Bool
 matchView (MatchRefused n) = refused n
 matchView (Match answer) = accepted answer
 
-unfoldable pub pageView : PageAnswer → Reply Page
+unfoldable pub nextView : NextPlace → Option ℕ
+nextView None = none
+nextView (At place) = some place
+
+unfoldable pub pageView : PageAnswer → Reply PageReply
 pageView (PageRefused n) = refused n
-pageView (Paged page) = accepted page
+pageView (Paged page) = accepted (record { written = page .written; dead = page .dead; next = nextView (page .next) })
 
 -- the contracts
 
@@ -110,7 +117,5 @@ pub record Matched (h : Header) (rows : List ℕ) (subset : Subset) (conditions 
   pub answers : matchView answer ≡ reply (matchRefusal h (length rows) subset conditions) (any (matches h rows conditions) (members subset))
 
 pub record PageRead (h : Header) (rows : List ℕ) (subset : Subset) (start n : ℕ) (conditions : List Constraint) (output : List ℕ) (answer : PageAnswer) (output′ : List ℕ) : Type 0 where
-  pub answers : pageView answer ≡ pageReply h rows subset start n conditions (length output)
-  pub unchanged : 0 < pageRefusal h (length rows) subset start n conditions (length output) → output′ ≡ output
-  pub written : pageRefusal h (length rows) subset start n conditions (length output) ≡ 0
-      → output′ ≡ splice output 0 (pageIds h rows subset start n conditions)
+  pub effect : Effect (pageRefusal h (length rows) subset start n conditions (length output)) (pageView answer) (pageOf h rows subset start n conditions)
+      output output′ (splice output 0 (pageIds h rows subset start n conditions))

@@ -15,11 +15,11 @@ use Rattle.plain_table.specs.Refusing.{storesShort, wordsShort, wrongWidth, noS
 use Rattle.plain_table.specs.Calls.{refusal, done, after, afterAll}
 use Rattle.table.specs.Stores.{entries}
 use Rattle.table.specs.Refusing.{outside, rowsShort}
-use Rattle.query_spec.specs.Queries.{matches, pastRows, queryChecks, refineRefusal, pageRefusal, refineOneReply, refineListReply, visited, nextPlace, pageIds, pageReply, deadAmong}
+use Rattle.query_spec.specs.Queries.{matches, pastRows, queryChecks, refineRefusal, pageRefusal, refineOneReply, refineListReply, visited, nextPlace, pageIds, pageOf, deadAmong}
 use Rattle.paper_examples.specs.Examples.{PaperExamples}
 
 pub paper-examples-hold : PaperExamples
-unfolding any all filter count rowAt iota above rising elem within same find firstRefusal reply isDead ruledColumn signed smaller larger taken madeCell madeFrom changesFrom ruled wellFormed members size endOf listOrNothing intersect shaped retain narrowed roomNeeded intersectRefusal intersectReply known compares met isLive meets setBelow bitmapWord liveAt liveWord newNumber rebuiltFrom rebuilt firstRow entriesFrom byKind fastRange openable wordsOf wordsAll inserts hasKey skipped compactionDue liveFrom liveRows lookup dead opened stage liveWithKey killIf withoutKey withoutRow removed below stop raised append upsert insertion insertAll applied added compacted unstaged compactsAfter merged storesShort wordsShort wrongWidth noSuchRow overfull stageChecks mergeChecks refusal done after afterAll entries outside rowsShort matches pastRows queryChecks refineRefusal pageRefusal refineOneReply refineListReply visited nextPlace pageIds pageReply deadAmong
+unfolding any all filter count rowAt iota above rising elem within same find firstRefusal reply isDead ruledColumn signed smaller larger taken madeCell madeFrom changesFrom ruled wellFormed members size endOf listOrNothing intersect shaped retain narrowed roomNeeded intersectRefusal intersectReply known compares met isLive meets setBelow bitmapWord liveAt liveWord newNumber rebuiltFrom rebuilt firstRow entriesFrom byKind fastRange openable wordsOf wordsAll inserts hasKey skipped compactionDue liveFrom liveRows lookup dead opened stage liveWithKey killIf withoutKey withoutRow removed below stop raised append upsert insertion insertAll applied added compacted unstaged compactsAfter merged storesShort wordsShort wrongWidth noSuchRow overfull stageChecks mergeChecks refusal done after afterAll entries outside rowsShort matches pastRows queryChecks refineRefusal pageRefusal refineOneReply refineListReply visited nextPlace pageIds pageOf deadAmong
 paper-examples-hold =
     record {
       a = refl;

@@ -1,20 +1,32 @@
 -- Each query's contract determines the outcome: two outcomes that both meet it, on the same input, have the same answer and the
 -- same output. So it excludes every program with another outcome. A query uses only the header and the row store, so no choice is
 -- left on any stores. Assumes nothing.
-use Rattle.query_spec.specs.Laws.Prelude.{ℕ, _≡_, sym, ap, _∙_, ⊎-elim, List, some-number, Same, Constraint, Header, MatchAnswer, Refused, Match, PageAnswer}
+use Rattle.query_spec.specs.Laws.Prelude.{ℕ, _≡_, sym, ap, _∙_, ⊎-elim, List, some-number, Same, Constraint, Header, MatchAnswer, Refused, Match, NextPlace, None, At, PageAnswer}
 use Rattle.offsets.specs.declared.SubsetAnswer.{SubsetAnswer}
 use Rattle.offsets.specs.Subsets.{Subset}
 use Rattle.offsets.specs.Laws.Subsets.{answered-determined}
 use Rattle.query_spec.specs.declared.PageAnswer.the-variants.{Refused as PageRefused, Page as Paged}
-use Rattle.query_spec.specs.Queries.{pageView, matchView, Matched, PageRead, RefinedOne, RefinedList}
+use Rattle.query_spec.specs.Queries.{nextView, PageReply, pageView, matchView, RefinedOne, RefinedList, Matched, PageRead}
 
 -- answers with the same view are equal
+next-view-injective : (a b : NextPlace) → nextView a ≡ nextView b → a ≡ b
+unfolding nextView
+next-view-injective None None e = cc
+next-view-injective None (At b) e = cc
+next-view-injective (At a) None e = cc
+next-view-injective (At a) (At b) e = cc
+
 page-view-injective : (a b : PageAnswer) → pageView a ≡ pageView b → a ≡ b
 unfolding pageView
 page-view-injective (PageRefused n) (PageRefused m) e = cc
 page-view-injective (PageRefused n) (Paged q) e = cc
 page-view-injective (Paged p) (PageRefused m) e = cc
-page-view-injective (Paged p) (Paged q) e = cc
+page-view-injective (Paged p) (Paged q) e =
+    let same-view : _≡_ {A = PageReply} (record { written = p .written; dead = p .dead; next = nextView (p .next) }) (record { written = q .written; dead = q .dead; next = nextView (q .next) }) = cc in
+    let written : p .written ≡ q .written = ap (λ (t : PageReply). t .written) same-view in
+    let dead : p .dead ≡ q .dead = ap (λ (t : PageReply). t .dead) same-view in
+    let next : p .next ≡ q .next = next-view-injective (p .next) (q .next) (ap (λ (t : PageReply). t .next) same-view) in
+    λ i. Paged (record { written = written i; dead = dead i; next = next i })
 
 match-view-injective : (a b : MatchAnswer) → matchView a ≡ matchView b → a ≡ b
 unfolding matchView
@@ -43,6 +55,6 @@ module _ {h : Header} {rows : List ℕ} {subset : Subset} where
       → PageRead h rows subset start n conditions output a output₁ → PageRead h rows subset start n conditions output b output₂ → Same a b output₁ output₂
   page-read-determined {a = a} {b = b} x y =
       record {
-        answer = page-view-injective a b (x .answers ∙ sym (y .answers));
-        cells = ⊎-elim (λ z. x .written z ∙ sym (y .written z)) (λ m. x .unchanged m ∙ sym (y .unchanged m)) (some-number _);
+        answer = page-view-injective a b (x .effect .answers ∙ sym (y .effect .answers));
+        cells = ⊎-elim (λ z. x .effect .written z ∙ sym (y .effect .written z)) (λ m. x .effect .unchanged m ∙ sym (y .effect .unchanged m)) (some-number _);
       }

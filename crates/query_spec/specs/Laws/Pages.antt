@@ -4,7 +4,7 @@ use Rattle.lists.specs.Lists.{filter, count, all, rowAt}
 use Rattle.offsets.specs.Subsets.{Subset}
 use Rattle.constraints.specs.Constraints.{met, isLive, meets}
 use Rattle.query_spec.specs.declared.PageAnswer.the-variants.{Page as Paged}
-use Rattle.query_spec.specs.Queries.{matches, deadAmong, pageRefusal, visited, nextPlace, pageIds, pageReply, pageView, PageRead}
+use Rattle.query_spec.specs.Queries.{matches, deadAmong, pageRefusal, visited, nextPlace, pageIds, nextView, PageReply, pageOf, pageView, PageRead}
 
 -- how many of these ids have a live row that fails a condition
 unfoldable pub failedAmong : Header → List ℕ → List Constraint → List ℕ → ℕ
@@ -28,24 +28,24 @@ visited-parts h rows conditions (x ∷ xs) =
 pub page-parts : (h : Header) (rows : List ℕ) (subset : Subset) (start n : ℕ) (conditions : List Constraint) (output : List ℕ) (page : Page) (output′ : List ℕ)
     → PageRead h rows subset start n conditions output (Paged page) output′
     → page .written + page .dead + failedAmong h rows conditions (visited subset start n) ≡ length (visited subset start n)
-unfolding pageReply pageIds pageView
+unfolding pageOf pageIds pageView
 page-parts h rows subset start n conditions output page output′ p =
     elim (ℕ-discrete number 0) [
       | yes z ↦
-          let same-view : _≡_ {A = Reply Page} (accepted page) (accepted read) =
-          p .answers ∙ sym (reply-accepted (accepted read) number read refl z) in
-          let same : _≡_ {A = Page} page read = cc in
-          let written : page .written ≡ read .written = ap (λ (t : Page). t .written) same in
-          let dead : page .dead ≡ read .dead = ap (λ (t : Page). t .dead) same in
+          let same-view : _≡_ {A = Reply PageReply} (accepted (record { written = page .written; dead = page .dead; next = nextView (page .next) })) (accepted read) =
+          p .effect .answers ∙ sym (reply-accepted (accepted read) number read refl z) in
+          let same : _≡_ {A = PageReply} (record { written = page .written; dead = page .dead; next = nextView (page .next) }) read = cc in
+          let written : page .written ≡ read .written = ap (λ (t : PageReply). t .written) same in
+          let dead : page .dead ≡ read .dead = ap (λ (t : PageReply). t .dead) same in
           rw (written, dead) (visited-parts h rows conditions (visited subset start n))
       | no m ↦
-          let same-view : _≡_ {A = Reply Page} (accepted page) (refused number) =
-          p .answers ∙ sym (reply-refused (refused number) number number read refl refl m) in
+          let same-view : _≡_ {A = Reply PageReply} (accepted (record { written = page .written; dead = page .dead; next = nextView (page .next) })) (refused number) =
+          p .effect .answers ∙ sym (reply-refused (refused number) number number read refl refl m) in
           cc
     ]
   where
     number : ℕ
     number = pageRefusal h (length rows) subset start n conditions (length output)
 
-    read : Page
+    read : PageReply
     read = record { written = length (filter (matches h rows conditions) (visited subset start n)); dead = deadAmong h rows (visited subset start n); next = nextPlace subset start n }
