@@ -4,5 +4,5 @@ pub use mathlib.Core.Path.{refl, sym}
 pub use borrow.Author.Needs.{needs}
 pub use Rattle.abi.specs.Encoding.{Stored}
 pub use Rattle.abi.specs.Laws.Encoding.{answers, stored-as}
-pub use Rattle.abi_listing.specs.Encoding.{encodeVerdict}
+pub use Rattle.abi_listing.specs.Encoding.{encodeFinding}
 pub use Rattle.listing_check.specs.Answers.{AnswersChecked, checkView}

@@ -3,10 +3,10 @@ ghost use mathlib.Core.Path.{_≡_};
 ghost use mathlib.Core.Bool.{true, false, not};
 ghost use lib.Dec.{eqb};
 ghost use Rattle.listing_spec.specs.Listings.{listingView, numberedView, textView, ListingRead, ListingConverted};
-ghost use Rattle.listing_check.specs.Answers.{checkView, AnswersChecked};
+ghost use Rattle.listing_check.specs.Answers.{verdictView, checkView, AnswersChecked};
 ghost use Rattle.listing_write.specs.Writing.{ListingWritten};
 ghost use Rattle.abi.specs.Encoding.{decodeHeader, encodeNumber, Stored, Answers};
-ghost use Rattle.abi_listing.specs.Encoding.{encodeVerdict};
+ghost use Rattle.abi_listing.specs.Encoding.{encodeFinding};
 use abi::decode_header;
 use constraints::Constraint;
 use listing_check::CheckAnswer;
@@ -70,7 +70,7 @@ fn store_length(answer: TextAnswer, length: &mut [u64; 1]) -> u32
 }
 
 fn encode_verdict(verdict: Verdict) -> [u64; 2]
-    ensures { λ r. ⌜ r ≡ encodeVerdict verdict ⌝ }
+    ensures { λ r. ⌜ r ≡ encodeFinding (verdictView verdict) ⌝ }
 {
     match verdict {
         Verdict::Right => [RIGHT, 0],
@@ -80,7 +80,7 @@ fn encode_verdict(verdict: Verdict) -> [u64; 2]
 }
 
 fn store_check(answer: CheckAnswer, verdict: &mut [u64; 2]) -> u32
-    ensures { λ r. ⌜ Stored checkView encodeVerdict answer (now (verdict .entry)) r (now (verdict .exit)) ⌝ }
+    ensures { λ r. ⌜ Stored checkView encodeFinding answer (now (verdict .entry)) r (now (verdict .exit)) ⌝ }
 {
     match answer {
         CheckAnswer::Refused(number) => number,
@@ -169,7 +169,7 @@ pub extern "C" fn mouldgrey_check_answers(
     given: &[u32],
     verdict: &mut [u64; 2],
 ) -> u32
-    ensures { λ r. ⌜ Answers (λ answer. AnswersChecked (now (text .entry)) (now (conditions .entry)) (now (given .entry)) answer) checkView encodeVerdict (now (verdict .entry)) r (now (verdict .exit)) ⌝ }
+    ensures { λ r. ⌜ Answers (λ answer. AnswersChecked (now (text .entry)) (now (conditions .entry)) (now (given .entry)) answer) checkView encodeFinding (now (verdict .entry)) r (now (verdict .exit)) ⌝ }
 {
     let answer = check_answers(text, conditions, given);
     store_check(answer, verdict)

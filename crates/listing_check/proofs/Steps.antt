@@ -8,7 +8,7 @@ use Rattle.listing_spec.specs.Listings.{rowNumbers}
 use Rattle.listing_parse.specs.inner.Surveys.{headOf, Listed}
 use Rattle.listing_parse.specs.Laws.Steps.{rowsFrom, none-from}
 use Rattle.listing_check.specs.declared.Row.{Row}
-use Rattle.listing_check.specs.Answers.{rightNumbers, misplaced, wrongNumbers, lowest, verdictOn, checkView, checkReply, AnswersChecked}
+use Rattle.listing_check.specs.Answers.{rightNumbers, misplaced, wrongNumbers, lowest, verdictOn, verdictView, checkView, checkReply, AnswersChecked}
 use Rattle.listing_check.specs.Laws.Verdicts.{verdictFor}
 use Rattle.listing_check.specs.inner.Scanning.{firstApart, rightAmong, unlessWrong, RowRead, rowsLeft, Underway, finishedAs, Stepped, closed}
 use Rattle.listing_check.proofs.Apart.{apart-same, apart-left, apart-right, lowest-first}
@@ -22,7 +22,7 @@ settle {given = given} p = record { whole = λ l. absurd (omega arith); due = λ
 -- ---- the beginning
 
 view-right : (o : Option ℕ) → checkView (unlessWrong (Checked Right) o) ≡ accepted (verdictFor none o)
-unfolding checkView unlessWrong Option·elim
+unfolding checkView verdictView unlessWrong Option·elim
 view-right none = refl
 view-right (some n) = refl
 
@@ -56,7 +56,7 @@ module _ (text : List ℕ) (conditions : List Constraint) (given : List ℕ) whe
 
     module _ (knows : all (known (s .columns)) conditions ≡ true) where
       pub out-of-place : {place : ℕ} → misplaced given ≡ some place → AnswersChecked text conditions given (Checked (Misplaced place))
-      unfolding checkView reply verdictOn Option·elim
+      unfolding checkView verdictView reply verdictOn Option·elim
       out-of-place e = answered (rw (knows, e))
 
       pub begin : misplaced given ≡ none → Underway (s .columns) text conditions given (record { answer = Checked Right; start = s .start; end = length text; place = 0 })

@@ -39,18 +39,30 @@ unfoldable pub lowest : List ℕ → Option ℕ
 lowest [] = none
 lowest (n ∷ ns) = some (foldl min n ns)
 
--- "It says yes" (`Right`), "or, if the list is not strictly rising, the place" (`Misplaced`); else "the lowest row number wrongly
--- present or absent" (`Wrong`)
-unfoldable pub verdictOn : List ℕ → List ℕ → Verdict
-verdictOn given right = Option·elim (misplaced given) (Option·elim (lowest (wrongNumbers given right)) Right Wrong) Misplaced
+-- the checker's answers: "It says yes"; "the place, from 0, of the first number not above the one before"; "the lowest row number wrongly
+-- present or absent"
+pub data Finding : Type 0 where
+  correct : Finding
+  outOfOrder : ℕ → Finding
+  lowestWrong : ℕ → Finding
+
+-- "or, if the list is not strictly rising, the place"; else "the lowest row number wrongly present or absent", and yes if there is none
+unfoldable pub verdictOn : List ℕ → List ℕ → Finding
+verdictOn given right = Option·elim (misplaced given) (Option·elim (lowest (wrongNumbers given right)) correct lowestWrong) outOfOrder
+
+-- the finding that each case of the enum represents
+unfoldable pub verdictView : Verdict → Finding
+verdictView Right = correct
+verdictView (Misplaced place) = outOfOrder place
+verdictView (Wrong number) = lowestWrong number
 
 -- the reply that an answer represents
-unfoldable pub checkView : CheckAnswer → Reply Verdict
+unfoldable pub checkView : CheckAnswer → Reply Finding
 checkView (Refused n) = refused n
-checkView (Checked verdict) = accepted verdict
+checkView (Checked verdict) = accepted (verdictView verdict)
 
 -- "After 11 comes 6, as for any condition"
-unfoldable pub checkReply : Option Listing → List Constraint → List ℕ → Reply Verdict
+unfoldable pub checkReply : Option Listing → List Constraint → List ℕ → Reply Finding
 checkReply listing conditions given =
     Option·elim listing (refused 11) (λ l. reply (firstRefusal (check (not (all (known (getD (l .head) 0 0)) conditions)) 6 ∷ [])) (verdictOn given (rightNumbers conditions l)))
 

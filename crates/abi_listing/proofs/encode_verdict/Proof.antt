@@ -1,11 +1,12 @@
 -- `abi_listing::encode_verdict` meets its contract. Assumes nothing.
-use Rattle.abi_listing.specs.Encoding.{encodeVerdict}
+use Rattle.listing_check.specs.Answers.{verdictView}
+use Rattle.abi_listing.specs.Encoding.{encodeFinding}
 use borrow.Author.Needs.{needs}
 use Rattle.abi_listing.proofs.encode_verdict.Statement.{statement}
 use Rattle.abi_listing.proofs.encode_verdict.Tie as tie
 
 pub encode-verdict-spec : {M : Type 1} → statement M
-unfolding encodeVerdict
+unfolding verdictView encodeFinding
 encode-verdict-spec =
     tie.close
     (tie.spec

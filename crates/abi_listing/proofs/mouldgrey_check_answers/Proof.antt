@@ -1,6 +1,6 @@
 -- `abi_listing::mouldgrey_check_answers` meets its contract: a manual proof over its MIR. The shared borrows are passed on whole;
 -- ownership of the verdict passes to `store_check`. Assumes nothing.
-use Rattle.abi_listing.proofs.Prelude.{refl, [], _∷_, checkView, AnswersChecked, Stored, encodeVerdict}
+use Rattle.abi_listing.proofs.Prelude.{refl, [], _∷_, checkView, AnswersChecked, Stored, encodeFinding}
 use Rattle.manual_proofs.proofs.Prelude.{named, w32, emp, ftrue, fsep, Shares, factI, keep, uint-lawful, u8, u64, now, ptr-vals, slice-vals, heard, id⊢, Lfts, _$_, !, move, u32, typesAt, enum-lawful, cited}
 use Rattle.constraints.proofs.Constraint as CT
 use Rattle.listing_check.proofs.CheckAnswer as AT
@@ -37,7 +37,7 @@ mouldgrey-check-answers-spec 𝓤 H 𝓜 𝓖 𝓡 =
     move ! (4 ∷ 3 ∷ []) $ owns-in ! (_ ∷ _ ∷ []) $ move ! (4 ∷ []) $ tokens-in ! 1 (κs .1 .1 .1 .0, tt) (qs .1 .1 .1 .0, tt) $
     -- [the verdict's token; what the storing call requires; the locals; the check's tokens and last values]
     answers ! fm sto.ended (sto.clauses 𝓤 H A mem run) (known .1) (((κs .1 .1 .1 .0, tt), (qs .1 .1 .1 .0, tt), tt, (r, (z, tt)), (rv ∷ [], (ptr-vals z, tt))), tt) (id⊢ 𝓤 _) refl (uint-lawful 𝓤 H A W w32) (λ v t. t .0) tt (λ tv t zs is.
-    move ! (4 ∷ []) $ heard ! (Stored checkView encodeVerdict r (now z) t (zs .1 .0)) (λ stored. leaves ! refl tt $
+    move ! (4 ∷ []) $ heard ! (Stored checkView encodeFinding r (now z) t (zs .1 .0)) (λ stored. leaves ! refl tt $
     -- [the verdict's token and last words; the result; the check's tokens and last values]
     tokens-out ! 1 (κs .1 .1 .1 .0, tt) (qs .1 .1 .1 .0, tt) $ move ! (3 ∷ []) $ tokens-out ! 3 κs′ qs′ $ move ! (3 ∷ 0 ∷ 1 ∷ 2 ∷ []) $ tokens-in ! 4 κs qs $
     move ! (1 ∷ []) $ skips ! 1 (fsep (FinalArray u64 2 z (zs .1 .0)) ftrue) $ pads ! 3 $ keep ! (1 ∷ 0 ∷ 2 ∷ []) $

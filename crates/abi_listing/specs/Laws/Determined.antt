@@ -15,7 +15,7 @@ use Rattle.listing_write.specs.Writing.{ListingWritten}
 use Rattle.listing_write.specs.Laws.Determined.{written-determined}
 use Rattle.abi.specs.Encoding.{encodeNumber, Answers}
 use Rattle.abi.specs.Laws.Determined.{SameOutcome, answers-determined}
-use Rattle.abi_listing.specs.Encoding.{encodeVerdict}
+use Rattle.abi_listing.specs.Encoding.{encodeFinding}
 
 module _ {words words₁ words₂ : List ℕ} {r₁ r₂ : ℕ} (text : List ℕ) where
   module _ (output output₁ output₂ : List ℕ) where
@@ -32,8 +32,8 @@ module _ {words words₁ words₂ : List ℕ} {r₁ r₂ : ℕ} (text : List ℕ
         → Answers (λ a. ListingConverted numbered text output a output₂) textView encodeNumber words r₂ words₂ → SameOutcome textView (λ x y. Same x y output₁ output₂) r₁ r₂ words₁ words₂
     convert-determined numbered = answers-determined (λ x y. library.convert-determined)
 
-  pub check-answers-determined : (conditions : List Constraint) (given : List ℕ) → Answers (λ a. AnswersChecked text conditions given a) checkView encodeVerdict words r₁ words₁
-      → Answers (λ a. AnswersChecked text conditions given a) checkView encodeVerdict words r₂ words₂ → SameOutcome checkView (λ x y. x ≡ y) r₁ r₂ words₁ words₂
+  pub check-answers-determined : (conditions : List Constraint) (given : List ℕ) → Answers (λ a. AnswersChecked text conditions given a) checkView encodeFinding words r₁ words₁
+      → Answers (λ a. AnswersChecked text conditions given a) checkView encodeFinding words r₂ words₂ → SameOutcome checkView (λ x y. x ≡ y) r₁ r₂ words₁ words₂
   check-answers-determined conditions given = answers-determined (λ x y. checked-determined)
 
 module _ {words words₁ words₂ : List ℕ} {r₁ r₂ : ℕ} (numbered : Bool) (h : Header) (rows output output₁ output₂ : List ℕ) where

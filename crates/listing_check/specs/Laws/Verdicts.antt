@@ -3,10 +3,8 @@ use Rattle.listing_check.specs.Laws.Prelude.{ℕ, _≡_, refl, _∙_, in
 use mathlib.Core.Option.{Option·elim}
 use Rattle.lists.specs.Lists.{filter, all, above, rising}
 use Rattle.listing_spec.specs.Listings.{Listing, rowNumbers, isListing}
-use Rattle.listing_check.specs.Answers.{rightNumbers, misplaced, wrongNumbers, lowest, verdictOn}
+use Rattle.listing_check.specs.Answers.{rightNumbers, misplaced, wrongNumbers, lowest, Finding, correct, outOfOrder, lowestWrong, verdictOn}
 use Rattle.listing_check.specs.Laws.Numbers.{Apart, wrong-none, wrong-some, wrong-same, FirstNotAbove, misplaced-none, misplaced-rising, misplaced-some, misplaced-at}
-use Rattle.listing_check.specs.declared.Verdict.{Verdict}
-use Rattle.listing_check.specs.declared.Verdict.the-variants.{Right, Misplaced, Wrong}
 
 -- ---- the right numbers rise
 
@@ -38,23 +36,23 @@ right-rising conditions l e =
 -- ---- the cases of a verdict
 
 -- by the place of the first number out of place, and by the lowest wrong number
-abbrev pub verdictFor : Option ℕ → Option ℕ → Verdict
-verdictFor o w = Option·elim o (Option·elim w Right Wrong) Misplaced
+abbrev pub verdictFor : Option ℕ → Option ℕ → Finding
+verdictFor o w = Option·elim o (Option·elim w correct lowestWrong) outOfOrder
 
-finding-right : (o w : Option ℕ) → verdictFor o w ≡ Right → (o ≡ none) × (w ≡ none)
+finding-right : (o w : Option ℕ) → verdictFor o w ≡ correct → (o ≡ none) × (w ≡ none)
 unfolding Option·elim
 finding-right none none e = (refl, refl)
 finding-right none (some m) e = absurd (let z : _≡_ {A = ℕ} 0 1 = cc in omega arith)
 finding-right (some m) w e = absurd (let z : _≡_ {A = ℕ} 0 1 = cc in omega arith)
 
 module _ (n : ℕ) where
-  finding-wrong : (o w : Option ℕ) → verdictFor o w ≡ Wrong n → w ≡ some n
+  finding-wrong : (o w : Option ℕ) → verdictFor o w ≡ lowestWrong n → w ≡ some n
   unfolding Option·elim
   finding-wrong none none e = absurd (let z : _≡_ {A = ℕ} 0 1 = cc in omega arith)
   finding-wrong none (some m) e = cc
   finding-wrong (some m) w e = absurd (let z : _≡_ {A = ℕ} 0 1 = cc in omega arith)
 
-  finding-misplaced : (o w : Option ℕ) → verdictFor o w ≡ Misplaced n → o ≡ some n
+  finding-misplaced : (o w : Option ℕ) → verdictFor o w ≡ outOfOrder n → o ≡ some n
   unfolding Option·elim
   finding-misplaced none none e = absurd (let z : _≡_ {A = ℕ} 0 1 = cc in omega arith)
   finding-misplaced none (some m) e = absurd (let z : _≡_ {A = ℕ} 0 1 = cc in omega arith)
@@ -62,7 +60,7 @@ module _ (n : ℕ) where
 
 module _ (given right : List ℕ) where
   -- "It says yes exactly if those numbers are, rising and each once, the rows .. that meet every condition"
-  pub right-exactly : rising right ≡ true → (verdictOn given right ≡ Right → given ≡ right) × (given ≡ right → verdictOn given right ≡ Right)
+  pub right-exactly : rising right ≡ true → (verdictOn given right ≡ correct → given ≡ right) × (given ≡ right → verdictOn given right ≡ correct)
   unfolding verdictOn
   right-exactly rises = (
     λ e.
@@ -72,20 +70,20 @@ module _ (given right : List ℕ) where
   )
 
   -- "the lowest row number wrongly present or absent"
-  pub wrong-lowest : {number : ℕ} → verdictOn given right ≡ Wrong number → Apart given right number
+  pub wrong-lowest : {number : ℕ} → verdictOn given right ≡ lowestWrong number → Apart given right number
   unfolding verdictOn
   wrong-lowest {number} e = wrong-some given right (finding-wrong number (misplaced given) (lowest (wrongNumbers given right)) e)
 
   -- "the place, from 0, of the first number not above the one before"
-  pub misplaced-first : {place : ℕ} → verdictOn given right ≡ Misplaced place → FirstNotAbove given place
+  pub misplaced-first : {place : ℕ} → verdictOn given right ≡ outOfOrder place → FirstNotAbove given place
   unfolding verdictOn
   misplaced-first {place} e = misplaced-some given (finding-misplaced place (misplaced given) (lowest (wrongNumbers given right)) e)
 
-  pub first-misplaced : {place : ℕ} → FirstNotAbove given place → verdictOn given right ≡ Misplaced place
+  pub first-misplaced : {place : ℕ} → FirstNotAbove given place → verdictOn given right ≡ outOfOrder place
   unfolding verdictOn
   first-misplaced {place} f = rw (misplaced-at given f) (unfold Option·elim in refl)
 
 -- the same for a listing
 pub yes-exactly : (conditions : List Constraint) (l : Listing) (given : List ℕ) → isListing true l ≡ true
-    → (verdictOn given (rightNumbers conditions l) ≡ Right → given ≡ rightNumbers conditions l) × (given ≡ rightNumbers conditions l → verdictOn given (rightNumbers conditions l) ≡ Right)
+    → (verdictOn given (rightNumbers conditions l) ≡ correct → given ≡ rightNumbers conditions l) × (given ≡ rightNumbers conditions l → verdictOn given (rightNumbers conditions l) ≡ correct)
 yes-exactly conditions l given e = right-exactly given (rightNumbers conditions l) (right-rising conditions l e)
