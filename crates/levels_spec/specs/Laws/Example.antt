@@ -47,5 +47,5 @@ output =
     ∷ []
 
 pub example : printed input ≡ output
-unfolding printed session linesIn prependToFirst input output flatten all same count filter iota find elem firstRefusal reply isDead ruledColumn signed smaller larger taken madeCell madeFrom changesFrom ruled known rebuiltFrom rebuilt firstRow entriesFrom byKind fastRange openable wordsOf wordsAll inserts hasKey skipped compactionDue storesShort wordsShort wrongWidth noSuchRow overfull openRefusal stageChecks mergeChecks liveFrom liveRows lookup dead opened stage liveWithKey killIf withoutKey withoutRow removed below stop raised append upsert insertion insertAll applied added compacted unstaged compactsAfter merged refusal done after entries fields valueFrom isDecimal isLine letter numbers isForm ofForms digitsIn decimal field textLine replied openNumber opens calls queries mergeText fastSubsetOf fastAmong rangeText versionText listText listingText headLetter tableListing fromNumbered served onTable Option·elim result lineResult
+unfolding printed session linesIn prependToFirst input output flatten all same count filter iota find elem firstRefusal reply isDead ruledColumn signed smaller larger taken madeCell madeFrom changesFrom ruled known rebuiltFrom rebuilt firstRow entriesFrom byKind fastRange openable wordsOf wordsAll inserts hasKey skipped compactionDue storesShort wordsShort wrongWidth noSuchRow overfull openRefusal stageChecks mergeChecks liveFrom liveRows lookup dead opened stage liveWithKey killIf withoutKey withoutRow removed below stop raised append upsert insertion insertAll applied added compacted unstaged compactsAfter merged refusal done after entries fields valueFrom isDecimal isLine letter numbers isForm ofForms digitsIn decimal field textLine replied openNumber opens calls queries mergeText fastSubsetOf fastAmong rangeText listText listingText headLetter tableListing fromNumbered served Option·elim result lineResult
 example = refl

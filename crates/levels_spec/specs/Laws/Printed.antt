@@ -162,7 +162,7 @@ abbrev pub listLine : Bool → List ℕ
 listLine numbered = cond numbered 85 76 ∷ []
 
 line-lists : (numbered : Bool) (p : Plain) → lineResult programLengths (some p) (listLine numbered) ≡ printing (listText numbered p) (some p)
-unfolding lineResult ofForms isLine isForm elem fields prependToFirst letter numbers all isDecimal result onTable Option·elim served queries replied
+unfolding lineResult ofForms isLine isForm elem fields prependToFirst letter numbers all isDecimal result Option·elim served queries replied
 line-lists true p = refl
 line-lists false p = refl
 
