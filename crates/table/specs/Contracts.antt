@@ -1,5 +1,6 @@
--- The contracts of the entry points, on every input and on a table that shows a plain table. A function's `ensures` is the record
--- that is named after its operation, over the lent stores before and after the call; a history of calls consists of these records.
+-- The contracts of the entry points: what holds on every input, and what holds on stores that represent a plain table. A function's
+-- `ensures` is the record that is named after its operation, over the lent stores before and after the call; a history of calls
+-- consists of these records.
 -- A store without a primed name is lent shared, or not lent, and does not change. First come the stores as records, and when they
 -- represent a plain table (`Represents`). Assumes nothing.
 use Prim.Native.Nat.{ℕ, _+_, _*_, _/_, _<_}
@@ -10,7 +11,7 @@ use mathlib.Core.Option.{Option, none, some, Option·map}
 use lib.ListN.{length, drop, getD}
 use lib.Dec.{eqb}
 use Rattle.lists.specs.Lists.{splice, rowsOf}
-use Rattle.refusals.specs.Refusals.{Reply, refused, accepted, reply, outcome}
+use Rattle.refusals.specs.Refusals.{accepted, reply, outcome}
 use Rattle.offsets.specs.Subsets.{Subset, range}
 use Rattle.constraints.specs.declared.Constraint.{Constraint}
 use Rattle.sort_entries.specs.Entries.{Entry, entriesOf, entriesSound, fastRange}
@@ -60,7 +61,7 @@ bodyOf s = body (s .rows) (s .keys) (s .sorts)
 abbrev pub joined : Header → Body → List ℕ → Stores
 joined h b pending = stores h (b .rows) (b .keys) (b .sorts) pending
 
--- the bitmap words of live rows, and the numbers that belong to them
+-- the compaction words: for each 64 rows a word that marks the live ones, and the new number of the first of them
 pub record CompactionWords : Type 0 where
   pub live : List ℕ
   pub base : List ℕ
@@ -76,34 +77,37 @@ lengths rows keys sorts pending live base =
 abbrev pub lengthsLent : Stores → CompactionWords → Lengths
 lengthsLent s w = lengths (s .rows) (s .keys) (s .sorts) (s .pending) (w .live) (w .base)
 
--- The header and stores represent a plain table: they show it cell by cell (`Shows`), calls lead to it (`Proper`), and the key
--- store leads to its live rows (`KeysSound`). `Sound` is the paper's word and is defined on stores alone. The two agree: stores
--- whose generation is a u32, as it always is in a header, are sound exactly if they represent some plain table (Laws/Sound).
+-- The header and stores represent a plain table: they show its rows (`Shows`), it has the properties of every plain table that calls
+-- lead to (`Proper`), and the key store leads to its live rows (`KeysSound`). `Sound` is the paper's word and is defined on stores
+-- alone. The two agree: stores whose generation is a u32, as it always is in a header, are sound exactly if they represent some plain
+-- table (Laws/Sound).
 pub record Represents (p : Plain) (s : Stores) : Type 0 where
   pub proper : Proper p
   pub long-enough : storesShort (p .opening) (lengths (s .rows) (s .keys) (s .sorts) (s .pending) [] []) ≡ false
   pub shown : Shows p (s .header) (s .rows) (s .sorts) (s .pending)
   pub keys-sound : KeysSound (indexShapeOf (s .header)) (s .rows) (s .keys)
 
--- Cells past the first n are unchanged. Key slots past 2 × capacity and compaction words past those needed are never written.
+-- The cells past the first n are unchanged: key slots past 2 × capacity and compaction words past those needed are never written.
 abbrev pub SamePast : ℕ → List ℕ → List ℕ → Type 0
 SamePast n cells cells′ = drop n cells′ ≡ drop n cells
 
 abbrev pub WordsPast : ℕ → CompactionWords → CompactionWords → Type 0
 WordsPast capacity w w′ = SamePast ((capacity + 63) / 64) (w .live) (w′ .live) × SamePast ((capacity + 63) / 64) (w .base) (w′ .base)
 
--- Choices of the program: the contracts require only that the key store is sound and that no slot past it is written. They require
--- nothing of the compaction words needed after a compaction.
+-- Choices of the program: the contracts require only that the key store is sound and that no slot past it is written. After a
+-- compaction they require nothing of the compaction words that it needs.
 
 -- *Open*: lent rows, keys, sort entries and pending; all but keys are lent shared, so they do not change
-pub record Opened (o : Opening) (generation : ℕ) (b : Body) (pending : List ℕ) (answer : TableAnswer) (keys′ : List ℕ) : Type 0 where
-  pub answers : tableView answer ≡ reply (openRefusal o (lengths (b .rows) (b .keys) (b .sorts) pending [] [])) (headerOf (opened o generation))
-  pub unchanged : 0 < openRefusal o (lengths (b .rows) (b .keys) (b .sorts) pending [] []) → keys′ ≡ b .keys
-  pub past : SamePast (2 * o .capacity) (b .keys) keys′
-  pub represents : openRefusal o (lengths (b .rows) (b .keys) (b .sorts) pending [] []) ≡ 0
-      → Represents (opened o generation) (stores (headerOf (opened o generation)) (b .rows) keys′ (b .sorts) pending)
+abbrev pub openingRefusal : Opening → Body → List ℕ → ℕ
+openingRefusal o b pending = openRefusal o (lengths (b .rows) (b .keys) (b .sorts) pending [] [])
 
--- *Stage*: lent pending. The contract holds for any table, since the call reads only the header and the pending store.
+pub record Opened (o : Opening) (generation : ℕ) (b : Body) (pending : List ℕ) (answer : TableAnswer) (keys′ : List ℕ) : Type 0 where
+  pub answers : tableView answer ≡ reply (openingRefusal o b pending) (headerOf (opened o generation))
+  pub unchanged : 0 < openingRefusal o b pending → keys′ ≡ b .keys
+  pub past : SamePast (2 * o .capacity) (b .keys) keys′
+  pub represents : openingRefusal o b pending ≡ 0 → Represents (opened o generation) (stores (headerOf (opened o generation)) (b .rows) keys′ (b .sorts) pending)
+
+-- *Stage*: lent pending. The contract holds for any table, since the call reads only the header and the length of the pending store.
 abbrev pub withPending : Header → ℕ → Header
 withPending h pending = header (openingOf h) (h .rows) (h .dead) (h .entries) pending (h .generation) (h .largest)
 
@@ -113,7 +117,7 @@ pub record Staging (h : Header) (pending : List ℕ) (r : Staged) (answer : Tabl
   pub written : stageRefusal h (length pending) r ≡ 0 → pending′ ≡ splice pending (h .pending) (recordWords (h .keys) r)
 
 -- *Merge*: lent all stores and compaction words; pending is lent shared. The paper's refusals 8 and 9 stop a merge that was
--- accepted: `status` has them. The contract holds for every plain table that the stores show; these differ only in cells of dead
+-- accepted: `status` has them. The contract holds for every plain table that the stores represent; these differ only in cells of dead
 -- rows, and nothing in the contract depends on those cells.
 abbrev pub mergeOf : Plain → Merge
 mergeOf p =
@@ -171,8 +175,8 @@ module _ (h : Header) (keys : List ℕ) (answer : TableAnswer) (keys′ : List �
     pub table : clearRefusal h (length keys) ≡ 0
         → (rows sorts pending : List ℕ) (p : Plain) → Represents p (stores h rows keys sorts pending) → ClearedTable rows sorts pending p
 
--- *Key lookup, one cell*: lent rows and keys. The lookup uses only these, as a plain table of these rows. The key store must be
--- sound, and live keys must differ. "No live row is *none*"
+-- *Key lookup, one cell*: lent rows and keys. The contract takes the rows in the store as a plain table (`ofRows`). It assumes that the
+-- key store is sound and that live keys differ. "No live row is *none*"
 abbrev pub ofRows : Header → List ℕ → Plain
 ofRows h rows = record { opening = openingOf h; generation = h .generation; rows = rowsIn h rows; staged = []; largest = largestView (h .largest) }
 

@@ -29,7 +29,7 @@ use Rattle.table.specs.declared.SoundAnswer.the-variants.{Refused as Sou
 abbrev pub openingOf : Header → Opening
 openingOf h = record { columns = h .columns; keys = h .keys; sort = h .sort; rule = h .rule; capacity = h .capacity }
 
--- the largest sort value appended, "and whether there is one": read from a header, and as a header has it
+-- the largest sort value appended, "and whether there is one": `largestView` reads it from a header's field, `largestOf` makes that field
 unfoldable pub largestView : Largest → Option ℕ
 largestView NoLargest = none
 largestView (Value v) = some v

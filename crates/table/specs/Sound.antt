@@ -25,7 +25,7 @@ abbrev pub KeysDiffer : Header → List ℕ → Type 0
 KeysDiffer h rows = (i j : ℕ) → LiveAt (indexShapeOf h) rows i → LiveAt (indexShapeOf h) rows j
     → keyAt (indexShapeOf h) rows i ≡ keyAt (indexShapeOf h) rows j → i ≡ j
 
--- The part of soundness that is about the contents of a table: everything but the lengths of its stores and the key store.
+-- The part of soundness that is about the contents of a table: all but tests 1 and 2 and the key store.
 pub record SoundContents (h : Header) (rows sorts pending : List ℕ) (staged : List Staged) : Type 0 where
   -- "its dead count is the number of dead rows"
   pub dead-counted : h .dead ≡ count (λ row. not (isLive row)) (rowsOf (h .columns) (h .rows) rows)
