@@ -18,9 +18,9 @@ compactHash full = full / 2 ^ 57 * 2 ^ 25 + full % 2 ^ 25
 abbrev pub probed : ℕ → ℕ
 probed hash = hash + hash / 2 ^ 25 * 2 ^ 57
 
--- Adds one cell to the hash. The hash so far, the cell and an odd constant near the golden section of 2 ^ 32 are added. The sum is
--- multiplied by itself with its halves exchanged. The product's upper part, one bit wider than its lower half, is added to the
--- lower half. A product of a number with itself tends to spread keys at even distances; a product with a constant does not. The
+-- Adds one cell to the hash. The hash so far, the cell and an odd constant near 2 ^ 32 divided by the golden ratio are added. The
+-- sum is multiplied by a second number: the sum with its two halves exchanged. The product's upper part, one bit wider than its lower
+-- half, is added to the lower half. A product of a number with itself tends to spread keys at even distances; a product with a constant does not. The
 -- extra bit tends to keep multiples of a divisor of 2 ^ 32 - 1 apart.
 unfoldable pub mixed : ℕ → ℕ → ℕ
 mixed hash cell =
@@ -29,7 +29,6 @@ mixed hash cell =
     (product / 2 ^ 31 + product % 2 ^ 32) % 2 ^ 32
 
 -- "any hash of the key cells alone will do": ours has 32 bits, repeated in both halves of the 64, so that the compact hash has all of
--- them. Only Cells/Hash.antt, which has laws and no definition to believe, unfolds this
--- one; no other proof depends on which hash it is.
+-- them. Only the laws in Cells/Hash.antt unfold this definition; no other proof depends on which hash it is.
 pub keyHash : List ℕ → ℕ
 keyHash key = foldl mixed 0 key * (2 ^ 32 + 1)

@@ -22,13 +22,14 @@ compares kind cell value =
     (cond (eqb kind 2) (ltb cell value)
     (cond (eqb kind 3) (ltb value cell) (cond (eqb kind 4) (leb cell value) (leb value cell))))
 
+-- a row meets a condition. "Kind 0: two columns equal"
 unfoldable pub met : List ℕ → Constraint → Bool
 met row c =
     cond (eqb (c .kind) 0)
     (eqb (getD row (c .column) 0) (getD row (c .value) 0))
     (compares (c .kind) (getD row (c .column) 0) (c .value))
 
--- a row is dead if its first cell is the dead mark
+-- a row is live if its first cell is not the dead mark
 unfoldable pub isLive : List ℕ → Bool
 isLive row = not (isDead (getD row 0 0))
 

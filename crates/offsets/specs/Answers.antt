@@ -28,8 +28,8 @@ written (refused n) = []
 written (accepted (range start end)) = []
 written (accepted (list ids)) = ids
 
--- The answer encodes the reply: the caller decodes the reply from it, the output has all the ids that it counts, and "output beyond
--- the ids written is unchanged".
+-- The answer and the output hold the reply: decoded by `subsetView` they are the reply, a list's ids all lie in the output, and "output
+-- beyond the ids written is unchanged".
 pub record Answered (r : Reply Subset) (output : List ℕ) (answer : SubsetAnswer) (output′ : List ℕ) : Type 0 where
   pub answers : subsetView answer output′ ≡ r
   pub inside : (n : ℕ) → answer ≡ Ids n → n ≤ length output′

@@ -24,7 +24,7 @@ members (list ids) = ids
 unfoldable pub size : Subset → ℕ
 size subset = length (members subset)
 
--- the end that test 5 reads: "range end or last id plus one"; 0 for an empty list
+-- the end that test 5 compares with the row count: "range end or last id plus one"; 0 for an empty list
 unfoldable pub endOf : Subset → ℕ
 endOf (range start end) = end
 endOf (list []) = 0

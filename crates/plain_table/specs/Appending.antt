@@ -9,7 +9,7 @@ use lib.Dec.{ltb, eqb}
 use Rattle.plain_table.specs.Plain.{Plain, applied, raised}
 use Rattle.plain_table.specs.Calls.{Call, staging, merging, compacting, clearing, refreshing, feeding, LentCall, refusal, after}
 
--- the cells of the rows that a merge appends, stopped or not: before its compaction they are located behind the rows that were there.
+-- the cells of the rows that a merge appends, stopped or not: before its compaction they are the rows past those that were there before.
 -- Each accepted insert changes nothing or appends one row (laws `insertion-appended`, `appended-count`).
 unfoldable pub mergeAppends : Plain → List (List ℕ)
 mergeAppends p = map (λ row. row .cells) (drop (length (p .rows)) (applied p .table .rows))
@@ -23,7 +23,7 @@ mergeOrClear clearing merge clear other = clear
 mergeOrClear (refreshing r index) merge clear other = other
 mergeOrClear (feeding rs) merge clear other = other
 
--- the same for a call on a plain table; the third value too if the call is refused
+-- the same for a call on a plain table; a refused call has the third value
 unfoldable pub byCall : {A : Type 0} → Plain → LentCall → A → A → A → A
 byCall p c merge clear other = cond (eqb (refusal p (c .lengths) (c .call)) 0) (mergeOrClear (c .call) merge clear other) other
 

@@ -35,11 +35,12 @@ with p generation rows staged largest =
 abbrev pub withRows : Plain → List Row → Plain
 withRows p rows = with p (p .generation) rows (p .staged) (p .largest)
 
--- the observable content: the live rows in rising order, with number and cells
+-- a row with its number
 pub record Numbered : Type 0 where
   pub number : ℕ
   pub cells : List ℕ
 
+-- the live rows in rising order, numbered from n on; of a plain table (`liveRows`), its observable content
 unfoldable pub liveFrom : ℕ → List Row → List Numbered
 liveFrom n [] = []
 liveFrom n (row ∷ rows) =
@@ -48,7 +49,7 @@ liveFrom n (row ∷ rows) =
 unfoldable pub liveRows : Plain → List Numbered
 liveRows p = liveFrom 0 (p .rows)
 
--- "a key .. its one live row", if there is one
+-- the live row of a key, if there is one: "from a key .. to its one live row"
 unfoldable pub lookup : Plain → List ℕ → Option Numbered
 lookup p key = find (λ row. hasKey (p .opening .keys) key (row .cells)) (liveRows p)
 
@@ -187,7 +188,7 @@ mergeKeeps p = let m = applied p in cond (compactsAfter (m .status) (m .table)) 
 unfoldable pub mergeDrops : Plain → ℕ
 mergeDrops p = let m = applied p in cond (compactsAfter (m .status) (m .table)) (dead (m .table)) 0
 
--- Clear: "Unless refused, empties pending; with rows, the rest too, and the generation rises by one". With rows, only the opening's
--- numbers and the generation remain; without rows, the largest value remains too.
+-- Clear: "Unless refused, empties pending; with rows, the rest too, and the generation rises by one". With rows, only the
+-- opening's numbers remain, and the generation rises by one. Without rows, all but the staged records remains, the largest value too.
 unfoldable pub cleared : Plain → Plain
 cleared p = cond (ltb 0 (length (p .rows))) (opened (p .opening) (p .generation + 1)) (unstaged p)

@@ -1,4 +1,4 @@
--- The invariant of plain tables: it holds after any calls from an opening whose generation is a u32. Assumes nothing.
+-- The invariant of plain tables: it holds after any calls from an accepted opening whose generation is a u32. Assumes nothing.
 use Prim.Native.Nat.{ℕ, _≤_, _<_}
 use mathlib.Core.Path.{_≡_}
 use mathlib.Core.Bool.{Bool, true, false, not, _||_}

@@ -19,23 +19,23 @@ pub data Reply (A : Type 0) : Type 0 where
   refused : ℕ → Reply A
   accepted : A → Reply A
 
--- refused if the number is not 0
+-- refused with the number if it is not 0, else accepted with the value
 unfoldable pub reply : {A : Type 0} → ℕ → A → Reply A
 reply zero value = accepted value
 reply (suc n) value = refused (suc n)
 
--- whether a reply is refused, and with which number; forgets its value (`Unit {0}` is the type that has only `tt`)
+-- a reply without its value: whether it is refused, and with which number (`Unit {0}` is the type whose only value is `tt`)
 unfoldable pub outcome : {A : Type 0} → Reply A → Reply (Unit {0})
 outcome (refused n) = refused n
 outcome (accepted value) = accepted tt
 
--- a function of the value of an accepted reply; the other result if it is refused
+-- f of the value if the reply is accepted, `other` if it is refused
 unfoldable pub ifAccepted : {A B : Type 0} → Reply A → (A → B) → B → B
 ifAccepted (refused n) f other = other
 ifAccepted (accepted value) f other = f value
 
--- What a call that writes one lent store answers and leaves in it: refused, the number of the refusal and the store as it was;
--- accepted, the value and the store `after`.
+-- The effect of a call that writes one lent store. If `refusal` is not 0, the call answers this number and the store is unchanged. If
+-- it is 0, the call answers `value` and the store holds `after`.
 pub record Effect {A B : Type 0} (refusal : ℕ) (answer : Reply A) (value : A) (store store′ after : B) : Type 0 where
   pub answers : answer ≡ reply refusal value
   pub unchanged : 0 < refusal → store′ ≡ store

@@ -7,7 +7,7 @@ use mathlib.Core.List.{List, [], _∷_}
 use lib.ListN.{take}
 use Rattle.lists.specs.Lists.{count}
 
--- "the count of ones below its bit": the number of set digits of `word` below position `bit`
+-- "the count of ones below its bit": the number of ones among the bits of `word` below `bit`
 unfoldable pub setBelow : ℕ → ℕ → ℕ
 setBelow word zero = 0
 setBelow word (suc bit) = setBelow word bit + word / 2 ^ bit % 2

@@ -35,7 +35,7 @@ rebuiltFrom row (some largest) (value ∷ values) =
     (entry value row ∷ rebuiltFrom (suc row) (some value) values)
     (rebuiltFrom (suc row) (some largest) values)
 
--- the same, numbered from 0. After a compaction all rows are live, so that its entries are "rebuilt from live rows"
+-- the same for rows numbered from 0. After a compaction all rows are live, so these are then the entries "rebuilt from live rows"
 unfoldable pub rebuilt : List ℕ → List Entry
 rebuilt values = rebuiltFrom 0 none values
 
@@ -75,8 +75,8 @@ valueAt row [] = 0
 valueAt row (e ∷ []) = e .value
 valueAt row (e ∷ (f ∷ es)) = cond (leb (f .row) row) (valueAt row (f ∷ es)) (e .value)
 
--- "sort entries rise strictly, lie below the row count and begin at row 0 where there is a row": without an entry the row count is
--- 0
+-- "sort entries rise strictly, lie below the row count and begin at row 0 where there is a row": if there are no entries,
+-- `firstRow` is the row count, which must then be 0
 unfoldable pub entriesSound : List Entry → ℕ → Bool
 entriesSound es rows =
     rising (map (λ e. e .value) es)
