@@ -28,7 +28,7 @@ use Rattle.table_compact.specs.inner.Compaction.{Lendable, Compaction}
 use Rattle.merge.specs.inner.Parts.{Applying, finishedAs, Finishing}
 use Rattle.table.specs.Laws.Refusals.{inside-full-shape, Mergeable, merge-accepted}
 use Rattle.table.specs.Laws.Opening.{unstaged-represents}
-use Rattle.merge.specs.Laws.Merging.{passes-table, stopped-not, due-not, due-compacts, compacted-rows, compacted-generation, merged-table}
+use Rattle.merge.specs.Laws.Merging.{passes-table, stopped-not, due-not, due-compacts, compacted-rows, compaction-raises-generation, merged-table}
 
 -- ---- a compaction is due
 
@@ -165,7 +165,7 @@ module _ (m : MergeProgress) (before : ℕ) (rows keys sorts live base : List �
               rows-after = rw e (k .rows-after);
               sorts-after = rw e (k .sorts-after);
               represents = rw e (k .represents);
-              words = λ g. absurd (compacted-generation p (rw e at g));
+              words = λ g. absurd (compaction-raises-generation p (rw e at g));
             };
       }
 

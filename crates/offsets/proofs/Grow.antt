@@ -18,7 +18,7 @@ use Rattle.offsets.specs.declared.SubsetAnswer.the-variants.{Range, List
 use Rattle.offsets.specs.Subsets.{range, list, shaped}
 use Rattle.offsets.specs.Answers.{Answered}
 use Rattle.offsets.specs.inner.RetainBuilder.{pushed, Builds, NextId, CanAdd, Adds, BuilderBegins, BuilderEnds}
-use Rattle.offsets.specs.Laws.Subsets.{answered-range, answered-list, shaped-list, shaped-iota}
+use Rattle.offsets.specs.Laws.Subsets.{range-writes-nothing, answered-list, shaped-list, shaped-iota}
 
 -- ---- neighbouring ids
 
@@ -231,7 +231,7 @@ ended-range g d =
             | yes q ↦ unfold iota in ap (λ (k : ℕ). shaped (iota (g .start) k)) q ∙ shaped-nil ∙ ap₂ range (sym (r .none q)) (omega (arith, r .none q))
             | no q ↦ shaped-iota (g .start) (g .count) (omega (arith, q))
           ] in
-          rw (e, r .unwritten) (answered-range (g .start) (g .start + g .count) output₀);
+          rw (e, r .unwritten) (range-writes-nothing (g .start) (g .start + g .count) output₀);
     }
 
 pub ended-list : (g : RetainBuilder) → (g .written ≡ 0 → ⊥) → BuilderEnds g (Ids (g .count))

@@ -1,5 +1,5 @@
 -- The reply that each answer encodes. Assumes nothing.
-use Rattle.offsets_intersect.proofs.Prelude.{ℕ, zero, suc, _≤_, _<_, min, max, _≡_, refl, sym, _∙_, Bool, true, false, _&&_, List, [], _∷_, arith, leb, length, lt-leb, le-leb, filter, within, splice-nil, and-left, and-right, length-filter, count-le, Refused, Range, subsetOf, Answered, roomNeeded, intersectRefusal, intersectReply, Wrote, Fitting, Searchable, common, answered-refused as refused-answered, refusal-first, refusal-second, refusal-none, Allowed, allowed, dense-is, sparse-is, answered-range, answered-list, formed-order, formed-rising, formed-short}
+use Rattle.offsets_intersect.proofs.Prelude.{ℕ, zero, suc, _≤_, _<_, min, max, _≡_, refl, sym, _∙_, Bool, true, false, _&&_, List, [], _∷_, arith, leb, length, lt-leb, le-leb, filter, within, splice-nil, and-left, and-right, length-filter, count-le, Refused, Range, subsetOf, Answered, roomNeeded, intersectRefusal, intersectReply, Wrote, Fitting, Searchable, common, answered-refused as refused-answered, refusal-first, refusal-second, refusal-none, Allowed, allowed, dense-is, sparse-is, range-writes-nothing, answered-list, formed-order, formed-rising, formed-short}
 use Rattle.refusals.specs.Refusals.{refused, accepted, reply}
 use Rattle.offsets.specs.declared.SubsetHead.{SubsetHead}
 use Rattle.offsets.specs.declared.SubsetAnswer.{SubsetAnswer}
@@ -10,7 +10,7 @@ use Rattle.offsets.specs.Subsets.{Subset, range, list, wellFormed, listOrNothin
 
 pub answered-none : (ids output : List ℕ) (n : ℕ) (output′ : List ℕ) → Wrote output ids n output′ → n ≡ 0 → Answered (accepted (listOrNothing ids)) output (Range 0 0) output′
 unfolding listOrNothing
-answered-none [] output n output′ w e = rw (w .cells ∙ splice-nil output 0) (answered-range 0 0 output)
+answered-none [] output n output′ w e = rw (w .cells ∙ splice-nil output 0) (range-writes-nothing 0 0 output)
 answered-none (x ∷ xs) output n output′ w e = absurd (let k = w .number in omega arith)
 
 pub answered-some : (ids output : List ℕ) (n : ℕ) (output′ : List ℕ) → Wrote output ids n output′ → (n ≡ 0 → ⊥) → Answered (accepted (listOrNothing ids)) output (Ids n) output′
@@ -68,7 +68,7 @@ module _ (a b c d : ℕ) (output : List ℕ) where
       → Answered (intersectReply (range a b) (range c d) (length output)) output (Range (max a c) (max (max a c) (min b d))) output
   ranges-answered h i =
       let e = refusal-none (range a b) (range c d) (length output) (rw (← formed-answer a b) (le-leb a b h)) (rw (← formed-answer c d) (le-leb c d i)) (no-room a b c d (length output)) in
-      rw (replied (range a b) (range c d) (length output) (sym e), intersect-answer a b c d) (answered-range _ _ output)
+      rw (replied (range a b) (range c d) (length output) (sym e), intersect-answer a b c d) (range-writes-nothing _ _ output)
 
 -- ---- by kind: the output length needed, the preconditions, and the reply
 

@@ -21,7 +21,7 @@ unfoldable pub use Rattle.lists.specs.Lists.{filter, elem}
 pub use Rattle.offsets.specs.Answers.{subsetOf, Answered, intersectRefusal}
 unfoldable pub use Rattle.offsets.specs.Answers.{roomNeeded, intersectReply}
 pub use Rattle.offsets.specs.Laws.Answers.{answered-refused, refusal-first, refusal-second, refusal-none, Allowed, allowed, refusal-room}
-pub use Rattle.offsets.specs.Laws.Subsets.{dense-is, sparse-is, answered-range, answered-list, formed-order, formed-rising, formed-short}
+pub use Rattle.offsets.specs.Laws.Subsets.{dense-is, sparse-is, range-writes-nothing, answered-list, formed-order, formed-rising, formed-short}
 pub use Rattle.offsets.specs.declared.SubsetAnswer.the-variants.{Refused, Range}
 pub use Rattle.offsets.specs.inner.Writing.{Wrote}
 pub use Rattle.offsets_intersect.specs.inner.Blocks.{Lacks, Apart, ApartAt, SkippedTo, MergedTo}

@@ -5,7 +5,7 @@ use Rattle.offsets.specs.declared.retain.RetainBuilder.{RetainBuilder}
 use Rattle.offsets.specs.Subsets.{Subset, range, list, members, size, retain, narrowed}
 use Rattle.offsets.specs.Answers.{subsetOf, Answered}
 use Rattle.offsets.specs.inner.RetainBuilder.{Builds, BuilderEnds}
-use Rattle.offsets.specs.Laws.Subsets.{dense-is, sparse-is, formed-order, length-members, answered-range, answered-list}
+use Rattle.offsets.specs.Laws.Subsets.{dense-is, sparse-is, formed-order, length-members, range-writes-nothing, answered-list}
 use Rattle.offsets.specs.Laws.Forms.{length-range, getD-range, narrowed-all, narrowed-some, narrowed-list}
 use Rattle.offsets.specs.declared.SubsetAnswer.{SubsetAnswer}
 use Rattle.offsets.specs.declared.SubsetAnswer.the-variants.{Refused, Range, List as Ids}
@@ -262,7 +262,7 @@ module _ (head : SubsetHead) (s : Scan) (output : List ℕ) where
             let d = dense-is head ids (whole-range head (s .found) e) in
             let k = rw d at grows in
             let all-hold = all-kept test (head .start) (head .end) output₀ output (s .found) k (whole-count head (s .found) e) in
-            rw (d, narrowed-all test (head .start) (head .end) all-hold, all-unwritten test (head .start) (head .end) output₀ output (s .found) k all-hold) (answered-range (head .start) (head .end) output₀);
+            rw (d, narrowed-all test (head .start) (head .end) all-hold, all-unwritten test (head .start) (head .end) output₀ output (s .found) k all-hold) (range-writes-nothing (head .start) (head .end) output₀);
       }
 
   pub closed-list : (n : ℕ) (output′ : List ℕ) → s .refused ≡ 0 → whole head (s .found) ≡ false → Writes output (s .found) n output′ → RefineClosed head s output (Ids n) output′

@@ -7,7 +7,6 @@ use mathlib.Core.Path.{_≡_}
 use mathlib.Core.List.{List, [], _∷_, map}
 use Rattle.refusals.specs.Refusals.{accepted, reply, outcome}
 use Rattle.plain_table.specs.Staged.{Opening}
-use Rattle.plain_table.specs.Refusing.{openRefusal}
 use Rattle.plain_table.specs.Plain.{Plain, opened}
 use Rattle.plain_table.specs.Calls.{Call, LentCall, after}
 use Rattle.plain_table.specs.Appending.{mergeOrClear}
@@ -15,7 +14,7 @@ use Rattle.table.specs.declared.Header.{Header}
 use Rattle.table.specs.declared.TableAnswer.{TableAnswer}
 use Rattle.table.specs.declared.TableAnswer.the-variants.{Table}
 use Rattle.table.specs.Numbers.{tableView}
-use Rattle.table.specs.Contracts.{Stores, Body, stores, joined, CompactionWords, lengths, lengthsLent, WordsPast, Opened}
+use Rattle.table.specs.Contracts.{Stores, Body, stores, joined, CompactionWords, lengthsLent, WordsPast, openingRefusal, Opened}
 use Rattle.replay.specs.Requests.{Request, lentTo, ServedAll}
 
 -- how many compactions these calls make on a plain table, in merges and by compaction calls: each raises the generation by 1, as a
@@ -41,6 +40,6 @@ module _ (o : Opening) (generation : ℕ) (requests : List Request) (b : Body) (
 
   pub record Replayed (answer : TableAnswer) (b′ : Body) (pending′ : List ℕ) (w′ : CompactionWords) (index′ : List ℕ) : Type 0 where
     -- if the opening is refused, no request is executed and nothing changes; otherwise all are executed
-    pub refusal : outcome (tableView answer) ≡ reply (openRefusal o (lengths (b .rows) (b .keys) (b .sorts) pending [] [])) tt
-    pub unchanged : 0 < openRefusal o (lengths (b .rows) (b .keys) (b .sorts) pending [] []) → (b′ ≡ b) × (pending′ ≡ pending) × (w′ ≡ w) × (index′ ≡ index)
+    pub refusal : outcome (tableView answer) ≡ reply (openingRefusal o b pending) tt
+    pub unchanged : 0 < openingRefusal o b pending → (b′ ≡ b) × (pending′ ≡ pending) × (w′ ≡ w) × (index′ ≡ index)
     pub calls-made : (h : Header) → tableView answer ≡ accepted h → MadeFrom (joined h b′ pending′) w′ index′

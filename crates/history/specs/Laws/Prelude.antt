@@ -38,7 +38,7 @@ pub use Rattle.plain_table.specs.Staged.{Opening, Staged, insert}
 pub use Rattle.refresh_spec.specs.Index.{Current, IndexOf, IndexSound, generationSeen, isNew, lookedUp}
 pub use Rattle.refresh_spec.specs.Laws.Decided.{index-decided}
 pub use Rattle.refresh_spec.specs.Laws.Fronts.{continues, generation-front, index-front, index-more, named-count, new-front}
-pub use Rattle.refresh_spec.specs.Laws.Keeps.{fed-accepted, fed-refused, fed-written, found-records, number, passed, records-all, records-whole, refresh-checks, refreshing-done, refreshing-refused, view-accepted, view-refused}
+pub use Rattle.refresh_spec.specs.Laws.Keeps.{fed-accepted, fed-refused, fed-written, found-records, number, passed, records-all, records-whole, refresh-refusal-same, refreshing-done, refreshing-refused, view-accepted, view-refused}
 pub use Rattle.refresh_spec.specs.Laws.Lookup.{lookup-holding, names-of}
 pub use Rattle.refresh_spec.specs.Refreshes.{Refreshing, refreshView}
 pub use Rattle.refresh_spec.specs.declared.RefreshAnswer.{RefreshAnswer}

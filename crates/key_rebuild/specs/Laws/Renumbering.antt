@@ -20,7 +20,7 @@ use Rattle.key_index.specs.declared.IndexShape.{IndexShape}
 use Rattle.key_index.specs.Slots.{LiveAt, keyAt, slots, word, home, slotFrom, ReachableAt, KeysSound}
 use Rattle.key_index.specs.Laws.Ring.{word-row, word-same, word-some, names-none, names-word, slot-below}
 use Rattle.key_index.specs.Laws.Lines.{Small}
-use Rattle.key_rebuild.specs.inner.Renumbering.{liveBelow, Renamed, Renumbered, newRow, renumbered}
+use Rattle.key_rebuild.specs.inner.Renumbering.{liveBelow, RenumberedBy, Renumbered, newRow, renumbered}
 
 -- a free slot remains free
 pub renumbered-free : (t : IndexShape) (live base : List ℕ) (w : ℕ) → w ≡ 0 → renumbered t live base w ≡ 0
@@ -51,7 +51,7 @@ pub record Renames (t : IndexShape) (rows : List ℕ) (t′ : IndexShape) (rows�
   pub back : (k : ℕ) → LiveAt t′ rows′ k → (i : ℕ) × LiveAt t rows i × (new i ≡ k)
 
 module _ (t : IndexShape) (rows : List ℕ) (t′ : IndexShape) (rows′ store : List ℕ) (new : ℕ → ℕ) (r : Renames t rows t′ rows′ new) where
-  module _ (m : Small t) (few : t′ .rows ≤ t′ .room) (s : KeysSound t rows store) (after : List ℕ) (a : Renamed t rows store new after) where
+  module _ (m : Small t) (few : t′ .rows ≤ t′ .room) (s : KeysSound t rows store) (after : List ℕ) (a : RenumberedBy t rows store new after) where
     new-small : (i : ℕ) → LiveAt t rows i → new i ≤ 65536
     new-small i l = omega (arith, r .forth i l .0, few, r .room, m .room)
 

@@ -18,14 +18,14 @@ abbrev pub liveBelow : IndexShape → List ℕ → ℕ → ℕ
 liveBelow t rows i = count isLive (rowsOf (t .columns) i rows)
 
 -- each live row's word has a new number, and free slots remain free
-pub record Renamed (t : IndexShape) (rows store : List ℕ) (new : ℕ → ℕ) (store′ : List ℕ) : Type 0 where
+pub record RenumberedBy (t : IndexShape) (rows store : List ℕ) (new : ℕ → ℕ) (store′ : List ℕ) : Type 0 where
   pub free : (slot : ℕ) → slot < slots t → getD store slot 0 ≡ 0 → getD store′ slot 0 ≡ 0
   pub taken : (slot i : ℕ) → slot < slots t → LiveAt t rows i → getD store slot 0 ≡ word (keyAt t rows i) i
       → getD store′ slot 0 ≡ word (keyAt t rows i) (new i)
 
 -- a sound store gets the numbers that a compaction assigns
 pub record Renumbered (t : IndexShape) (rows store store′ : List ℕ) : Type 0 where
-  pub numbers : KeysSound t rows store → Renamed t rows store (liveBelow t rows) store′
+  pub numbers : KeysSound t rows store → RenumberedBy t rows store (liveBelow t rows) store′
   pub rest : drop (slots t) store′ ≡ drop (slots t) store
 
 -- "a row's new number is that plus the count of ones below its bit"

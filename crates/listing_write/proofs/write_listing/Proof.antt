@@ -1,6 +1,6 @@
 -- `listing_write::write_listing` meets its contract. Assumes nothing.
 use Rattle.listing_write.proofs.Prelude.{sym, _∙_, arith, needs}
-use Rattle.listing_write.specs.Laws.Lines.{stored-rows}
+use Rattle.listing_write.specs.Laws.Lines.{checked-rows-stored}
 use Rattle.listing_write.proofs.Steps.{refused-outside, refused-rows, refused-output, written-all}
 use Rattle.listing_write.proofs.write_listing.Statement.{statement}
 use Rattle.listing_write.proofs.write_listing.Tie as tie
@@ -11,7 +11,7 @@ returns-2 c =
 
 text-length-requires : tie.Need-text-length-requires
 text-length-requires c κs =
-    stored-rows _ _ (sym (c .before .before .before .is-outside .ensures) ∙ c .before .before .if1 .left) (sym (c .before .is-rows-short .ensures) ∙ c .if2 .left)
+    checked-rows-stored _ _ (sym (c .before .before .before .is-outside .ensures) ∙ c .before .before .if1 .left) (sym (c .before .is-rows-short .ensures) ∙ c .if2 .left)
 
 returns-3 : tie.Need-returns-3
 returns-3 c =
@@ -20,7 +20,7 @@ returns-3 c =
 
 put-text-requires : tie.Need-put-text-requires
 put-text-requires c κs = (
-  stored-rows _ _ (sym (c .before .before .before .before .before .before .is-outside .ensures) ∙ c .before .before .before .before .before .if1 .left) (sym (c .before .before .before .before .is-rows-short .ensures) ∙ c .before .before .before .if2 .left),
+  checked-rows-stored _ _ (sym (c .before .before .before .before .before .before .is-outside .ensures) ∙ c .before .before .before .before .before .if1 .left) (sym (c .before .before .before .before .is-rows-short .ensures) ∙ c .before .before .before .if2 .left),
   omega (arith, c .before .before .text-length .ensures, c .before .if3 .left),
 )
 

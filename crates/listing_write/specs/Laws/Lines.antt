@@ -29,9 +29,9 @@ unfolding storedText listingText headLine
 stored-lines numbered h rows = rw (listing-lines numbered (openingOf h) (h .generation) (rowsIn h rows), length-rowsIn h rows) (unfold rowsIn in rw (live-lines numbered (h .columns) 0 (h .rows) rows))
 
 -- what checks 1 and 2 establish
-pub stored-rows : (h : Header) (rows : List ℕ) → outside h ≡ false → rowsShort h (length rows) ≡ false → Stored h rows
+pub checked-rows-stored : (h : Header) (rows : List ℕ) → outside h ≡ false → rowsShort h (length rows) ≡ false → Stored h rows
 unfolding rowsShort
-stored-rows h rows e f =
+checked-rows-stored h rows e f =
     let i = outside-inside h e in
     let long = ltb-false (length rows) (h .capacity * h .columns) f in
     record {

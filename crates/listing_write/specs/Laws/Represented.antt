@@ -10,7 +10,7 @@ use Rattle.table.specs.Refusing.{outside, rowsShort}
 use Rattle.table.specs.Stores.{rowsIn}
 use Rattle.listing_spec.specs.Listings.{Listing, listingText, areNumbers, ParsesAs}
 use Rattle.listing_write.specs.Writing.{tableListing, storedText, writeRefusal}
-use Rattle.listing_write.specs.Laws.Lines.{stored-rows}
+use Rattle.listing_write.specs.Laws.Lines.{checked-rows-stored}
 use Rattle.listing_write.specs.Laws.Listed.{liveFits, table-listed}
 
 -- the listing of a header and a row store
@@ -67,7 +67,7 @@ module _ (numbered : Bool) (h : Header) (rows : List ℕ) (e : outside h ≡ fal
       let i = outside-inside h e in
       let each = rowsOf (h .columns) (h .rows) rows in
       table-listed (openingOf h) (h .generation) (rowsIn h rows) (i .bounds) generation (omega (arith, length-rowsIn h rows, i .rows-fit))
-      (unfold rowsIn in map-every (λ row. eqb (length (row .cells)) (h .columns)) rowOfCells each (rowsOf-widths (h .columns) (h .rows) rows (stored-rows h rows e f .stored)))
+      (unfold rowsIn in map-every (λ row. eqb (length (row .cells)) (h .columns)) rowOfCells each (rowsOf-widths (h .columns) (h .rows) rows (checked-rows-stored h rows e f .stored)))
       (unfold rowsIn in map-every (λ row. not (row .live) || not (isDead (getD (row .cells) 0 0))) rowOfCells each (every-all (λ c. not (isLive c) || not (isDead (getD c 0 0))) live-first each))
       (unfold rowsIn in map-every liveFits rowOfCells each (all-more areNumbers (λ c. not (isLive c) || areNumbers c) (λ c q. or-right (not (isLive c)) (areNumbers c) q) each (rows-fit (h .columns) (h .rows) rows cells)))
       numbered

@@ -75,9 +75,9 @@ unfolding liveCount unstaged
 compacted-rows p = compacted-live (unstaged p)
 
 -- a compaction changes the generation
-pub compacted-generation : (p : Plain) → compacted (unstaged p) .generation ≡ p .generation → ⊥
+pub compaction-raises-generation : (p : Plain) → compacted (unstaged p) .generation ≡ p .generation → ⊥
 unfolding compacted unstaged
-compacted-generation p e = omega arith
+compaction-raises-generation p e = omega arith
 
 -- ---- the whole
 

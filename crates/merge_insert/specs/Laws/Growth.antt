@@ -1,6 +1,6 @@
 -- A row is appended to the rows of a plain table, of which one may have died: the stores after that, and that they represent the
 -- table with the row. Assumes nothing.
-use Rattle.merge_insert.specs.Laws.Prelude.{ℕ, _+_, _*_, _≤_, _<_, _≡_, refl, sym, ap, ap₂, _∙_, true, cond, not, List, [], _∷_, _++_, map, append-nil, map-append, add-zero, suc-mul, add-one, arith, length, take, drop, getD, set, length-append, length-map, length-set, List·getD-append, drop-drop, drop-set-lt, count-append, length-splice, splice-start, row-in, length-rowsOf, getD-rowsOf, rowsOf-appended, flatten-rowsOf, flatten-append, KeysSound, stale-rows, Entry, entriesOf, entryWords, rebuilt, push, rebuilt-snoc, length-entriesOf, Proper, rowOf, noRow, liveRow, live-below, raised-same, openable-bounds, Header, Value, indexShapeOf, Stores, stores, lengths, Represents, Later, Becomes, withCounts, Entered, grownTo, largestView-largestOf, stored-again, long-stores, stored-rows, represents-long, rows-stored, rows-counted, killAt, length-killAt, killAt-cells, killAt-live, entries-killAt, stored-killAt}
+use Rattle.merge_insert.specs.Laws.Prelude.{ℕ, _+_, _*_, _≤_, _<_, _≡_, refl, sym, ap, ap₂, _∙_, true, cond, not, List, [], _∷_, _++_, map, append-nil, map-append, add-zero, suc-mul, add-one, arith, length, take, drop, getD, set, length-append, length-map, length-set, List·getD-append, drop-drop, drop-set-lt, count-append, length-splice, splice-start, row-in, length-rowsOf, getD-rowsOf, rowsOf-appended, flatten-rowsOf, flatten-append, KeysSound, stale-rows, Entry, entriesOf, entryWords, rebuilt, push, rebuilt-snoc, length-entriesOf, Proper, rowOf, noRow, liveRow, live-below, raised-same, openable-bounds, Header, Value, indexShapeOf, Stores, stores, lengths, Represents, Later, Becomes, withCounts, Entered, grownTo, largestView-largestOf, stored-again, long-stores, checked-rows-stored, represents-long, rows-stored, rows-counted, killAt, length-killAt, killAt-cells, killAt-live, entries-killAt, stored-killAt}
 use Rattle.lists.specs.Lists.{splice, count, rowsOf, flatten}
 use Rattle.plain_table.specs.Plain.{Row, Plain, withRows, withRow, dead}
 use Rattle.table.specs.Numbers.{largestOf}
@@ -205,7 +205,7 @@ module _ {p : Plain} {s : Stores} (r : Represents p s) {kept : List Row} {base :
                 shown =
                     record {
                       header = rw dead-is grown-header;
-                      rows-shown = stored-rows (grownTo (s .header) d n (getD cells (s .header .sort) 0)) rows′ proper (rw rows-same (long .rows-long)) (rw dead-is grown-header) (rw rows-is grown-shown);
+                      rows-shown = checked-rows-stored (grownTo (s .header) d n (getD cells (s .header .sort) 0)) rows′ proper (rw rows-same (long .rows-long)) (rw dead-is grown-header) (rw rows-is grown-shown);
                       entries-shown = entries-grown;
                       pending-held = r .shown .pending-held;
                     };

@@ -30,7 +30,7 @@ pub use Rattle.sort_entries.specs.Laws.Push.{lastPasses, push, rebuilt-snoc}
 pub use Rattle.sort_entries.specs.Laws.Stores.{length-entriesOf, words-entriesOf}
 pub use Rattle.sort_entries.specs.inner.Append.{Append, EntryFits, append-few}
 pub use Rattle.table.specs.Contracts.{Represents, Stores, lengths, stores}
-pub use Rattle.table.specs.Laws.Shown.{long-stores, represents-long, rows-counted, rows-stored, stored-rows}
+pub use Rattle.table.specs.Laws.Shown.{long-stores, represents-long, rows-counted, rows-stored, checked-rows-stored}
 pub use Rattle.table.specs.Laws.Sound.{largestView-largestOf}
 pub use Rattle.table.specs.Laws.Stored.{stored-again}
 pub use Rattle.table.specs.Numbers.{largestView}

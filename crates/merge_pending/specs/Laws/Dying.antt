@@ -1,6 +1,6 @@
 -- One row of a plain table dies: which row a removal removes, and the stores after that. Shared by the removals and by the insert
 -- of a known key. Assumes nothing.
-use Rattle.merge_pending.specs.Laws.Prelude.{ℕ, zero, suc, _+_, _*_, _≤_, _<_, _≡_, refl, sym, ap, ap₂, _∙_, _⊎_, inl, inr, true, false, cond, not, false≢true, List, [], _∷_, _++_, add-one, arith, length, take, getD, set, length-set, length-take, drop-set-lt, map-set-same, not-true, split, all-getD, all-of, all-head, all-tail, splice-front, row-in, flatten-rowsOf, getD-rowsOf, length-rowsOf, LiveAt, keyAt, KeysSound, stale-rows, Entry, entryWords, rebuilt, removeKey, removeRow, Proper, rowOf, noRow, Thinned, empty, same-row, died, thinned-same, freeRow, keysDistinct, keysDistinct-of, keysDistinct-head, keysDistinct-tail, live-below, liveWithKey-live, liveWithKey-key, openable-bounds, thinned-proper, Header, indexShapeOf, Stores, stores, lengths, Represents, Later, Becomes, withCounts, withDead, stored-again, rows-in, long-stores, stored-rows, represents-long, rows-stored, rows-counted, passes-live, live-passes}
+use Rattle.merge_pending.specs.Laws.Prelude.{ℕ, zero, suc, _+_, _*_, _≤_, _<_, _≡_, refl, sym, ap, ap₂, _∙_, _⊎_, inl, inr, true, false, cond, not, false≢true, List, [], _∷_, _++_, add-one, arith, length, take, getD, set, length-set, length-take, drop-set-lt, map-set-same, not-true, split, all-getD, all-of, all-head, all-tail, splice-front, row-in, flatten-rowsOf, getD-rowsOf, length-rowsOf, LiveAt, keyAt, KeysSound, stale-rows, Entry, entryWords, rebuilt, removeKey, removeRow, Proper, rowOf, noRow, Thinned, empty, same-row, died, thinned-same, freeRow, keysDistinct, keysDistinct-of, keysDistinct-head, keysDistinct-tail, live-below, liveWithKey-live, liveWithKey-key, openable-bounds, thinned-proper, Header, indexShapeOf, Stores, stores, lengths, Represents, Later, Becomes, withCounts, withDead, stored-again, rows-in, long-stores, checked-rows-stored, represents-long, rows-stored, rows-counted, passes-live, live-passes}
 use Rattle.lists.specs.Lists.{splice, count, all, rowAt, rowsOf, flatten}
 use Rattle.plain_table.specs.Plain.{Row, Plain, deadRow, withRows, dead, liveWithKey, killIf, withoutKey, dies, withoutRow}
 use Rattle.table.specs.Stores.{entries, headerOf, marked, stored, rowStore, sortStore}
@@ -213,7 +213,7 @@ module _ {p : Plain} {s : Stores} (r : Represents p s) (i : ℕ) (live : rowOf p
         shown =
             record {
               header = header;
-              rows-shown = stored-rows (withDead (s .header) (s .header .dead + 1)) rows (dying-proper i (r .proper)) fit header dying-shown;
+              rows-shown = checked-rows-stored (withDead (s .header) (s .header .dead + 1)) rows (dying-proper i (r .proper)) fit header dying-shown;
               entries-shown = r .shown .entries-shown ∙ sym (entries-killAt p i);
               pending-held = r .shown .pending-held;
             };

@@ -30,7 +30,7 @@ pub use Rattle.sort_entries.specs.Laws.Stores.{length-words, words-entriesOf}
 pub use Rattle.table.specs.Contracts.{Represents, Stores, lengths, stores}
 pub use Rattle.table.specs.Laws.Lookup.{live-passes, passes-live}
 pub use Rattle.table.specs.Laws.Pending.{length-recordWords}
-pub use Rattle.table.specs.Laws.Shown.{entries-few, live-cells, long-stores, represents-long, rows-counted, rows-in, rows-stored, stored-rows, wide-rows}
+pub use Rattle.table.specs.Laws.Shown.{entries-few, live-cells, long-stores, represents-long, rows-counted, rows-in, rows-stored, checked-rows-stored, wide-rows}
 pub use Rattle.table.specs.Laws.Sound.{getD-sortCells, length-sortCells, sortCells}
 pub use Rattle.table.specs.Laws.Stored.{length-stored, stored-again, stored-at-dead, stored-at-live, stored-at-new, stored-widths}
 pub use Rattle.table.specs.Numbers.{openingOf}

@@ -31,8 +31,8 @@ as-the-machine cell =
     ]
 
 -- "from minus 2147483648 to 2147483647"
-pub at-least : (cell : ℕ) → negsuc 2147483647 ≤ℤ signed cell
-at-least cell =
+pub signed-at-least : (cell : ℕ) → negsuc 2147483647 ≤ℤ signed cell
+signed-at-least cell =
     elim (decLt cell 2147483648) [
       | yes h ↦ subst (λ (z : ℤ). negsuc 2147483647 ≤ℤ z) (sym (not-negative cell h)) (leZ-yes tt)
       | no h ↦

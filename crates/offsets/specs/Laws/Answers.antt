@@ -7,7 +7,7 @@ use Rattle.offsets.specs.declared.SubsetAnswer.{SubsetAnswer}
 use Rattle.offsets.specs.declared.SubsetAnswer.the-variants.{Refused, Range, List as Ids}
 use Rattle.offsets.specs.Subsets.{Subset, range, list, wellFormed, members, listOrNothing, intersect}
 use Rattle.offsets.specs.Answers.{subsetView, written, roomNeeded, Answered, intersectRefusal, intersectReply}
-use Rattle.offsets.specs.Laws.Subsets.{members-intersect, answered-range, answered-list}
+use Rattle.offsets.specs.Laws.Subsets.{members-intersect, range-writes-nothing, answered-list}
 
 -- ---- decoding an answer, by its form
 
@@ -69,7 +69,7 @@ answered-fits (suc n) v output answer output′ m fit k e = absurd (let f = rw e
 pub answer-to : (r : Reply Subset) (output : List ℕ) → (answer : SubsetAnswer) × Answered r output answer (splice output 0 (written r))
 unfolding written
 answer-to (refused n) output = (Refused n, rw (splice-nil output 0) (answered-refused n output))
-answer-to (accepted (range start end)) output = (Range start end, rw (splice-nil output 0) (answered-range start end output))
+answer-to (accepted (range start end)) output = (Range start end, rw (splice-nil output 0) (range-writes-nothing start end output))
 answer-to (accepted (list ids)) output = (Ids (length ids), answered-list ids output (length ids) _ (record { number = refl; cells = refl }))
 
 -- ---- *Intersect*: its checks one by one

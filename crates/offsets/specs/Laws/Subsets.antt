@@ -208,9 +208,9 @@ wellFormed-narrowed test (list ids) p h = rw (narrowed-list test ids) (formed-fi
 
 -- ---- answers
 
-pub answered-range : (a b : ℕ) (output : List ℕ) → Answered (accepted (range a b)) output (Range a b) output
+pub range-writes-nothing : (a b : ℕ) (output : List ℕ) → Answered (accepted (range a b)) output (Range a b) output
 unfolding subsetView written
-answered-range a b output = record { answers = refl; inside = λ k e. absurd (let z : _≡_ {A = ℕ} 0 1 = cc in omega arith); writes = sym (splice-nil output 0) }
+range-writes-nothing a b output = record { answers = refl; inside = λ k e. absurd (let z : _≡_ {A = ℕ} 0 1 = cc in omega arith); writes = sym (splice-nil output 0) }
 
 put-long : (l w : List ℕ) → length w ≤ length (splice l 0 w)
 unfolding splice

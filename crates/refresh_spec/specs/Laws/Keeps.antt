@@ -1,6 +1,6 @@
 -- The table after a refresh, from its contract alone. "The table stays sound whatever it holds", of the index store. Over a sound
 -- index store the refresh stages what the plain table stages. Assumes nothing.
-use Rattle.refresh_spec.specs.Laws.Prelude.{ℕ, _+_, _*_, _≤_, _<_, _≡_, sym, _∙_, inl, inr, Bool, true, List, [], map, ltb, eqb, length, ltb-false, or-no-left, or-no-right, splice-nil, split, filter-all, all-of, all-filter-of, some-number, Staged, wordsAll, firstRefusal-no, firstRefusal-rest, Whole, openable-bounds, live-wide, refreshed-whole, Header, openingOf, recordWords, Stores, stores, bodyOf, joined, Represents, ofRows, reply-refused, reply-accepted, header-inside, largestView-largestOf, live-shown, records-represent, SoundTable, sound-table, shows-plain, RefreshAnswer}
+use Rattle.refresh_spec.specs.Laws.Prelude.{ℕ, _+_, _*_, _≤_, _<_, _≡_, sym, _∙_, inl, inr, Bool, true, List, [], map, ltb, eqb, length, ltb-false, or-no-left, or-no-right, splice-nil, split, filter-all, all-of, all-filter-of, some-number, Staged, wordsAll, firstRefusal-no, firstRefusal-rest, Whole, openable-bounds, live-wide, refreshed-whole, Header, openingOf, recordWords, Stores, stores, bodyOf, joined, Represents, ofRows, reply-refused, reply-accepted, header-inside, largestView-largestOf, live-shown, records-represent, SoundTable, represented-sound-table, shows-plain, RefreshAnswer}
 use Rattle.lists.specs.Lists.{splice, flatten}
 use Rattle.refusals.specs.Refusals.{refused, accepted, firstRefusal, ifAccepted}
 use Rattle.plain_table.specs.Plain.{Plain, liveRows}
@@ -34,11 +34,11 @@ refresh-accepted h rows pending index r records e =
 
 -- the checks on a header give the same refusal as those on the plain table that it shows, if the records are the same whenever the
 -- row store lent is long enough
-pub refresh-checks : {p : Plain} {s : Stores} → Represents p s → (l : Lengths) (index : ℕ) (q : Refresh) (records : List Staged)
+pub refresh-refusal-same : {p : Plain} {s : Stores} → Represents p s → (l : Lengths) (index : ℕ) (q : Refresh) (records : List Staged)
     → (s .header .capacity * s .header .columns ≤ l .rows → records ≡ recordsOf p q)
     → refreshRefusal (s .header) (l .rows) (l .pending) index q records ≡ refusal p l (refreshing q index)
 unfolding refreshRefusal refusal refreshChecks pendingOutside firstRefusal
-refresh-checks {p} {s} r l index q records same =
+refresh-refusal-same {p} {s} r l index q records same =
     elim (split (ltb (l .rows) (s .header .capacity * s .header .columns))) [
       | inl e ↦ let f = rw (r .shown .header) at e in rw (r .shown .header, header-inside (r .proper), f)
       | inr e ↦ rw (same (ltb-false _ _ e), r .shown .header, header-inside (r .proper), largestView-largestOf (p .largest))
@@ -122,6 +122,6 @@ pub refreshing-keeps : {s : Stores} {index pending′ index′ : List ℕ} {q : 
     → SoundTable s → SoundTable (joined (ifAccepted (refreshView answer) (λ a. a .header) (s .header)) (bodyOf s) pending′)
 refreshing-keeps m t =
     elim (some-number (number m)) [
-      | inl none ↦ sound-table (refreshing-done m none (shows-plain t .1))
+      | inl none ↦ represented-sound-table (refreshing-done m none (shows-plain t .1))
       | inr some ↦ rw (refreshing-refused m some) t
     ]

@@ -32,7 +32,7 @@ pub use Rattle.refusals.specs.Laws.Determined.{Same}
 pub use Rattle.refusals.specs.Laws.Replies.{some-number}
 pub use Rattle.refusals.specs.Refusals.{accepted}
 pub use Rattle.table.specs.Contracts.{Represents, Stores, bodyOf, joined, ofRows, stores}
-pub use Rattle.table.specs.Laws.Keeps.{SoundTable, shows-plain, sound-table}
+pub use Rattle.table.specs.Laws.Keeps.{SoundTable, shows-plain, represented-sound-table}
 pub use Rattle.table.specs.Laws.Live.{getD-rowsIn, length-rowsIn, live-shown}
 pub use Rattle.table.specs.Laws.Replies.{reply-accepted, reply-refused}
 pub use Rattle.table.specs.Laws.Shown.{header-inside}

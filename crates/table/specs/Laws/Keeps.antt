@@ -84,8 +84,8 @@ pub record SoundTable (s : Stores) : Type 0 where
   pub generation-fits : s .header .generation ≤ 4294967295
 
 -- stores are sound exactly if they represent a plain table
-pub sound-table : {p : Plain} {s : Stores} → Represents p s → SoundTable s
-sound-table {p} r =
+pub represented-sound-table : {p : Plain} {s : Stores} → Represents p s → SoundTable s
+represented-sound-table {p} r =
     record {
       staged = p .staged;
       sound = represents-sound r;
@@ -103,7 +103,7 @@ kept n same done t =
 -- *Open* makes a sound table, whatever the stores held; a refused one leaves them unchanged
 pub opening-makes : {o : Opening} {generation : ℕ} {b : Body} {pending keys′ : List ℕ} {answer : TableAnswer} → Opened o generation b pending answer keys′
     → (h : Header) → tableView answer ≡ accepted h → SoundTable (stores h (b .rows) keys′ (b .sorts) pending)
-opening-makes m h e = sound-table (opening-done m h e)
+opening-makes m h e = represented-sound-table (opening-done m h e)
 
 pub opening-keeps : {o : Opening} {generation : ℕ} {b : Body} {pending keys′ : List ℕ} {answer : TableAnswer} → Opened o generation b pending answer keys′
     → (h : Header) → SoundTable (joined h b pending) → SoundTable (stores (ifAccepted (tableView answer) (λ h. h) h) (b .rows) keys′ (b .sorts) pending)
@@ -111,32 +111,32 @@ opening-keeps {o} {generation} {b} {pending} {keys′} {answer} m h t =
     let n : ℕ = openRefusal o (lengths (b .rows) (b .keys) (b .sorts) pending [] []) in
     kept n
     (λ some. rw (after-refused h (tableView answer) n (m .answers ∙ reply-refused n _ some), m .unchanged some))
-    (λ none p r. rw (after-accepted h (tableView answer) _ (m .answers ∙ reply-accepted n _ none)) (sound-table (m .represents none)))
+    (λ none p r. rw (after-accepted h (tableView answer) _ (m .answers ∙ reply-accepted n _ none)) (represented-sound-table (m .represents none)))
     t
 
 -- *Stage insert, removal by key, removal by row*
 pub staging-keeps : {s : Stores} {q : Staged} {answer : TableAnswer} {pending′ : List ℕ} → Staging (s .header) (s .pending) q answer pending′
     → SoundTable s → SoundTable (joined (ifAccepted (tableView answer) (λ h. h) (s .header)) (bodyOf s) pending′)
 staging-keeps {s} {q} m =
-    kept (stageRefusal (s .header) (length (s .pending)) q) (λ some. staging-refused m some) (λ none p r. sound-table (staging-done m none r))
+    kept (stageRefusal (s .header) (length (s .pending)) q) (λ some. staging-refused m some) (λ none p r. represented-sound-table (staging-done m none r))
 
 -- *Merge*, stopped or not
 pub merging-keeps : {s : Stores} {w w′ : CompactionWords} {answer : MergeAnswer} {b′ : Body} → Merging s w answer b′ w′
     → SoundTable s → SoundTable (joined (ifAccepted (mergeView answer) (λ m. m .header) (s .header)) b′ (s .pending))
 merging-keeps {s} {w} m =
-    kept (mergeRefusal (s .header) (lengthsLent s w)) (λ some. merging-refused m some) (λ none p r. sound-table (merging-done m none r))
+    kept (mergeRefusal (s .header) (lengthsLent s w)) (λ some. merging-refused m some) (λ none p r. represented-sound-table (merging-done m none r))
 
 -- *Compact*
 pub compacting-keeps : {s : Stores} {w w′ : CompactionWords} {answer : TableAnswer} {b′ : Body} → Compacting (s .header) (bodyOf s) w answer b′ w′
     → SoundTable s → SoundTable (joined (ifAccepted (tableView answer) (λ h. h) (s .header)) b′ (s .pending))
 compacting-keeps {s} {w} m =
-    kept (compactRefusal (s .header) (lengthsLent (joined (s .header) (bodyOf s) []) w)) (λ some. compacting-refused m some) (λ none p r. sound-table (compacting-done m none r))
+    kept (compactRefusal (s .header) (lengthsLent (joined (s .header) (bodyOf s) []) w)) (λ some. compacting-refused m some) (λ none p r. represented-sound-table (compacting-done m none r))
 
 -- *Clear*
 pub clearing-keeps : {s : Stores} {answer : TableAnswer} {keys′ : List ℕ} → Clearing (s .header) (s .keys) answer keys′
     → SoundTable s → SoundTable (joined (ifAccepted (tableView answer) (λ h. h) (s .header)) (body (s .rows) keys′ (s .sorts)) (s .pending))
 clearing-keeps {s} m =
-    kept (clearRefusal (s .header) (length (s .keys))) (λ some. clearing-refused m some) (λ none p r. sound-table (clearing-done m none r))
+    kept (clearRefusal (s .header) (length (s .keys))) (λ some. clearing-refused m some) (λ none p r. represented-sound-table (clearing-done m none r))
 
 -- ---- reads of a sound table
 

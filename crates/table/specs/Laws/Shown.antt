@@ -63,10 +63,10 @@ shown-own {p} rows proper long e i k =
     (stored-shown (p .rows) (rowsOf w (length (p .rows)) rows) (length-rowsOf w (length (p .rows)) rows) (proper .live-first) cells-in e i k)
 
 -- the rows stored over themselves do not change, if they show the plain ones
-pub stored-rows : {p : Plain} (h : Header) (rows : List ℕ) → Proper p → p .opening .capacity * p .opening .columns ≤ length rows → h ≡ headerOf p
+pub checked-rows-stored : {p : Plain} (h : Header) (rows : List ℕ) → Proper p → p .opening .capacity * p .opening .columns ≤ length rows → h ≡ headerOf p
     → stored (p .rows) (rowsOf (h .columns) (h .rows) rows) ≡ rowsOf (h .columns) (h .rows) rows
     → (i : ℕ) → i < h .rows → RowShown (rowOf p i) (rowAt (h .columns) i rows)
-stored-rows {p} h rows proper long e q i k = rw e (shown-own rows proper long (rw e at q) i (rw e at k))
+checked-rows-stored {p} h rows proper long e q i k = rw e (shown-own rows proper long (rw e at q) i (rw e at k))
 
 module _ {p : Plain} {s : Stores} (r : Represents p s) where
   -- the stores are long enough

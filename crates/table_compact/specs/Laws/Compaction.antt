@@ -1,6 +1,6 @@
 -- Laws of a compaction: how the live rows of a store move down row by row, their sort entries and the words that number them; and
 -- that the resulting stores represent the compacted plain table. Assumes nothing.
-use Rattle.table_compact.specs.Laws.Prelude.{ℕ, zero, suc, _+_, _-_, _*_, _/_, _%_, _≤_, _<_, min, suc-le-suc, _≡_, refl, sym, ap, ap₂, _∙_, inl, inr, Bool, true, false, cond, List, [], _∷_, _++_, map, map-append, map-map, append-nil, add-zero, suc-mul, mul-le-mul-right, add-one, ℕ-discrete, arith, length, getD, set, length-map, getD-set-same, getD-set-other, ltb, split, filter-append, length-filter, count-le, all-filter, length-splice, splice-then, part-after, widths, length-rowsOf, length-rowAt, rowsOf-snoc, rowsOf-widths, widths-filter, length-flatten, flatten-append, getD-rowsOf, rowsOf-put-flatten, isLive, Entry, entry, entriesOf, entryWords, rebuilt, Append, lastPasses, push, push-new, push-same, rebuilt-snoc, rebuilt-few, length-words, words-snoc, entriesOf-put, liveWord, newNumber, number-rank, filter-at, LiveAt, KeysSound, Fits, small, past-sizeClass, below-number, live-among, live-rises, Compacted, renumber-sound, slots-renumbered, noRow, compacted-proper, dead-compacted, Header, KeptCounts, indexShapeOf, stores, lengths, Represents, SamePast, full-shape-fits, Lendable, KeysUpdated, ClosedUp, Compaction, stored-live, Proper, stores-long, stored-rows, rows-counted, row-shown}
+use Rattle.table_compact.specs.Laws.Prelude.{ℕ, zero, suc, _+_, _-_, _*_, _/_, _%_, _≤_, _<_, min, suc-le-suc, _≡_, refl, sym, ap, ap₂, _∙_, inl, inr, Bool, true, false, cond, List, [], _∷_, _++_, map, map-append, map-map, append-nil, add-zero, suc-mul, mul-le-mul-right, add-one, ℕ-discrete, arith, length, getD, set, length-map, getD-set-same, getD-set-other, ltb, split, filter-append, length-filter, count-le, all-filter, length-splice, splice-then, part-after, widths, length-rowsOf, length-rowAt, rowsOf-snoc, rowsOf-widths, widths-filter, length-flatten, flatten-append, getD-rowsOf, rowsOf-put-flatten, isLive, Entry, entry, entriesOf, entryWords, rebuilt, Append, lastPasses, push, push-new, push-same, rebuilt-snoc, rebuilt-few, length-words, words-snoc, entriesOf-put, liveWord, newNumber, number-rank, filter-at, LiveAt, KeysSound, Fits, small, past-sizeClass, below-number, live-among, live-rises, Compacted, renumber-sound, slots-renumbered, noRow, compacted-proper, dead-compacted, Header, KeptCounts, indexShapeOf, stores, lengths, Represents, SamePast, full-shape-fits, Lendable, KeysUpdated, ClosedUp, Compaction, stored-live, Proper, stores-long, checked-rows-stored, rows-counted, row-shown}
 use Rattle.lists.specs.Lists.{splice, filter, rowAt, rowsOf, flatten}
 use Rattle.key_rebuild.specs.inner.Renumbering.{liveBelow, Renumbered, newRow}
 use Rattle.plain_table.specs.Plain.{Row, Plain, compacted}
@@ -272,7 +272,7 @@ module _ (h : Header) (rows keys sorts live base : List ℕ) (lent : Lendable h 
     shown-after =
         record {
           header = header-after;
-          rows-shown = stored-rows (closedHeader h kept) rows′ proper-after (unfold compacted in stores-long (p .opening) (lengths rows′ keys′ sorts′ pending [] []) long-after .rows-long)
+          rows-shown = checked-rows-stored (closedHeader h kept) rows′ proper-after (unfold compacted in stores-long (p .opening) (lengths rows′ keys′ sorts′ pending [] []) long-after .rows-long)
               header-after (rw rows-read (kept-stored (closedRows h rows)));
           entries-shown = rw (c .sorts-after) (entriesOf-put (entriesFor (h .sort) (closedRows h rows)) sorts (kept .entries) (c .entries-counted) ∙ kept-entries);
           pending-held = unfold compacted in r .shown .pending-held;

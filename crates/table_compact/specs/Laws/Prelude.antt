@@ -34,7 +34,7 @@ pub use Rattle.sort_entries.specs.Laws.Stores.{entriesOf-put, length-words, wor
 pub use Rattle.sort_entries.specs.inner.Append.{Append}
 pub use Rattle.table.specs.Contracts.{Represents, SamePast, lengths, stores}
 pub use Rattle.table.specs.Laws.Refusals.{full-shape-fits}
-pub use Rattle.table.specs.Laws.Shown.{entries-few, represents-long, row-shown, rows-counted, rows-in, rows-stored, stored-rows, stores-long}
+pub use Rattle.table.specs.Laws.Shown.{entries-few, represents-long, row-shown, rows-counted, rows-in, rows-stored, checked-rows-stored, stores-long}
 pub use Rattle.table.specs.Laws.Stored.{stored-live}
 pub use Rattle.table.specs.Sound.{indexShapeOf}
 pub use Rattle.table.specs.declared.Header.{Header}
