@@ -20,7 +20,7 @@ use Rattle.table.specs.declared.Header.{Header}
 use Rattle.table.specs.declared.Merge.{Merge}
 use Rattle.table.specs.declared.Version.{Version}
 use Rattle.table.specs.Numbers.{largestView, header}
-use Rattle.query_spec.specs.Queries.{PageReply}
+use Rattle.query_spec.specs.Queries.{PageResult}
 
 -- ---- arguments
 
@@ -92,7 +92,7 @@ unfoldable pub encodeSubset : SubsetHead → List ℕ
 encodeSubset s = bit (s .dense) ∷ s .start ∷ s .end ∷ []
 
 -- how many ids were written, how many of the visited ids have a dead row, and the next place
-unfoldable pub encodePage : PageReply → List ℕ
+unfoldable pub encodePage : PageResult → List ℕ
 encodePage p = p .written ∷ p .dead ∷ encodeOption (p .next)
 
 -- ---- contracts of C functions

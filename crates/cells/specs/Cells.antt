@@ -18,10 +18,10 @@ compactHash full = full / 2 ^ 57 * 2 ^ 25 + full % 2 ^ 25
 abbrev pub probed : ℕ → ℕ
 probed hash = hash + hash / 2 ^ 25 * 2 ^ 57
 
--- Adds one cell to the hash. The hash so far, the cell and an odd constant near 2 ^ 32 divided by the golden ratio are added. The
--- sum is multiplied by a second number: the sum with its two halves exchanged. The product's upper part, one bit wider than its lower
--- half, is added to the lower half. A product of a number with itself tends to spread keys at even distances; a product with a constant does not. The
--- extra bit tends to keep multiples of a divisor of 2 ^ 32 - 1 apart.
+-- Adds one cell to the hash. The hash so far, the cell and an odd constant near 2 ^ 32 divided by the golden ratio are added. The sum is
+-- multiplied by a second number: the sum with its two halves exchanged. The product's upper part, one bit wider than its lower half, is
+-- added to the lower half. Both factors depend on the key: such a product tends to spread keys that follow each other at equal
+-- distances, which a product with a constant does not. The extra bit tends to keep multiples of a divisor of 2 ^ 32 - 1 apart.
 unfoldable pub mixed : ℕ → ℕ → ℕ
 mixed hash cell =
     let sum = (hash + cell + 2654435761) % 2 ^ 32 in

@@ -49,9 +49,9 @@ Intersected a b output answer output′ =
     Answered (intersectReply a b (length output)) output answer output′
     ⊎ Answered (intersectReply b a (length output)) output answer output′
 
--- One query on a table, on the current ids. Each query has its own output and is lent the first `lent` cells of a store, or all of them
--- if it has no more. So a query may be refused because its part is too short, and the next be lent more. Where the fast range is none,
--- "the step and its condition count for nothing", like a refused one.
+-- One query on a table, on the current ids. Each query has its own output and is lent the first `lent` cells of a store, or the
+-- whole store if it is shorter. So a query may be refused because its part is too short, and the next be lent more. Where the fast
+-- range is none, "the step and its condition count for nothing", like a refused one.
 pub data Queried (s : Stores) (a : Subset) : Query → Outcome → Type 0 where
   one-refined : (c : Constraint) (lent : ℕ) (output output′ : List ℕ) (answer : SubsetAnswer)
       → RefinedOne (s .header) (take lent (s .rows)) a c output answer output′

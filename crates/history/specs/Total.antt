@@ -1,6 +1,7 @@
 -- Every outcome of a call that meets the contract of its entry point is a call of a history, for any lent stores, any arguments and
 -- any answer. So histories leave out no outcome that a contract allows. Of the constructors of `Called`, `stages`, `merges`, `compacts`
--- and `clears` require the contract alone. Refreshes have two, for sound and for unsound index stores. Assumes nothing.
+-- and `clears` require the contract alone. Refreshes have two, for sound and for unsound index stores; that one of the two always
+-- applies needs that soundness is decided (`refresh_spec` law `index-decided`). Assumes nothing.
 use Prim.Native.Nat.{ℕ}
 use mathlib.Core.List.{List}
 use Rattle.plain_table.specs.Refreshing.{Refresh}

@@ -1,7 +1,7 @@
 -- The contracts of the functions that size, write, check and read images: the answer and every lent cell, accepted or refused. A store
 -- without a primed name is lent shared and does not change. New refusals: 19, words that are no image (the first word, the format's
 -- number, the length or the checksum is wrong; a number of the header is outside its bounds; the flag of the largest value is above 1, or
--- it is 0 and the value is not; the text is too long, or a byte after it is not 0); 20, an image of a table that is not sound; 21, a
+-- is 0 while the value is not 0; the text is too long, or a byte after it is not 0); 20, an image of a table that is not sound; 21, a
 -- text to be written of more than 4,096 bytes. Assumes nothing.
 use Prim.Native.Nat.{ℕ, _*_, _<_}
 use mathlib.Core.Path.{_≡_}

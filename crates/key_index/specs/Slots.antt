@@ -1,9 +1,10 @@
 -- The key index (document 01, "Key index"): what a key store must hold. The layout is our choice. The first
 -- 2 × `sizeClassFor` slots are in use; the others may hold anything. A slot in use is 0 if it is free. Otherwise it has the number of a
 -- live row plus 1 in its low 17 bits and 15 bits of the key's compact hash above them; if those differ from the sought key's, the row
--- need not be read. A key's home slot is its compact hash scaled to the number of slots. The row is in the home slot or in a later one,
--- cyclically, with no free slot in between. So a scan from a key's home slot finds the live row, or a free slot if there is none. The
--- slot of a removed row is free again. What a lookup returns is stated in the paper's terms by `table` `LookedUp`. Assumes nothing.
+-- need not be read. A key's home slot is its compact hash scaled to the number of slots. A live row is in its key's home slot or in a
+-- later one, cyclically, with no free slot in between. So a scan from a key's home slot finds the key's live row, or a free slot if it
+-- has none. No mark of a removed row stays, so freed slots are used again. What a lookup returns is stated in the paper's terms by
+-- `table` `LookedUp`. Assumes nothing.
 use Prim.Native.Nat.{ℕ, _+_, _*_, _/_, _%_, _^_, _<_, min}
 use mathlib.Core.Path.{_≡_}
 use mathlib.Core.Bool.{true, cond}
@@ -23,7 +24,7 @@ LiveAt t rows i = (i < t .rows) × (isLive (rowAt (t .columns) i rows) ≡ true)
 abbrev pub keyAt : IndexShape → List ℕ → ℕ → List ℕ
 keyAt t rows i = take (t .keys) (rowAt (t .columns) i rows)
 
--- the smallest of five size classes that this many rows fit
+-- the smallest of five size classes into which this many rows fit
 unfoldable pub sizeClass : ℕ → ℕ
 sizeClass rows = cond (leb rows 128) 128 (cond (leb rows 512) 512 (cond (leb rows 2048) 2048 (cond (leb rows 8192) 8192 65536)))
 

@@ -38,7 +38,8 @@ answered p line unread buffered =
 
 -- One step: the bytes that it passes to `write`, the bytes of each of its reads (one or none), and whether the input is over.
 pub data Step : Program → List ℕ → List (List ℕ) → Program → Bool → Type 0 where
-  -- The line ends (10) among the unread bytes, and is answered. Buffered bytes are written first if the answer has no room.
+  -- The line ends (10) among the unread bytes, and is answered. Some of the buffered bytes
+  -- may be written first (the code does so if the answer has no room).
   line-step : {p : Program} (bytes rest handed buffered : List ℕ) → p .unread ≡ bytes ++ (10 ∷ rest) → elem 10 (p .begun ++ bytes) ≡ false
       → p .buffered ≡ handed ++ buffered → Step p handed [] (answered p (p .begun ++ bytes) rest buffered) false
   -- The line does not end: all buffered bytes are written, then one read is made.
@@ -103,8 +104,8 @@ pub data Ending (m : Machine) (handed : WriteResult) : Program → List ℕ → 
       → Ending m handed p (bytes ++ bytesWritten handed m)
   write-failed : {p : Program} → handed .«is_written» ≡ false → bytesWritten handed m ≡ p .buffered → Ending m handed p (bytesWritten handed m)
 
--- A run that starts without a table. There are: the bytes of the first read and of each later one, the bytes written before the last
--- ones, the steps, and how they end. Which reads and writes the code made is not stated here; see the head.
+-- A run that starts without a table. Bytes of a first read and of later reads, bytes written before the last ones, and steps exist that
+-- end in the code's state. That these are the bytes that the code read and wrote is not stated here; see the head.
 pub record Ran (m : Machine) (handed : WriteResult) : Type 0 where
   pub first : List ℕ
   pub reads : List (List ℕ)

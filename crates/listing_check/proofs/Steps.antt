@@ -8,7 +8,7 @@ use Rattle.listing_spec.specs.Listings.{rowNumbers}
 use Rattle.listing_parse.specs.inner.Surveys.{headOf, Listed}
 use Rattle.listing_parse.specs.Laws.Steps.{rowsFrom, none-from}
 use Rattle.listing_check.specs.declared.Row.{Row}
-use Rattle.listing_check.specs.Answers.{rightNumbers, misplaced, wrongNumbers, lowest, verdictOn, verdictView, checkView, checkReply, AnswersChecked}
+use Rattle.listing_check.specs.Answers.{rightNumbers, misplaced, wrongNumbers, lowest, findingOn, verdictView, checkView, checkReply, AnswersChecked}
 use Rattle.listing_check.specs.Laws.Verdicts.{verdictFor}
 use Rattle.listing_check.specs.inner.Scanning.{firstApart, rightAmong, unlessWrong, RowRead, rowsLeft, Underway, finishedAs, Stepped, closed}
 use Rattle.listing_check.proofs.Apart.{apart-same, apart-left, apart-right, lowest-first}
@@ -45,7 +45,7 @@ module _ (text : List ℕ) (conditions : List Constraint) (given : List ℕ) whe
     unfolding firstRefusal headOf
     refusal-is = rw (l .head)
 
-    answered : {answer : CheckAnswer} → checkView answer ≡ reply (cond (not (all (known (s .columns)) conditions)) 6 0) (verdictOn given (rightNumbers conditions (listingIn text)))
+    answered : {answer : CheckAnswer} → checkView answer ≡ reply (cond (not (all (known (s .columns)) conditions)) 6 0) (findingOn given (rightNumbers conditions (listingIn text)))
         → AnswersChecked text conditions given answer
     unfolding checkReply Option·elim
     answered e = record { listing = some (listingIn text); shown = text-shown true text (l .of-form); answers = rw refusal-is e }
@@ -56,7 +56,7 @@ module _ (text : List ℕ) (conditions : List Constraint) (given : List ℕ) whe
 
     module _ (knows : all (known (s .columns)) conditions ≡ true) where
       pub out-of-place : {place : ℕ} → misplaced given ≡ some place → AnswersChecked text conditions given (Checked (Misplaced place))
-      unfolding checkView verdictView reply verdictOn Option·elim
+      unfolding checkView verdictView reply findingOn Option·elim
       out-of-place e = answered (rw (knows, e))
 
       pub begin : misplaced given ≡ none → Underway (s .columns) text conditions given (record { answer = Checked Right; start = s .start; end = length text; place = 0 })
@@ -80,8 +80,8 @@ module _ (text : List ℕ) (conditions : List Constraint) (given : List ℕ) whe
               ap (λ (rows : List (List ℕ)). firstApart given (rightAmong conditions rows)) rows-are
               ∙ unfold rightAmong rightNumbers in sym (lowest-first given right (misplaced-none given e) (right-rising conditions (listingIn text) (shown-listing (text-shown true text (l .of-form)))))
 
-          reply-is : reply (cond (not (all (known (s .columns)) conditions)) 6 0) (verdictOn given right) ≡ accepted (verdictFor none (lowest (wrongNumbers given right)))
-          reply-is = rw knows (unfold reply verdictOn in rw e)
+          reply-is : reply (cond (not (all (known (s .columns)) conditions)) 6 0) (findingOn given right) ≡ accepted (verdictFor none (lowest (wrongNumbers given right)))
+          reply-is = rw knows (unfold reply findingOn in rw e)
 
 -- ---- one row processed
 

@@ -47,8 +47,8 @@ pub data Finding : Type 0 where
   lowestWrong : ℕ → Finding
 
 -- "or, if the list is not strictly rising, the place"; else "the lowest row number wrongly present or absent", and yes if there is none
-unfoldable pub verdictOn : List ℕ → List ℕ → Finding
-verdictOn given right = Option·elim (misplaced given) (Option·elim (lowest (wrongNumbers given right)) correct lowestWrong) outOfOrder
+unfoldable pub findingOn : List ℕ → List ℕ → Finding
+findingOn given right = Option·elim (misplaced given) (Option·elim (lowest (wrongNumbers given right)) correct lowestWrong) outOfOrder
 
 -- the finding that each case of the enum represents
 unfoldable pub verdictView : Verdict → Finding
@@ -64,7 +64,7 @@ checkView (Checked verdict) = accepted (verdictView verdict)
 -- "After 11 comes 6, as for any condition"
 unfoldable pub checkReply : Option Listing → List Constraint → List ℕ → Reply Finding
 checkReply listing conditions given =
-    Option·elim listing (refused 11) (λ l. reply (firstRefusal (check (not (all (known (getD (l .head) 0 0)) conditions)) 6 ∷ [])) (verdictOn given (rightNumbers conditions l)))
+    Option·elim listing (refused 11) (λ l. reply (firstRefusal (check (not (all (known (getD (l .head) 0 0)) conditions)) 6 ∷ [])) (findingOn given (rightNumbers conditions l)))
 
 -- The contract of the check. It writes to no store.
 pub record AnswersChecked (text : List ℕ) (conditions : List Constraint) (given : List ℕ) (answer : CheckAnswer) : Type 0 where

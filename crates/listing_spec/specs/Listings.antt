@@ -53,8 +53,8 @@ listingText numbered l = textLine (headLetter numbered) (l .head) ++ flatten (ma
 unfoldable pub areNumbers : List ℕ → Bool
 areNumbers ns = all (λ n. leb n 4294967295) ns
 
--- "the head's numbers keep test 1's bounds", which are those of an opening (of capacity 1, since a head has none); ".. row count at
--- most 65,536" (it is 0 if the head has none)
+-- "the head's numbers keep test 1's bounds": those of an opening. A head has no capacity; 1 stands for it, which is within its bounds.
+-- The row count is "at most 65,536"; the old form has none, and `getD` gives 0.
 unfoldable pub isHead : Bool → List ℕ → Bool
 isHead numbered ns =
     eqb (length ns) (headWidth numbered) && leb (getD ns 5 0) 65536

@@ -40,7 +40,7 @@ pub record Numbered : Type 0 where
   pub number : ℕ
   pub cells : List ℕ
 
--- the live rows in rising order, numbered from n on; of a plain table (`liveRows`), its observable content
+-- the live ones of these rows, in order, each with its number; the first of the rows, live or dead, has number n
 unfoldable pub liveFrom : ℕ → List Row → List Numbered
 liveFrom n [] = []
 liveFrom n (row ∷ rows) =

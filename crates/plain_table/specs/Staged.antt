@@ -1,4 +1,4 @@
--- An opening's numbers, staged records with their words and the inserts among them, and when a compaction is due. These definitions do
+-- An opening's numbers, staged records, how many words each takes, the inserts among them, and when a compaction is due. These definitions do
 -- not depend on how rows are stored. Assumes nothing.
 use Prim.Native.Nat.{ℕ, _+_, _/_, max}
 use mathlib.Core.Bool.{Bool, not, _&&_}

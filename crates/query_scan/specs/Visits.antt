@@ -19,7 +19,7 @@ upToFirst test [] = []
 upToFirst test (id ∷ ids) = id ∷ cond (test id) [] (upToFirst test ids)
 
 -- a refinement visits all members, any match the members up to and including the first that matches, a page n
--- members from its start place on
+-- members, or as many as remain, from its start place on
 unfoldable pub idsVisited : QueryKind → (ℕ → Bool) → Subset → List ℕ
 idsVisited Refine test subset = members subset
 idsVisited Match test subset = upToFirst test (members subset)

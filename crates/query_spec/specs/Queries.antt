@@ -83,12 +83,12 @@ unfoldable pub nextPlace : Subset → ℕ → ℕ → Option ℕ
 nextPlace subset start n = cond (ltb (start + n) (size subset)) (some (start + n)) none
 
 -- "answers how many were written and the next place or *none*", and (change 1) how many of the visited ids have a dead row
-pub record PageReply : Type 0 where
+pub record PageResult : Type 0 where
   pub written : ℕ
   pub dead : ℕ
   pub next : Option ℕ
 
-unfoldable pub pageOf : Header → List ℕ → Subset → ℕ → ℕ → List Constraint → PageReply
+unfoldable pub pageOf : Header → List ℕ → Subset → ℕ → ℕ → List Constraint → PageResult
 pageOf h rows subset start n conditions =
     record { written = length (pageIds h rows subset start n conditions); dead = deadAmong h rows (visited subset start n); next = nextPlace subset start n }
 
@@ -101,7 +101,7 @@ unfoldable pub nextView : NextPlace → Option ℕ
 nextView None = none
 nextView (At place) = some place
 
-unfoldable pub pageView : PageAnswer → Reply PageReply
+unfoldable pub pageView : PageAnswer → Reply PageResult
 pageView (PageRefused n) = refused n
 pageView (Paged page) = accepted (record { written = page .written; dead = page .dead; next = nextView (page .next) })
 

@@ -1,7 +1,7 @@
 -- The index store of a refresh (document 02, change 2): "An index from value to rising row numbers stands in a lent u32 store".
 -- "Its inside is the program's choice"; ours is this:
 --
---   word 0          0 in a new store; we write 1; "its first word is 0, which marks a new store; no written one has 0 there"
+--   word 0          0 in a new store, not 0 in a written one; "its first word is 0, which marks a new store; no written one has 0 there"
 --   words 1 and 2   the version last seen: generation and row count
 --   words 3 to 11   how many columns are named, and these
 --   word 12         how many buckets there are, at most 2 for each row of the capacity and named column
@@ -9,8 +9,8 @@
 --   words 16 on     for each row of the capacity and each named column, row by row, an entry: the link to the entry before it in
 --                   its bucket; then for each bucket the link to its last entry. A link is one more than an entry's number, or 0
 --
--- An entry is located in the bucket of the cell that its row has in its column. Entries of other values and of rows that died may
--- be in the same bucket. A lookup filters those whose row is live and holds the value, and returns their rows in rising order
+-- An entry is in the bucket of the cell that its row had in its column when it was entered. Entries of other values and of rows that
+-- died may be in the same bucket. A lookup keeps those whose row is live and holds the value, and returns their rows in rising order
 -- (`lookedUp`). Assumes nothing.
 use Prim.Native.Nat.{ℕ, zero, suc, _+_, _*_, _/_, _%_, _^_, _≤_, _<_}
 use mathlib.Core.Path.{_≡_}

@@ -1,5 +1,5 @@
--- An encoding of lists of requests as words: each request is a kind, a count and that number of words (`replay_frames`). Every list
--- of words encodes a list of requests: other items are skipped. Assumes nothing.
+-- An encoding of lists of requests as words: each request is a kind, a count and that number of words (`replay_frames`). An item
+-- that is no request is skipped, and an incomplete item ends the list, so every list of words encodes a list of requests. Assumes nothing.
 use Prim.Native.Nat.{ℕ, suc}
 use mathlib.Core.Bool.{cond}
 use mathlib.Core.List.{List, [], _∷_}

@@ -14,11 +14,11 @@ use Rattle.table.specs.declared.Header.{Header}
 use Rattle.table.specs.declared.TableAnswer.{TableAnswer}
 use Rattle.table.specs.declared.TableAnswer.the-variants.{Table}
 use Rattle.table.specs.Numbers.{tableView}
-use Rattle.table.specs.Contracts.{Stores, Body, stores, joined, CompactionWords, lengthsLent, WordsPast, openingRefusal, Opened}
+use Rattle.table.specs.Contracts.{Stores, Body, stores, joined, CompactionWords, lengthsLent, WordsPast, openRefusalOn, Opened}
 use Rattle.replay.specs.Requests.{Request, lentTo, ServedAll}
 
--- how many compactions these calls make on a plain table, in merges and by compaction calls: each raises the generation by 1, as a
--- clear may too
+-- how many compactions these calls make on a plain table, in merges and by compaction calls: each raises the generation by 1. A
+-- clear may raise it too, but is not counted
 unfoldable pub compactions : Plain → List LentCall → ℕ
 compactions p [] = 0
 compactions p (c ∷ cs) =
@@ -40,6 +40,6 @@ module _ (o : Opening) (generation : ℕ) (requests : List Request) (b : Body) (
 
   pub record Replayed (answer : TableAnswer) (b′ : Body) (pending′ : List ℕ) (w′ : CompactionWords) (index′ : List ℕ) : Type 0 where
     -- if the opening is refused, no request is executed and nothing changes; otherwise all are executed
-    pub refusal : outcome (tableView answer) ≡ reply (openingRefusal o b pending) tt
-    pub unchanged : 0 < openingRefusal o b pending → (b′ ≡ b) × (pending′ ≡ pending) × (w′ ≡ w) × (index′ ≡ index)
+    pub refusal : outcome (tableView answer) ≡ reply (openRefusalOn o b pending) tt
+    pub unchanged : 0 < openRefusalOn o b pending → (b′ ≡ b) × (pending′ ≡ pending) × (w′ ≡ w) × (index′ ≡ index)
     pub calls-made : (h : Header) → tableView answer ≡ accepted h → MadeFrom (joined h b′ pending′) w′ index′

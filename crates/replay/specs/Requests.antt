@@ -22,8 +22,8 @@ pub data Request : Type 0 where
 abbrev pub lentTo : Lengths → Call → LentCall
 lentTo l c = record { call = c; lengths = l }
 
--- One request on these stores and an index store: the call of a history that it is, and the stores and the index store after it.
--- Which stores a call may leave is stated by `Called` (in `next`).
+-- One request: the call of a history that it corresponds to, and the stores and the index store after it. `made` leaves the stores
+-- open; `next` below requires of every request that its call leads to them (`Called`).
 pub data Served (s : Stores) (index : List ℕ) : Request → Call → Stores → List ℕ → Type 0 where
   made : (c : Call) (t : Stores) → Served s index (make c) c t index
   -- "the plain table stages these records of its own rows"

@@ -1,5 +1,5 @@
--- An encoding of lists of queries as words: each query is a kind, a count and that number of words (`replay_frames`). Every list of
--- words encodes a list of queries: other items are skipped. Assumes nothing.
+-- An encoding of lists of queries as words: each query is a kind, a count and that number of words (`replay_frames`). An item
+-- that is no query is skipped, and an incomplete item ends the list, so every list of words encodes a list of queries. Assumes nothing.
 use Prim.Native.Nat.{ℕ, _*_, _/_}
 use mathlib.Core.Bool.{cond, _&&_}
 use mathlib.Core.List.{List, [], _∷_}

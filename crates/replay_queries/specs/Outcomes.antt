@@ -19,7 +19,8 @@ use Rattle.query_spec.specs.Queries.{refineOneReply, refineListReply}
 use Rattle.history.specs.Runs.{Query, refineOne, refineList, intersectWith, intersectRange, Outcome, outcome, byReply}
 use Rattle.replay_queries.specs.declared.RunAnswer.{RunAnswer}
 
--- the first ids of the list of a place: 1 and 2 are the two lent lists; 0 is the whole starting list
+-- the first ids of the list of a place: 1 and 2 are the two lent lists; any other place, in an answer 0, is the whole
+-- starting list
 unfoldable pub idsAt : ℕ → ℕ → List ℕ → List ℕ → List ℕ → List ℕ
 idsAt place count ids first second = cond (eqb place 1) (take count first) (cond (eqb place 2) (take count second) ids)
 

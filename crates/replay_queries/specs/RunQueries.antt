@@ -26,7 +26,8 @@ module _ (h : Header) (rows sorts : List ℕ) (start : Subset) (ids : List ℕ) 
     -- the queries that were accepted, and whether some of them refined
     pub accepted : List Query
     pub refined-is : answer .refined ≡ any refines accepted
-    -- the list that the ids left are in: 0 is the whole starting list, with the count 0; ids in a lent list are within the length used
+    -- If the ids left are a list: which one; 0 is the whole starting list, with the count 0; ids in a lent list are within the length
+    -- used. Of a range, place and count mean nothing.
     pub inside : (answer .place ≤ 2) × (answer .count ≤ cond (eqb (answer .place) 0) 0 (shorter first second))
     -- these and the ids left are the result of the queries, whatever the stores contain
     pub queried : QueriedAll h rows sorts (shorter first second) start queries (outcome (subsetLeft answer ids first′ second′) accepted)

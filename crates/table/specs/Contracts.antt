@@ -77,17 +77,18 @@ lengths rows keys sorts pending live base =
 abbrev pub lengthsLent : Stores → CompactionWords → Lengths
 lengthsLent s w = lengths (s .rows) (s .keys) (s .sorts) (s .pending) (w .live) (w .base)
 
--- The header and stores represent a plain table: they show its rows (`Shows`), it has the properties of every plain table that calls
--- lead to (`Proper`), and the key store leads to its live rows (`KeysSound`). `Sound` is the paper's word and is defined on stores
--- alone. The two agree: stores whose generation is a u32, as it always is in a header, are sound exactly if they represent some plain
--- table (Laws/Sound).
+-- The header and stores represent a plain table: the stores are long enough; header and stores show its numbers, rows, sort entries and
+-- staged records (`Shows`); it has the properties of every plain table that calls lead to (`Proper`); and the key store leads to its
+-- live rows (`KeysSound`). `Sound` is the paper's word and is defined on stores alone. The two agree: stores whose generation is a u32,
+-- as it always is in a header, are sound exactly if they represent some plain table (Laws/Sound).
 pub record Represents (p : Plain) (s : Stores) : Type 0 where
   pub proper : Proper p
   pub long-enough : storesShort (p .opening) (lengths (s .rows) (s .keys) (s .sorts) (s .pending) [] []) ≡ false
   pub shown : Shows p (s .header) (s .rows) (s .sorts) (s .pending)
   pub keys-sound : KeysSound (indexShapeOf (s .header)) (s .rows) (s .keys)
 
--- The cells past the first n are unchanged: key slots past 2 × capacity and compaction words past those needed are never written.
+-- The cells past the first n are unchanged. Contracts state it of key slots past 2 × capacity, and of compaction words and index words
+-- past those needed.
 abbrev pub SamePast : ℕ → List ℕ → List ℕ → Type 0
 SamePast n cells cells′ = drop n cells′ ≡ drop n cells
 
@@ -97,15 +98,16 @@ WordsPast capacity w w′ = SamePast ((capacity + 63) / 64) (w .live) (w′ .liv
 -- Choices of the program: the contracts require only that the key store is sound and that no slot past it is written. After a
 -- compaction they require nothing of the compaction words that it needs.
 
--- *Open*: lent rows, keys, sort entries and pending; all but keys are lent shared, so they do not change
-abbrev pub openingRefusal : Opening → Body → List ℕ → ℕ
-openingRefusal o b pending = openRefusal o (lengths (b .rows) (b .keys) (b .sorts) pending [] [])
+-- the refusal of an opening on these stores
+abbrev pub openRefusalOn : Opening → Body → List ℕ → ℕ
+openRefusalOn o b pending = openRefusal o (lengths (b .rows) (b .keys) (b .sorts) pending [] [])
 
+-- *Open*: lent rows, keys, sort entries and pending; all but keys are lent shared, so they do not change
 pub record Opened (o : Opening) (generation : ℕ) (b : Body) (pending : List ℕ) (answer : TableAnswer) (keys′ : List ℕ) : Type 0 where
-  pub answers : tableView answer ≡ reply (openingRefusal o b pending) (headerOf (opened o generation))
-  pub unchanged : 0 < openingRefusal o b pending → keys′ ≡ b .keys
+  pub answers : tableView answer ≡ reply (openRefusalOn o b pending) (headerOf (opened o generation))
+  pub unchanged : 0 < openRefusalOn o b pending → keys′ ≡ b .keys
   pub past : SamePast (2 * o .capacity) (b .keys) keys′
-  pub represents : openingRefusal o b pending ≡ 0 → Represents (opened o generation) (stores (headerOf (opened o generation)) (b .rows) keys′ (b .sorts) pending)
+  pub represents : openRefusalOn o b pending ≡ 0 → Represents (opened o generation) (stores (headerOf (opened o generation)) (b .rows) keys′ (b .sorts) pending)
 
 -- *Stage*: lent pending. The contract holds for any table, since the call reads only the header and the length of the pending store.
 abbrev pub withPending : Header → ℕ → Header

@@ -5,7 +5,7 @@ use mathlib.Core.Option.{Option·elim}
 use Rattle.lists.specs.Lists.{filter, all, elem}
 use Rattle.constraints.specs.Constraints.{compares, met}
 use Rattle.listing_spec.specs.Listings.{Listing, rowNumbers}
-use Rattle.listing_check.specs.Answers.{rightNumbers, misplacedBehind, misplaced, wrongNumbers, lowest, correct, outOfOrder, lowestWrong, verdictOn}
+use Rattle.listing_check.specs.Answers.{rightNumbers, misplacedBehind, misplaced, wrongNumbers, lowest, correct, outOfOrder, lowestWrong, findingOn}
 
 abbrev listing : Listing
 listing = record { head = 2 ∷ 1 ∷ 0 ∷ 0 ∷ 0 ∷ 9 ∷ []; rows = (2 ∷ 7 ∷ 1 ∷ []) ∷ (5 ∷ 3 ∷ 1 ∷ []) ∷ (8 ∷ 7 ∷ 4 ∷ []) ∷ [] }
@@ -13,7 +13,7 @@ listing = record { head = 2 ∷ 1 ∷ 0 ∷ 0 ∷ 0 ∷ 9 ∷ []; rows = (2 ∷ 
 abbrev condition : Constraint
 condition = record { kind = 1; column = 0; value = 7 }
 
-pub example : map (λ given. verdictOn given (rightNumbers (condition ∷ []) listing)) ((2 ∷ 8 ∷ []) ∷ (2 ∷ 5 ∷ 8 ∷ []) ∷ (2 ∷ []) ∷ (1 ∷ 2 ∷ 8 ∷ []) ∷ (9 ∷ 2 ∷ 8 ∷ []) ∷ (2 ∷ 2 ∷ []) ∷ [])
+pub example : map (λ given. findingOn given (rightNumbers (condition ∷ []) listing)) ((2 ∷ 8 ∷ []) ∷ (2 ∷ 5 ∷ 8 ∷ []) ∷ (2 ∷ []) ∷ (1 ∷ 2 ∷ 8 ∷ []) ∷ (9 ∷ 2 ∷ 8 ∷ []) ∷ (2 ∷ 2 ∷ []) ∷ [])
     ≡ correct ∷ lowestWrong 5 ∷ lowestWrong 8 ∷ lowestWrong 1 ∷ outOfOrder 1 ∷ outOfOrder 1 ∷ []
-unfolding verdictOn rightNumbers rowNumbers filter all met compares misplaced misplacedBehind wrongNumbers elem lowest Option·elim
+unfolding findingOn rightNumbers rowNumbers filter all met compares misplaced misplacedBehind wrongNumbers elem lowest Option·elim
 example = refl

@@ -3,7 +3,7 @@ use Rattle.listing_check.specs.Laws.Prelude.{ℕ, _≡_, refl, _∙_, in
 use mathlib.Core.Option.{Option·elim}
 use Rattle.lists.specs.Lists.{filter, all, above, rising}
 use Rattle.listing_spec.specs.Listings.{Listing, rowNumbers, isListing}
-use Rattle.listing_check.specs.Answers.{rightNumbers, misplaced, wrongNumbers, lowest, Finding, correct, outOfOrder, lowestWrong, verdictOn}
+use Rattle.listing_check.specs.Answers.{rightNumbers, misplaced, wrongNumbers, lowest, Finding, correct, outOfOrder, lowestWrong, findingOn}
 use Rattle.listing_check.specs.Laws.Numbers.{Apart, wrong-none, wrong-some, wrong-same, FirstNotAbove, misplaced-none, misplaced-rising, misplaced-some, misplaced-at}
 
 -- ---- the right numbers rise
@@ -60,8 +60,8 @@ module _ (n : ℕ) where
 
 module _ (given right : List ℕ) where
   -- "It says yes exactly if those numbers are, rising and each once, the rows .. that meet every condition"
-  pub right-exactly : rising right ≡ true → (verdictOn given right ≡ correct → given ≡ right) × (given ≡ right → verdictOn given right ≡ correct)
-  unfolding verdictOn
+  pub right-exactly : rising right ≡ true → (findingOn given right ≡ correct → given ≡ right) × (given ≡ right → findingOn given right ≡ correct)
+  unfolding findingOn
   right-exactly rises = (
     λ e.
         let s = finding-right (misplaced given) (lowest (wrongNumbers given right)) e in
@@ -70,20 +70,20 @@ module _ (given right : List ℕ) where
   )
 
   -- "the lowest row number wrongly present or absent"
-  pub wrong-lowest : {number : ℕ} → verdictOn given right ≡ lowestWrong number → Apart given right number
-  unfolding verdictOn
+  pub wrong-lowest : {number : ℕ} → findingOn given right ≡ lowestWrong number → Apart given right number
+  unfolding findingOn
   wrong-lowest {number} e = wrong-some given right (finding-wrong number (misplaced given) (lowest (wrongNumbers given right)) e)
 
   -- "the place, from 0, of the first number not above the one before"
-  pub misplaced-first : {place : ℕ} → verdictOn given right ≡ outOfOrder place → FirstNotAbove given place
-  unfolding verdictOn
+  pub misplaced-first : {place : ℕ} → findingOn given right ≡ outOfOrder place → FirstNotAbove given place
+  unfolding findingOn
   misplaced-first {place} e = misplaced-some given (finding-misplaced place (misplaced given) (lowest (wrongNumbers given right)) e)
 
-  pub first-misplaced : {place : ℕ} → FirstNotAbove given place → verdictOn given right ≡ outOfOrder place
-  unfolding verdictOn
+  pub first-misplaced : {place : ℕ} → FirstNotAbove given place → findingOn given right ≡ outOfOrder place
+  unfolding findingOn
   first-misplaced {place} f = rw (misplaced-at given f) (unfold Option·elim in refl)
 
 -- the same for a listing
 pub yes-exactly : (conditions : List Constraint) (l : Listing) (given : List ℕ) → isListing true l ≡ true
-    → (verdictOn given (rightNumbers conditions l) ≡ correct → given ≡ rightNumbers conditions l) × (given ≡ rightNumbers conditions l → verdictOn given (rightNumbers conditions l) ≡ correct)
+    → (findingOn given (rightNumbers conditions l) ≡ correct → given ≡ rightNumbers conditions l) × (given ≡ rightNumbers conditions l → findingOn given (rightNumbers conditions l) ≡ correct)
 yes-exactly conditions l given e = right-exactly given (rightNumbers conditions l) (right-rising conditions l e)

@@ -6,7 +6,7 @@ use Rattle.offsets.specs.declared.SubsetAnswer.{SubsetAnswer}
 use Rattle.offsets.specs.Subsets.{Subset}
 use Rattle.offsets.specs.Laws.Subsets.{answered-determined}
 use Rattle.query_spec.specs.declared.PageAnswer.the-variants.{Refused as PageRefused, Page as Paged}
-use Rattle.query_spec.specs.Queries.{nextView, PageReply, pageView, matchView, RefinedOne, RefinedList, Matched, PageRead}
+use Rattle.query_spec.specs.Queries.{nextView, PageResult, pageView, matchView, RefinedOne, RefinedList, Matched, PageRead}
 
 -- answers with the same view are equal
 next-view-injective : (a b : NextPlace) → nextView a ≡ nextView b → a ≡ b
@@ -22,10 +22,10 @@ page-view-injective (PageRefused n) (PageRefused m) e = cc
 page-view-injective (PageRefused n) (Paged q) e = cc
 page-view-injective (Paged p) (PageRefused m) e = cc
 page-view-injective (Paged p) (Paged q) e =
-    let same-view : _≡_ {A = PageReply} (record { written = p .written; dead = p .dead; next = nextView (p .next) }) (record { written = q .written; dead = q .dead; next = nextView (q .next) }) = cc in
-    let written : p .written ≡ q .written = ap (λ (t : PageReply). t .written) same-view in
-    let dead : p .dead ≡ q .dead = ap (λ (t : PageReply). t .dead) same-view in
-    let next : p .next ≡ q .next = next-view-injective (p .next) (q .next) (ap (λ (t : PageReply). t .next) same-view) in
+    let same-view : _≡_ {A = PageResult} (record { written = p .written; dead = p .dead; next = nextView (p .next) }) (record { written = q .written; dead = q .dead; next = nextView (q .next) }) = cc in
+    let written : p .written ≡ q .written = ap (λ (t : PageResult). t .written) same-view in
+    let dead : p .dead ≡ q .dead = ap (λ (t : PageResult). t .dead) same-view in
+    let next : p .next ≡ q .next = next-view-injective (p .next) (q .next) (ap (λ (t : PageResult). t .next) same-view) in
     λ i. Paged (record { written = written i; dead = dead i; next = next i })
 
 match-view-injective : (a b : MatchAnswer) → matchView a ≡ matchView b → a ≡ b

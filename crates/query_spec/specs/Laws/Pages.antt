@@ -4,7 +4,7 @@ use Rattle.lists.specs.Lists.{filter, count, all, rowAt}
 use Rattle.offsets.specs.Subsets.{Subset}
 use Rattle.constraints.specs.Constraints.{met, isLive, meets}
 use Rattle.query_spec.specs.declared.PageAnswer.the-variants.{Page as Paged}
-use Rattle.query_spec.specs.Queries.{matches, deadAmong, pageRefusal, visited, nextPlace, pageIds, nextView, PageReply, pageOf, pageView, PageRead}
+use Rattle.query_spec.specs.Queries.{matches, deadAmong, pageRefusal, visited, nextPlace, pageIds, nextView, PageResult, pageOf, pageView, PageRead}
 
 -- how many of these ids have a live row that fails a condition
 unfoldable pub failedAmong : Header → List ℕ → List Constraint → List ℕ → ℕ
@@ -32,14 +32,14 @@ unfolding pageOf pageIds pageView
 page-parts h rows subset start n conditions output page output′ p =
     elim (ℕ-discrete number 0) [
       | yes z ↦
-          let same-view : _≡_ {A = Reply PageReply} (accepted (record { written = page .written; dead = page .dead; next = nextView (page .next) })) (accepted read) =
+          let same-view : _≡_ {A = Reply PageResult} (accepted (record { written = page .written; dead = page .dead; next = nextView (page .next) })) (accepted read) =
           p .effect .answers ∙ sym (reply-accepted (accepted read) number read refl z) in
-          let same : _≡_ {A = PageReply} (record { written = page .written; dead = page .dead; next = nextView (page .next) }) read = cc in
-          let written : page .written ≡ read .written = ap (λ (t : PageReply). t .written) same in
-          let dead : page .dead ≡ read .dead = ap (λ (t : PageReply). t .dead) same in
+          let same : _≡_ {A = PageResult} (record { written = page .written; dead = page .dead; next = nextView (page .next) }) read = cc in
+          let written : page .written ≡ read .written = ap (λ (t : PageResult). t .written) same in
+          let dead : page .dead ≡ read .dead = ap (λ (t : PageResult). t .dead) same in
           rw (written, dead) (visited-parts h rows conditions (visited subset start n))
       | no m ↦
-          let same-view : _≡_ {A = Reply PageReply} (accepted (record { written = page .written; dead = page .dead; next = nextView (page .next) })) (refused number) =
+          let same-view : _≡_ {A = Reply PageResult} (accepted (record { written = page .written; dead = page .dead; next = nextView (page .next) })) (refused number) =
           p .effect .answers ∙ sym (reply-refused (refused number) number number read refl refl m) in
           cc
     ]
@@ -47,5 +47,5 @@ page-parts h rows subset start n conditions output page output′ p =
     number : ℕ
     number = pageRefusal h (length rows) subset start n conditions (length output)
 
-    read : PageReply
+    read : PageResult
     read = record { written = length (filter (matches h rows conditions) (visited subset start n)); dead = deadAmong h rows (visited subset start n); next = nextPlace subset start n }
