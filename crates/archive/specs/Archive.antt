@@ -46,9 +46,9 @@ pub record ReadAfterWrite (p : Plain) (s : Stores) (capacity : ℕ) (b : Body) (
   pub refusal : outcome (tableView answer) ≡ reply (firstRefusal (storesChecks (s .header) capacity b pending)) tt
   pub represents : (h : Header) → answer ≡ Table h → Represents (resized p capacity) (joined h b′ pending′)
 
--- An accepted image is the image of the table that was loaded, with the capacity that the image has and its text. So a table,
--- a text and a capacity have one image. The loaded table is sound, whatever program wrote the image; its generation is a word, hence at most
--- 4294967295.
+-- An accepted image is the image of the table that was loaded, with the capacity that the image has and its text. So a table, a text
+-- and a capacity have one image. The loaded table is sound, whatever program wrote the image; its generation is a word, hence at
+-- most 4294967295.
 pub record ImageOfLoaded (words : List ℕ) (h : Header) (b′ : Body) (pending′ : List ℕ) : Type 0 where
   pub capacity : ℕ
   pub text : List ℕ

@@ -54,7 +54,7 @@ ruled rule keys sort old new =
     cond (changesFrom rule keys sort 0 old new) (some (madeFrom rule keys sort 0 old new)) none
 
 -- "For rules 0 and 1 the surviving row is handed back as that part of the row store or of the pending store": here its cells;
--- `surviving_row` (src/lib.rt) returns the part of the row store or of the pending store that has them. "Rule 0 keeps the old row. Rule 1 takes the new row if a cell outside keys
--- and sort column differs, else keeps the old"
+-- `surviving_row` (src/lib.rt) returns the part of the row store or of the pending store that has them. "Rule 0 keeps the old row.
+-- Rule 1 takes the new row if a cell outside keys and sort column differs, else keeps the old"
 unfoldable pub survivor : ℕ → ℕ → ℕ → List ℕ → List ℕ → List ℕ
 survivor rule keys sort old new = cond (changesFrom rule keys sort 0 old new) new old

@@ -1,5 +1,5 @@
--- An opening's numbers, staged records, how many words each takes, the inserts among them, and when a compaction is due. These definitions do
--- not depend on how rows are stored. Assumes nothing.
+-- An opening's numbers, staged records, how many words each takes, the inserts among them, and when a compaction is due. These
+-- definitions do not depend on how rows are stored. Assumes nothing.
 use Prim.Native.Nat.{ℕ, _+_, _/_, max}
 use mathlib.Core.Bool.{Bool, not, _&&_}
 use mathlib.Core.List.{List, [], _∷_}
