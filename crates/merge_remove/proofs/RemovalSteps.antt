@@ -8,9 +8,8 @@ use Rattle.merge_remove.specs.inner.Removals.{Kills, removalOf, spared, 
 -- ---- a row is taken out and marked
 
 -- its first cell is within the store
-pub first-cell : (t : IndexShape) (rows keys : List ℕ) (row : ℕ) → Fits t rows keys → row < t .rows → (row * t .columns < length rows) × (row * t .columns < 524288)
-first-cell t rows keys row f h =
-    let i = row-inside t rows row (rows-in t rows keys f) h in (omega (arith, i, f .some-columns), omega (arith, i, f .some-columns))
+pub first-cell : (t : IndexShape) (rows keys : List ℕ) (row : ℕ) → Fits t rows keys → row < t .rows → row * t .columns < length rows
+first-cell t rows keys row f h = omega (arith, row-inside t rows row (rows-in t rows keys f) h, f .some-columns)
 
 pub killed : (t : IndexShape) (rows keys : List ℕ) (row slot : ℕ) (was : Bool) (rows′ keys′ : List ℕ) → Fits t rows keys
     → RowRemoved t rows keys slot keys′ → Staled rows (row * t .columns) was rows′ → Kills t rows keys row slot (not was) rows′ keys′

@@ -247,9 +247,6 @@ module _ {h : Header} {rows₀ sorts₀ live₀ base₀ : List ℕ} (c : Closabl
         (omega (arith, s .live-same, c .live-long, c .movable .within .count), omega (arith, s .base-same, c .base-long, c .movable .within .count))
 
     -- so are its cells
-    pub cells-in : Inside rows (h .columns) first
-    cells-in = let i = row-inside (fullIndexShapeOf h) rows₀ first (c .movable .within) more in record { in-store = rw (s .closing .rows-same) (i .in-store); small = i .small }
-
     pub spaced : Spaced rows (first * h .columns) (h .columns) count
     spaced =
         let a : (first + count) * h .columns ≤ h .rows * h .columns = mul-le-mul-right (h .columns) (omega arith) in

@@ -7,7 +7,7 @@ use Rattle.merge_remove.proofs.kill.Tie as tie
 set-stale-requires : tie.Need-set-stale-requires
 set-stale-requires c κs =
     let s = c .before .before .before .before .before .before .before .before .before in
-    rw (c .before .row-start .ensures) (first-cell _ _ _ _ (s .pre .0) (s .pre .1) .0)
+    rw (c .before .row-start .ensures) (first-cell _ _ _ _ (s .pre .0) (s .pre .1))
 
 returns : tie.Need-returns
 returns c =
