@@ -212,12 +212,13 @@ fn sorted(mut lines: Vec<String>) -> Vec<String> {
 }
 
 /// The crates whose functions the library has.
-const CRATES: [&str; 9] = [
+const CRATES: [&str; 10] = [
     "abi_table",
     "abi_read",
     "abi_row",
     "abi_query",
     "abi_refresh",
+    "abi_precedence",
     "abi_vault",
     "abi_listing",
     "abi_image",

@@ -1,4 +1,4 @@
-// The reads of a table as C functions: one cell, fast range, versions, the precedence check; and the intersection of two subsets.
+// The reads of a table as C functions: one cell, fast range, versions; and the intersection of two subsets.
 ghost use Prim.Native.Nat.{ℕ};
 ghost use mathlib.Core.List.{List};
 ghost use lib.ListN.{length, getD};
@@ -7,9 +7,7 @@ ghost use Rattle.offsets.specs.Subsets.{range};
 ghost use Rattle.offsets.specs.Answers.{subsetOf, intersectReply, Answered};
 ghost use Rattle.table.specs.Numbers.{cellView, rangeView, versionView};
 ghost use Rattle.table.specs.Contracts.{CellRead, RangeRead, RowsSince, RowsSinceVersion, VersionRead};
-ghost use Rattle.abi.specs.Encoding.{decodeHeader, decodeSubset, encodeOption, encodeRange, encodeVersion, subsetHeadView, encodeSubset, Answers, Stored};
-ghost use Rattle.precedence.specs.Precedence.{precedenceView, PrecedenceChecked};
-ghost use Rattle.abi_read.specs.Encoding.{encodeFailure};
+ghost use Rattle.abi.specs.Encoding.{decodeHeader, decodeSubset, encodeOption, encodeRange, encodeVersion, subsetHeadView, encodeSubset, Answers};
 use abi::decode_condition;
 use abi::decode_header;
 use abi::decode_subset;
@@ -17,8 +15,6 @@ use abi::store_cell;
 use abi::store_range;
 use abi::store_subset;
 use abi::store_version;
-use precedence::PrecedenceAnswer;
-use refusals::ACCEPTED;
 
 // The answer is two words: found, cell.
 #[no_mangle]
@@ -113,36 +109,4 @@ pub extern "C" fn mouldgrey_intersect_ranges(
 {
     let answer = offsets_intersect::intersect_ranges(start, end, other_start, other_end);
     store_subset(answer, subset)
-}
-
-fn store_failure(answer: PrecedenceAnswer, failure: &mut [u32; 3]) -> u32
-    ensures { λ r. ⌜ Stored precedenceView encodeFailure answer (now (failure .entry)) r (now (failure .exit)) ⌝ }
-{
-    match answer {
-        PrecedenceAnswer::Refused(number) => number,
-        PrecedenceAnswer::Met => {
-            *failure = [0, 0, 0];
-            ACCEPTED
-        }
-        PrecedenceAnswer::Fails(row, place) => {
-            *failure = [1, row, place];
-            ACCEPTED
-        }
-    }
-}
-
-// The answer is three words: found, row, pair.
-#[no_mangle]
-pub extern "C" fn mouldgrey_check_precedence(
-    header: &[u32; 12],
-    rows: &[u32],
-    keys: &[u32],
-    column: u32,
-    pairs: &[u32],
-    failure: &mut [u32; 3],
-) -> u32
-    ensures { λ r. ⌜ Answers (λ answer. PrecedenceChecked (decodeHeader (now (header .entry))) (now (rows .entry)) (now (keys .entry)) column (now (pairs .entry)) answer) precedenceView encodeFailure (now (failure .entry)) r (now (failure .exit)) ⌝ }
-{
-    let answer = precedence::check_precedence(decode_header(header), rows, keys, column, pairs);
-    store_failure(answer, failure)
 }

@@ -15,13 +15,10 @@ use Rattle.table.specs.declared.Header.{Header}
 use Rattle.table.specs.Numbers.{cellView, rangeView, versionView}
 use Rattle.table.specs.Refusing.{cellRefusal, fastRefusal}
 use Rattle.table.specs.Contracts.{CellRead, RangeRead, RowsSince, RowsSinceVersion, VersionRead}
+use Rattle.table.specs.Laws.Determined as library
 use Rattle.table.specs.Laws.Determined.{KnownKeys, cell-read-determined, range-read-determined, version-read-determined, rows-since-determined}
-use Rattle.precedence.specs.Precedence.{precedenceRefusal, precedenceView, PrecedenceChecked}
-use Rattle.precedence.specs.Laws.Determined.{precedence-determined}
 use Rattle.abi.specs.Encoding.{encodeOption, encodeRange, encodeVersion, subsetHeadView, encodeSubset, Answers}
 use Rattle.abi.specs.Laws.Determined.{SameOutcome, answers-determined}
-use Rattle.abi_read.specs.Encoding.{encodeFailure}
-use Rattle.table.specs.Laws.Determined as library
 
 module _ {words words₁ words₂ : List ℕ} {r₁ r₂ : ℕ} where
   pub get-row-column-determined : (h : Header) (rows keys key : List ℕ) (column : ℕ)
@@ -53,9 +50,3 @@ module _ {words words₁ words₂ : List ℕ} {r₁ r₂ : ℕ} where
       → Answers (λ x. Answered (intersectReply a b (length output)) output x output₁) subsetHeadView encodeSubset words r₁ words₁ → Answers (λ x. Answered (intersectReply a b (length output)) output x output₂) subsetHeadView encodeSubset words r₂ words₂
       → SameOutcome subsetHeadView (λ x y. Same x y output₁ output₂) r₁ r₂ words₁ words₂
   intersect-determined a b output output₁ output₂ = answers-determined (λ x y. answered-determined)
-
-pub check-precedence-determined : {words words₁ words₂ : List ℕ} {r₁ r₂ : ℕ} (h : Header) (rows keys : List ℕ) (column : ℕ) (pairs : List ℕ)
-    → Answers (λ a. PrecedenceChecked h rows keys column pairs a) precedenceView encodeFailure words r₁ words₁
-    → Answers (λ a. PrecedenceChecked h rows keys column pairs a) precedenceView encodeFailure words r₂ words₂
-    → SameOutcome precedenceView (SameAnswer precedenceView (precedenceRefusal h (length rows) (length keys) column (length pairs)) (KnownKeys h rows keys)) r₁ r₂ words₁ words₂
-check-precedence-determined h rows keys column pairs = answers-determined (λ x y. precedence-determined)
