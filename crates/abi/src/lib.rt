@@ -1,5 +1,7 @@
 // Encodes headers and answers as words for C callers, and decodes their arguments. A fixed number of words is a fixed array, which
 // goes to C as a plain pointer.
+#![tactic(auto)]
+
 ghost use Rattle.std.specs.Prelude.{◌≡◌};
 ghost use Rattle.constraints.specs.Encoding.{condition_in};
 ghost use Rattle.table.specs.Numbers.{largest_view, table_view, merge_view, row_view, cell_view, range_view, version_view, sound_view};

@@ -1,5 +1,7 @@
 // Images of tables as C functions. Each returns 0 or the number of a refusal, and stores its answer only if it returns 0. A slice goes as
 // a pointer and a length, a fixed array as a pointer alone.
+#![tactic(auto)]
+
 ghost use Rattle.table.specs.Numbers.{table_view};
 ghost use Rattle.table.specs.Outcomes.{body};
 ghost use Rattle.image_spec.specs.Outcomes.{length_view, ImageSized, ImageWritten, ImageChecked, ImageRead, TextRead};

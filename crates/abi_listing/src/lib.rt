@@ -1,4 +1,6 @@
 // Listings as text, and the check of a laboratory's answers against them, as C functions.
+#![tactic(auto)]
+
 ghost use Rattle.std.specs.Prelude.{◌≡◌, true, false, not, eqb};
 ghost use Rattle.listing_spec.specs.Listings.{listing_view, numbered_view, text_view, ListingRead, ListingConverted};
 ghost use Rattle.listing_check.specs.Answers.{verdict_view, check_view, AnswersChecked};

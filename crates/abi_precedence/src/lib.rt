@@ -1,4 +1,6 @@
 // The precedence check as a C function.
+#![tactic(auto)]
+
 ghost use Rattle.precedence.specs.Precedence.{precedence_view, PrecedenceChecked};
 ghost use Rattle.abi.specs.Encoding.{decode_header, Stored, Answers};
 ghost use Rattle.abi_precedence.specs.Encoding.{encode_failure};

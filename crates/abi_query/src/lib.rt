@@ -2,6 +2,8 @@
 // end, with the list of ids passed separately; they make the struct that `query_borrowed` takes. A condition of a list is a struct
 // of three words, so a list of them is lent without a conversion. The proof of each function is
 // manual: the function decodes, queries and stores.
+#![tactic(auto)]
+
 ghost use Rattle.offsets.specs.Answers.{subset_of};
 ghost use Rattle.query_spec.specs.Queries.{match_view, page_view, Matched, PageRead, RefinedOne, RefinedList};
 ghost use Rattle.abi.specs.Encoding.{decode_header, decode_subset, encode_bool, subset_head_view, encode_subset, encode_page, Answers};

@@ -1,4 +1,6 @@
 // The reads of a table as C functions: one cell, fast range, versions; and the intersection of two subsets.
+#![tactic(auto)]
+
 ghost use Rattle.std.specs.Prelude.{ℕ, List, length, get_or};
 ghost use Rattle.constraints.specs.Encoding.{condition_in};
 ghost use Rattle.offsets.specs.Subsets.{range};

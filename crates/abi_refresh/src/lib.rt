@@ -1,4 +1,6 @@
 // The refresh of the rows that contain a given value, as a C function.
+#![tactic(auto)]
+
 ghost use Rattle.refresh_spec.specs.Refreshes.{refresh_view, Refreshing};
 ghost use Rattle.abi.specs.Encoding.{decode_header, encode_header, encode_bool, Stored, AnswersWithHeader};
 

@@ -1,5 +1,7 @@
 // Lists of calls and of queries as C functions: the two of the order's term 3, an opening with a list of calls and a list of queries;
 // and all short histories.
+#![tactic(auto)]
+
 ghost use Rattle.std.specs.Prelude.{◌≡◌, min, get_or};
 ghost use Rattle.replay_queries.specs.Encoding.{query_of};
 ghost use Rattle.replay_frames.specs.Frames.{framed};

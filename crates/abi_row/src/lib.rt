@@ -1,5 +1,7 @@
 // Key lookup as a C function, in a library object of its own: `look_up` is long, and the compiler inlines it only where an object
 // calls it once.
+#![tactic(auto)]
+
 ghost use Rattle.table.specs.Numbers.{row_view};
 ghost use Rattle.table.specs.Outcomes.{LookedUp};
 ghost use Rattle.abi.specs.Encoding.{decode_header, encode_option, Answers};

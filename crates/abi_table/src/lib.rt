@@ -1,5 +1,7 @@
 // The calls that change a table, and the soundness check, as C functions. A slice is passed as a pointer and a length, a fixed
 // array as a pointer alone.
+#![tactic(auto)]
+
 ghost use Rattle.std.specs.Prelude.{◌≡◌, get_or};
 ghost use Rattle.plain_table.specs.Staged.{insert, remove_key, remove_row, opening_in};
 ghost use Rattle.table.specs.Numbers.{table_view, merge_view, sound_view};

@@ -1,4 +1,6 @@
 // Column order for the vault as C functions. They return the refusal's number, or 0 if the output was written.
+#![tactic(auto)]
+
 ghost use Rattle.std.specs.Prelude.{◌≡◌};
 ghost use Rattle.vault.specs.declared.ColumnsAnswer.{ColumnsAnswer};
 ghost use Rattle.vault.specs.Columns.{to_columns, from_columns, columns_view, Rearranged};

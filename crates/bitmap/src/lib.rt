@@ -1,5 +1,7 @@
 // A bitmap of rows, 64 to a word, and a summary of its words, so that a pass over it skips words without a row. It visits the set
 // rows in rising order.
+#![tactic(auto)]
+
 ghost use Rattle.std.specs.Prelude.{◌≡◌, ◌<◌, length};
 ghost use Rattle.bitmap.specs.inner.Bitmaps.{MarkedOne};
 

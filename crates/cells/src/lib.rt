@@ -1,5 +1,7 @@
 // Cells, the dead mark and the hash of a key: common.rs, and `CompactHash`, `ProbeHash` and `shard_hash` of
 // table/mod.rs. Each contract cites its definition in specs/Cells.antt.
+#![tactic(auto)]
+
 ghost use Rattle.std.specs.Prelude.{◌≡◌};
 ghost use Rattle.cells.specs.Cells.{is_dead, compact_hash, probed, mixed, key_hash};
 

@@ -1,5 +1,7 @@
 // Conditions: `Constraint` of table_spec.rs. Each contract cites its definition in specs/Constraints.antt. A column that a row does
 // not have reads as 0, in the code and in the definitions.
+#![tactic(auto)]
+
 ghost use Rattle.std.specs.Prelude.{◌≡◌, cond, ◌∷◌, [], eqb, get_or};
 ghost use Rattle.constraints.specs.Constraints as rules;
 

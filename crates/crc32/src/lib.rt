@@ -2,6 +2,8 @@
 //
 // Slicing by 8: each iteration takes two words and reads each of eight tables once. The tables are one array, which each call
 // of `crc_words` copies to its stack (8 KiB).
+#![tactic(auto)]
+
 ghost use Rattle.std.specs.Prelude.{◌≡◌, ◌+◌, ◌*◌, ◌%◌, ◌≤◌, ◌<◌};
 ghost use mathlib.Core.List.{foldl};
 ghost use Rattle.crc32.specs.Crc.{bit_steps, byte_step, crc32, word_bytes, bytes_of};

@@ -1,1 +1,3 @@
 // Histories of calls, runs of queries, and the claims about them, in specs/. No functions.
+#![tactic(auto)]
+

@@ -1,4 +1,6 @@
 // Whether words are an image of a sound table. Is safe on any words: a word is tested before it is a length or a row.
+#![tactic(auto)]
+
 ghost use Rattle.std.specs.Prelude.{◌≤◌, length};
 ghost use Rattle.image_spec.specs.Outcomes.{ImageChecked};
 ghost use Rattle.image_check.specs.inner.Parsed.{IsAt};

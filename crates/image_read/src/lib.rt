@@ -1,4 +1,6 @@
 // Reads the table or the text of an image into lent stores. A refusal changes nothing.
+#![tactic(auto)]
+
 ghost use Rattle.std.specs.Prelude.{◌≡◌, ◌+◌, ◌≤◌, ◌<◌, length, take, drop, get_or};
 ghost use Rattle.lists.specs.Lists.{splice};
 ghost use Rattle.crc32.specs.Crc.{bytes_of};

@@ -1,5 +1,7 @@
 // Images of tables: what the functions that write and read them return, and the numbers of the format. The definitions and
 // contracts are in specs/.
+#![tactic(auto)]
+
 
 // "MGTB" as a word, lowest byte first.
 pub const MAGIC: u32 = 0x4254_474d;

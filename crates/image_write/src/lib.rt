@@ -1,4 +1,6 @@
 // Writes the image of a table, as defined in specs/Image.antt of `image_spec`.
+#![tactic(auto)]
+
 ghost use Rattle.std.specs.Prelude.{◌≡◌, false, ◌≤◌};
 ghost use Rattle.table.specs.Refusing.{outside};
 ghost use Rattle.image_spec.specs.Image.{image_length};

@@ -2,6 +2,8 @@
 // slots are taken as rows are live, and each live row is reached from its key's home before a free slot and before another row with
 // the key. So the words of slots are not tested one by one: a word of no live row would be one taken slot too many. Takes one pass
 // over the slots and one over the rows. Safe on any store: a word is validated before it is used as a row number.
+#![tactic(auto)]
+
 ghost use Rattle.std.specs.Prelude.{◌≡◌, ◌≤◌, ◌<◌, length};
 ghost use Rattle.sort_entries.specs.inner.Checks.{Decides};
 ghost use Rattle.key_index.specs.inner.Index.{RowsIn, Fits};

@@ -1,6 +1,8 @@
 // The key index: table/sharded_hash_table.rs. Finds the one live row of a key. The slots in use are a ring with linear probing;
 // specs/Slots.antt defines their number and contents. The table checks header and stores before it calls. Safety does not depend on
 // the contents of a store: a row number is validated before its cells are read, and every scan ends after one round.
+#![tactic(auto)]
+
 ghost use Rattle.std.specs.Prelude.{◌≡◌, ℕ, ◌+◌, ◌-◌, ◌/◌, ◌%◌, ◌^◌, ◌≤◌, ◌<◌, true, length, get_or, set};
 ghost use Rattle.cells.specs.Cells.{compact_hash, key_hash};
 ghost use Rattle.key_index.specs.Slots.{key_at, size_class, size_class_for, slots, slot_from};

@@ -1,5 +1,7 @@
 // Rebuilds the key store over all live rows, for another number of slots: when the rows outgrow the slots in use, and when a
 // compaction leaves so few rows that fewer slots suffice; and builds that of an image. Safe on any rows and store.
+#![tactic(auto)]
+
 ghost use Rattle.std.specs.Prelude.{◌<◌};
 ghost use Rattle.key_index.specs.inner.Index.{Fits, RowsFit};
 ghost use Rattle.key_rebuild.specs.inner.Rebuilding.{RowPut, Rebuilt, NewRowPut, UniqueBuilt};

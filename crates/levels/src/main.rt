@@ -1,5 +1,7 @@
 // The program `levels` (document 01): reads lines of table operations from standard input and answers each on standard output.
 // Answers are buffered, and written before each read. The program owns the stores and lends them to the library.
+#![tactic(auto)]
+
 ghost use Rattle.std.specs.Prelude.{◌≤◌, ◌<◌, length as len};
 ghost use Rattle.levels_io.specs.inner.Scanning.{InputIn};
 ghost use Rattle.levels.specs.Run.{machine, Ran};

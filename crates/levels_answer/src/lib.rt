@@ -1,4 +1,6 @@
 // Answers a line of `levels`, given as bytes: parses it, runs it, and writes its response to the start of a lent text.
+#![tactic(auto)]
+
 ghost use Rattle.std.specs.Prelude.{◌+◌, ◌≤◌, length, take};
 ghost use Rattle.table.specs.Outcomes.{stores};
 ghost use Rattle.levels_spec.specs.Answers.{Answering};

@@ -1,4 +1,6 @@
 // The response to a line of `levels`, before it is encoded as text.
+#![tactic(auto)]
+
 use table::Header;
 
 #[derive(Drop)]

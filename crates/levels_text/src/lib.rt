@@ -1,5 +1,7 @@
 // Parses the lines that `levels` reads: a letter and comma-separated decimals, as specs/Lines.antt defines them. There are no
 // preconditions: if there is no room for the numbers, every line is wrong.
+#![tactic(auto)]
+
 ghost use Rattle.std.specs.Prelude.{◌≡◌};
 ghost use Rattle.levels_text.specs.Lines.{is_form};
 ghost use Rattle.levels_text.specs.inner.Reading.{is_bare, FieldIs, LineIs, ParsedIs};

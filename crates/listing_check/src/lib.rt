@@ -1,4 +1,6 @@
 // Checks a laboratory's answers: whether the row numbers given are those of the rows of a listing that meet every condition.
+#![tactic(auto)]
+
 ghost use Rattle.std.specs.Prelude.{◌≡◌, true, ◌≤◌, take, get_or};
 ghost use Rattle.constraints.specs.Constraints.{meets};
 ghost use Rattle.listing_parse.specs.inner.Surveys.{Surveyed};

@@ -1,5 +1,7 @@
 // Parses the text of a listing line by line: whether it is of a form, its head's numbers, and how many rows it has. Lines are those
 // that `levels` reads.
+#![tactic(auto)]
+
 ghost use Rattle.std.specs.Prelude.{◌≡◌, true, false, cond, ◌+◌, ◌≤◌, ◌<◌, length, drop};
 ghost use Rattle.levels_text.specs.Lines.{is_decimal};
 ghost use Rattle.levels_text.specs.Laws.Digits.{digit};

@@ -1,5 +1,7 @@
 // Reads a listing's text, into the head's numbers and the rows' cells in order, or into the text of the other form. Each function scans
 // the whole text first and computes the length of its output, so that nothing is written if it is refused.
+#![tactic(auto)]
+
 ghost use Rattle.std.specs.Prelude.{◌≡◌, true, false, not, ◌&&◌, ◌≤◌, ◌<◌, ◌+◌, length, take, map, ltb, eqb};
 ghost use Rattle.lists.specs.Lists.{splice, flatten, iota};
 ghost use Rattle.listing_spec.specs.Listings.{ListingRead, listing_view, numbered_view, head_letter, prefix_width, converted_text, ListingConverted};

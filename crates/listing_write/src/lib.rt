@@ -1,5 +1,7 @@
 // Writes a listing of a table, in the old form or the new. Computes the length of the text first, so that nothing is written if the
 // output is too short.
+#![tactic(auto)]
+
 ghost use Rattle.std.specs.Prelude.{◌≡◌, map, ◌+◌, ◌*◌, ◌≤◌, length};
 ghost use Rattle.lists.specs.Lists.{flatten};
 ghost use Rattle.levels_text.specs.Written.{field};

@@ -1,1 +1,3 @@
 // Steps of manual proofs over MIR, in proofs/, that other crates share. No functions.
+#![tactic(auto)]
+

@@ -1,5 +1,7 @@
 // `merge` of table/mod.rs: removals by key, removals by row, inserts. Then pending is emptied and, unless the merge stopped, the
 // table is compacted if that is due.
+#![tactic(auto)]
+
 ghost use Rattle.std.specs.Prelude.{◌≤◌, ◌≡◌};
 ghost use Rattle.merge_pending.specs.inner.Becoming.{Ready};
 ghost use Rattle.plain_table.specs.Staged.{compaction_due};

@@ -1,4 +1,6 @@
 // All inserts of a merge, in order: `do_insert` of table/mod.rs.
+#![tactic(auto)]
+
 ghost use Rattle.merge_pending.specs.inner.Becoming.{Ready};
 ghost use Rattle.std.specs.Prelude.{◌≤◌, length};
 ghost use Rattle.merge_insert.specs.inner.Insertions.{Insertions, FirstInsert, InsertNext, InsertedNext};

@@ -1,5 +1,7 @@
 // The pending store as a merge reads it, record by record. Safety does not depend on its contents: the kind and length of a record
 // are tested before it is read.
+#![tactic(auto)]
+
 ghost use Rattle.std.specs.Prelude.{◌≤◌, ◌<◌, length};
 ghost use Rattle.merge_pending.specs.inner.Becoming.{RecordLength, RunSkipped, CanSkip, NextRecord};
 

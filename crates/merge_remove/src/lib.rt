@@ -1,5 +1,7 @@
 // The removals of a merge, by key and by row: one removal, and all of a kind in staging order. A removed row is deleted from the
 // key store and marked dead, once.
+#![tactic(auto)]
+
 ghost use Rattle.std.specs.Prelude.{◌≡◌, ◌<◌, length};
 ghost use Rattle.key_index.specs.inner.Index.{Fits};
 ghost use Rattle.key_index.specs.Slots.{slots};

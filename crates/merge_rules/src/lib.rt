@@ -1,5 +1,7 @@
 // The four merge rules: what happens to a known key's row when a new row is inserted. The Rust takes a `MergeFn`; here a rule
 // number selects the rule. Each contract cites its definition in specs/.
+#![tactic(auto)]
+
 ghost use Rattle.std.specs.Prelude.{◌≡◌, ◌+◌, ◌%◌, ◌≤◌, not, ◌&&◌, length, take, drop, eqb};
 ghost use Rattle.std.specs.Int.Signed.{lt_z};
 ghost use Rattle.lists.specs.Lists.{splice};

@@ -1,5 +1,7 @@
 // Subsets: offsets/mod.rs. A subset is a range or a rising list of ids. This crate checks that a subset is well-formed and computes
 // its size and its ends. `offsets_intersect` is the rest of the subset layer. Proofs above this layer use the set laws in specs/Laws.
+#![tactic(auto)]
+
 ghost use Rattle.std.specs.Prelude.{◌≡◌, ◌<◌, true, length};
 ghost use Rattle.lists.specs.Lists.{rising};
 ghost use Rattle.offsets.specs.Subsets as subsets;

@@ -1,5 +1,7 @@
 // `intersect` of offsets/mod.rs, with the Rust's forms and thresholds. Lists of similar length are merged in step. Otherwise the
 // longer list is searched for the ids of the shorter one.
+#![tactic(auto)]
+
 ghost use Rattle.std.specs.Prelude.{◌≡◌, true, ℕ, ◌≤◌, min, max, List, length};
 ghost use Rattle.lists.specs.Lists.{filter, within};
 ghost use Rattle.refusals.specs.Refusals.{accepted};

@@ -1,1 +1,3 @@
 // The paper's twelve examples, proved in specs/. No functions.
+#![tactic(auto)]
+

@@ -1,1 +1,3 @@
 // The paper's plain table, in specs/. No functions.
+#![tactic(auto)]
+

@@ -1,5 +1,7 @@
 // Before comes first: whether each live row with a pair's first value in a key column has, by its own sort cell, a live row with
 // the second value there and the same other key cells. Each row and each pair that names it takes one lookup in the key index.
+#![tactic(auto)]
+
 ghost use Rattle.std.specs.Prelude.{◌≡◌, ◌/◌, ◌<◌, length};
 ghost use Rattle.precedence.specs.Precedence.{precedence_refusal, PrecedenceChecked};
 ghost use Rattle.precedence.specs.inner.Checking.{Tested, OnTable, filed_by, row_filed, row_meets, row_failing, PlaceIs};

@@ -1,4 +1,6 @@
 // Refine by one and by a list, any match, page.
+#![tactic(auto)]
+
 ghost use Rattle.offsets.specs.Answers.{subset_of};
 ghost use Rattle.query_spec.specs.Queries.{RefinedOne, RefinedList, Matched, PageRead};
 

@@ -1,4 +1,6 @@
 // Queries over a borrowed subset. Each takes the subset apart and calls the function with plain parameters.
+#![tactic(auto)]
+
 ghost use Rattle.offsets.specs.Answers.{subset_of};
 ghost use Rattle.query_spec.specs.Queries.{RefinedOne, RefinedList, Matched, PageRead};
 ghost use Rattle.query_borrowed.specs.Borrowed.{head_of};

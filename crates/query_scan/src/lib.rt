@@ -1,6 +1,8 @@
 // A scan over places of a subset, row by row, which refine, any match and page share. They differ in the places, and in the number
 // of matches that ends the scan. The ids of matching rows are collected in a `RetainBuilder`, so nothing is written while they are
 // neighbours.
+#![tactic(auto)]
+
 ghost use Rattle.std.specs.Prelude.{◌≡◌, true, ◌∷◌, [], ℕ, ◌≤◌, ◌<◌, length, get_or};
 ghost use Rattle.lists.specs.Lists.{row_at};
 ghost use Rattle.constraints.specs.Constraints as rules;

@@ -1,5 +1,7 @@
 // Queries on a table's rows: refine, any match and page of table/mod.rs. This crate has the types that their definitions use, and
 // the refusals of each query; the queries themselves are in crates above. specs/Queries.antt has the definitions.
+#![tactic(auto)]
+
 
 pub mod refusing; // refusing.rt: the refusals of each query
 

@@ -1,6 +1,8 @@
 // Gives rows that mention a value a new stamp: `refresh_rows_for_values` of table/rebuild.rs. The index store catches up with the
 // table, the rows are found by it and counted in a bitmap, and each is staged for removal and, with the stamp as its sort cell, for
 // insertion. If the pending store might be too short, the rows are counted before anything lent is written.
+#![tactic(auto)]
+
 ghost use Rattle.std.specs.Prelude.{◌≡◌, false, [], ◌∷◌, ◌+◌, ◌*◌, ◌≤◌, ltb, length, take, set};
 ghost use Rattle.lists.specs.Lists.{splice, all, row_at};
 ghost use Rattle.plain_table.specs.Staged.{insert, remove_row};

@@ -1,6 +1,8 @@
 // An index from value to rows in a lent store: whether a refresh can continue with it, the rows that it refers to, and catching up
 // with the table. Index.antt of `refresh_spec` defines the words of the store. Safety does not depend on its contents: each chain
 // is followed to lower and lower entries, and a row is tested before its bit is set.
+#![tactic(auto)]
+
 ghost use Rattle.std.specs.Prelude.{◌≡◌, true, false, ◌+◌, ◌*◌, ◌≤◌, ◌<◌, eqb, length, get_or, set};
 ghost use Rattle.table.specs.Refusing.{outside};
 ghost use Rattle.refresh_spec.specs.Index.{bucket_of, entries_under, leads_to};

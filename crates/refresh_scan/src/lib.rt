@@ -1,6 +1,8 @@
 // Finds the rows that mention one of a list of values by testing their cells. The values are processed in parts. Each part has a
 // local hash table of links, in which a value links to the previous value of its bucket, so that a cell is looked up and not
 // compared with all values.
+#![tactic(auto)]
+
 ghost use Rattle.std.specs.Prelude.{◌≡◌, true, ◌+◌, ◌≤◌, ◌<◌, min, ltb, length};
 ghost use Rattle.lists.specs.Lists.{all, elem};
 ghost use Rattle.plain_table.specs.Refreshing.{mentions};

@@ -1,5 +1,7 @@
 // Lists of requests, decoded from words and executed one after another on lent stores, starting with the opening: the claim about
 // histories holds for running code.
+#![tactic(auto)]
+
 ghost use Rattle.table.specs.Outcomes.{stores, body, compaction_words, lengths};
 ghost use Rattle.replay.specs.inner.Making.{Made};
 ghost use Rattle.replay.specs.Replays.{Replayed};

@@ -1,4 +1,6 @@
 // Lists in words: each item is a kind, a count and that number of words.
+#![tactic(auto)]
+
 ghost use Rattle.std.specs.Prelude.{◌≤◌, length};
 ghost use Rattle.replay_frames.specs.inner.Lengths.{FrameIs};
 

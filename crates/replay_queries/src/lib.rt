@@ -1,4 +1,6 @@
 // Runs one query, encoded in words, on the ids left.
+#![tactic(auto)]
+
 ghost use Rattle.std.specs.Prelude.{◌≡◌, ◌<◌};
 ghost use Rattle.offsets.specs.Answers.{subset_of};
 ghost use Rattle.replay_queries.specs.Encoding.{query_of};

@@ -1,6 +1,8 @@
 // Rows of cells, one after another in a lent store: the part of `RowBuffer` of row_buffer/mod.rs that a table uses, and the new
 // numbers of rows in a compaction. `at`, `to` and `from` are positions of a row's first cell in the store. Each function on a store
 // requires that the row is inside it.
+#![tactic(auto)]
+
 ghost use Rattle.std.specs.Prelude.{◌≡◌, ◌+◌, ◌*◌, ◌^◌, ◌≤◌, ◌<◌, ◌++◌, length, take, drop, get_or};
 ghost use Rattle.lists.specs.Lists.{splice, same};
 ghost use Rattle.cells.specs.Cells.{is_dead};

@@ -1,6 +1,8 @@
 // Every sequence of at most six steps, shorter before longer, equal lengths in the order of their first differing step. A position
 // is its sequence read as a number in base 7 with the digits 1 to 7, where the digit of a step is its number plus 1. So 0 is the
 // empty sequence, and each number has one sequence.
+#![tactic(auto)]
+
 ghost use Rattle.std.specs.Prelude.{◌≡◌, true, ◌≤◌, ◌<◌, length, get_or};
 ghost use Rattle.lists.specs.Lists.{splice};
 ghost use Rattle.short_histories.specs.Sequences.{sequence_at, position_of, known, StepAnswered, PositionAnswered, SequenceFound, NextFound};

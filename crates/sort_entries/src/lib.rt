@@ -1,4 +1,6 @@
 // Sort entries: `offsets` of table/mod.rs. A lent store has them, two words each: a value and its first row.
+#![tactic(auto)]
+
 ghost use Rattle.std.specs.Prelude.{◌≡◌, ◌≤◌, ◌<◌, drop};
 ghost use Rattle.sort_entries.specs.Entries.{entries_of, first_row, entries_sound};
 ghost use Rattle.sort_entries.specs.Laws.Positions.{range_at};

@@ -1,5 +1,7 @@
 // The table: `SortedWritesTable` of table/mod.rs, over lent stores. This crate has the types that its definitions use, and the
 // refusals of each operation; the operations are in crates above.
+#![tactic(auto)]
+
 ghost use Rattle.std.specs.Prelude.{◌≡◌, ◌≤◌};
 ghost use Rattle.table.specs.Numbers.{opening_of};
 ghost use Rattle.table.specs.Sound.{index_shape_of};

@@ -1,6 +1,8 @@
 // The soundness check: returns true exactly for sound stores. It takes time linear in slots, rows and pending words if the keys are
 // spread over the slots as they should be. It is safe on any stores: a word is tested before it is used as a row number or a
 // length.
+#![tactic(auto)]
+
 ghost use Rattle.std.specs.Prelude.{◌≡◌, ◌<◌, ◌≤◌, length};
 ghost use Rattle.sort_entries.specs.inner.Search.{EntriesFit};
 ghost use Rattle.sort_entries.specs.inner.Checks.{Decides, Cells};

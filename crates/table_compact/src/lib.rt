@@ -1,6 +1,8 @@
 // Compaction: `rehash_impl` of table/mod.rs. One pass moves the live rows down, sets their bits in the compaction words and
 // rebuilds the sort entries. A second pass writes the new row numbers to the key store, slot by slot and without hashing. If the
 // remaining rows need fewer slots, the key store is rebuilt instead. If no row is dead, only the generation rises.
+#![tactic(auto)]
+
 ghost use Rattle.std.specs.Prelude.{◌≡◌, ◌<◌, ◌≤◌, length};
 ghost use Rattle.key_index.specs.Slots.{slots};
 ghost use Rattle.key_index.specs.inner.Index.{Fits};

@@ -1,4 +1,6 @@
 // Open and clear.
+#![tactic(auto)]
+
 ghost use Rattle.std.specs.Prelude.{◌≡◌, true};
 ghost use Rattle.table.specs.Refusing.{outside};
 ghost use Rattle.table.specs.Outcomes.{body, Opened, Clearing};

@@ -1,5 +1,7 @@
 // Reads of a table by its header and its key store or sort entries: `get_row`, `get_row_column`, `fast_subset`, `version` and
 // `updates_since` of table/mod.rs, and the rows since a noted version.
+#![tactic(auto)]
+
 ghost use Rattle.table.specs.Outcomes.{LookedUp, CellRead, RangeRead, VersionRead, RowsSince, RowsSinceVersion};
 
 use constraints::{Constraint, EQUAL_COLUMNS};

@@ -1,5 +1,7 @@
 // Stages records for the next merge: an insert, a removal by key, a removal by row. Each is appended to the pending store with the
 // compact hash of its key, as `Buffer` of table/mod.rs does.
+#![tactic(auto)]
+
 ghost use Rattle.std.specs.Prelude.{◌≡◌, ◌+◌, ◌≤◌, [], ◌∷◌, length};
 ghost use Rattle.lists.specs.Lists.{splice};
 ghost use Rattle.plain_table.specs.Staged.{insert, remove_key, remove_row};

@@ -1,5 +1,7 @@
 // Single functions of the library under C names, to compare them with the Rust and to measure them alone. Not part of the shipped
 // library.
+#![tactic(auto)]
+
 ghost use Rattle.std.specs.Prelude.{◌≡◌, [], ◌∷◌, ◌+◌, ◌≤◌, ◌<◌, length, take, drop, true};
 ghost use Rattle.lists.specs.Lists.{splice};
 ghost use Rattle.row_buffer.specs.Ranks.{set_below};

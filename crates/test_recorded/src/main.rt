@@ -1,6 +1,8 @@
 // The program `recorded`: reads the recorded list from standard input, makes each of its calls and queries on the library, and
 // compares the answers with those of the list. It prints how many answers the list has, how many were compared, and how many
 // agreed. It skips queries with a list of conditions.
+#![tactic(auto)]
+
 use answers::Counts;
 use libc::{STDIN_FILENO, STDOUT_FILENO};
 use steps::{State, step};

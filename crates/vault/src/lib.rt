@@ -1,6 +1,8 @@
 // Column order for the vault: a list of rows, column after column, as differences down each column; and the inverse. Both process
 // the rows in blocks, and each block column by column, so that a cell's neighbours in its row are still in the cache when their
 // columns are processed.
+#![tactic(auto)]
+
 ghost use Rattle.std.specs.Prelude.{◌≡◌, ◌+◌, ◌*◌, ◌<◌, ◌≤◌, true, false, length};
 ghost use Rattle.vault.specs.Columns.{to_columns, from_columns, columns_refusal, Rearranged};
 ghost use Rattle.vault.specs.inner.Filling.{cell_above, Shaped, Within, ordered, placed, Begun, Filled};
