@@ -37,7 +37,7 @@ pub use denote.Steps.{peeks, facts, owned, nothing, only, heard, said}
 pub use denote.Triple.Clauses.{Clauses, Ended, Lasts, at_exit, lasts, closing}
 pub use denote.Triple.Entry.{on_entry, Args, Res}
 pub use denote.Triple.Table.{cited, entered}
-pub use denote.Triple.Walked.{says, needs, ends_at}
+pub use denote.Triple.Walked.{says, rules, ends_at}
 pub use types.SemTy.{cells, Arr}
 pub use denote.Lend.{Held, lends_slice, slice_back, lends_shr_slice}
 pub use denote.Array.{Array, array_vals, Array-Tells, Array-Lawful, Array-Makes}

@@ -1,5 +1,5 @@
 -- `abi::store_match` meets its contract. Assumes nothing.
-use Rattle.abi.proofs.Prelude.{refl, stored_as, needs}
+use Rattle.abi.proofs.Prelude.{refl, stored_as, rules}
 use Rattle.query_spec.specs.Queries.{match_view}
 use Rattle.abi.specs.Encoding.{encode_bool, returned}
 use Rattle.abi.proofs.store_match.Statement.{statement}
@@ -11,6 +11,6 @@ unfolding match_view encode_bool returned if_accepted
 store_match_spec =
     tie.close
     (tie.spec
-    (λ c. search needs) (λ c. search needs) (λ c κs. search needs)
+    (λ c. search rules) (λ c. search rules) (λ c κs. search rules)
     (λ c. stored_as c.before.answer.given.1 refl refl)
     (λ c. stored_as c.before.before.before.answer2.given.1 refl (rw c.before.encode-bool.ensures refl)))

@@ -1,5 +1,5 @@
 -- `abi::store_page` meets its contract. Assumes nothing.
-use Rattle.abi.proofs.Prelude.{refl, stored_as, needs}
+use Rattle.abi.proofs.Prelude.{refl, stored_as, rules}
 use Rattle.query_spec.specs.Queries.{page_view, next_view}
 use Rattle.abi.specs.Encoding.{encode_option, encode_page, returned}
 use Rattle.abi.proofs.store_page.Statement.{statement}
@@ -12,7 +12,7 @@ unfolding page_view next_view encode_option Option-elim encode_page returned if_
 store_page_spec =
     tie.close
     (tie.spec
-    (λ c. search needs) (λ c. search needs) (λ c. search needs) (λ c. search needs)
+    (λ c. search rules) (λ c. search rules) (λ c. search rules) (λ c. search rules)
     (λ c. stored_as c.before.answer.given.1 refl refl)
     (λ c. stored_as c.before.before.before.before.answer2.given.1 refl (rw c.before.enum_told.given.1 refl))
     (λ c. stored_as c.before.before.before.before.before.answer2.given.1 refl (rw c.before.before.next.given.1 refl)))

@@ -1,5 +1,5 @@
 -- `abi::store_row` meets its contract. Assumes nothing.
-use Rattle.abi.proofs.Prelude.{refl, stored_as, needs}
+use Rattle.abi.proofs.Prelude.{refl, stored_as, rules}
 use Rattle.table.specs.Numbers.{row_view}
 use Rattle.abi.specs.Encoding.{encode_option, returned}
 use Rattle.abi.proofs.store_row.Statement.{statement}
@@ -12,7 +12,7 @@ unfolding row_view encode_option Option-elim returned if_accepted
 store_row_spec =
     tie.close
     (tie.spec
-    (λ c. search needs) (λ c. search needs) (λ c. search needs)
+    (λ c. search rules) (λ c. search rules) (λ c. search rules)
     (λ c. stored_as c.before.answer.given.1 refl refl)
     (λ c. stored_as c.before.enum_told.given.1 refl refl)
     (λ c. stored_as c.before.before.answer2.given.1 refl refl))

@@ -1,5 +1,5 @@
 -- `abi::store_subset` meets its contract. Assumes nothing.
-use Rattle.abi.proofs.Prelude.{refl, stored_as, needs}
+use Rattle.abi.proofs.Prelude.{refl, stored_as, rules}
 use Rattle.abi.specs.Encoding.{subset_head_view, encode_subset, returned}
 use Rattle.abi.proofs.store_subset.Statement.{statement}
 use Rattle.abi.proofs.store_subset.Tie as tie
@@ -10,7 +10,7 @@ unfolding subset_head_view encode_subset returned if_accepted
 store_subset_spec =
     tie.close
     (tie.spec
-    (λ c. search needs) (λ c. search needs) (λ c. search needs)
+    (λ c. search rules) (λ c. search rules) (λ c. search rules)
     (λ c. stored_as c.before.answer.given.1 refl refl)
     (λ c. stored_as c.before.before.answer2.given.1 refl refl)
     (λ c. stored_as c.before.before.answer3.given.1 refl refl))

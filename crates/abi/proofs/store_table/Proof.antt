@@ -1,5 +1,5 @@
 -- `abi::store_table` meets its contract. Assumes nothing.
-use Rattle.abi.proofs.Prelude.{refl, stored_as, needs}
+use Rattle.abi.proofs.Prelude.{refl, stored_as, rules}
 use Rattle.table.specs.Numbers.{table_view}
 use Rattle.abi.specs.Encoding.{returned}
 use Rattle.abi.proofs.store_table.Statement.{statement}
@@ -11,6 +11,6 @@ unfolding table_view returned if_accepted
 store_table_spec =
     tie.close
     (tie.spec
-    (λ c. search needs) (λ c. search needs) (λ c κs. search needs)
+    (λ c. search rules) (λ c. search rules) (λ c κs. search rules)
     (λ c. stored_as c.before.answer.given.1 refl refl)
     (λ c. stored_as c.before.before.answer2.given.1 refl c.encode-header.ensures))

@@ -1,5 +1,5 @@
 -- `abi::store_version` meets its contract. Assumes nothing.
-use Rattle.abi.proofs.Prelude.{refl, stored_as, needs}
+use Rattle.abi.proofs.Prelude.{refl, stored_as, rules}
 use Rattle.table.specs.Numbers.{version_view}
 use Rattle.abi.specs.Encoding.{encode_version, returned}
 use Rattle.abi.proofs.store_version.Statement.{statement}
@@ -11,6 +11,6 @@ unfolding version_view encode_version returned if_accepted
 store_version_spec =
     tie.close
     (tie.spec
-    (λ c. search needs) (λ c. search needs)
+    (λ c. search rules) (λ c. search rules)
     (λ c. stored_as c.before.answer.given.1 refl refl)
     (λ c. stored_as c.before.before.answer2.given.1 refl refl))

@@ -1,5 +1,5 @@
 -- `abi_listing::store_check` meets its contract. Assumes nothing.
-use Rattle.abi_listing.proofs.Prelude.{refl, stored_as, needs}
+use Rattle.abi_listing.proofs.Prelude.{refl, stored_as, rules}
 use Rattle.listing_check.specs.Answers.{check_view}
 use Rattle.abi.specs.Encoding.{returned}
 use Rattle.abi_listing.proofs.store_check.Statement.{statement}
@@ -11,6 +11,6 @@ unfolding check_view returned if_accepted
 store_check_spec =
     tie.close
     (tie.spec
-    (λ c. search needs) (λ c. search needs) (λ c κs. search needs)
+    (λ c. search rules) (λ c. search rules) (λ c κs. search rules)
     (λ c. stored_as c.before.answer.given.1 refl refl)
     (λ c. stored_as c.before.before.answer2.given.1 refl c.encode-verdict.ensures))

@@ -1,5 +1,5 @@
 -- `abi_read::mouldgrey_table_version` meets its contract. Assumes nothing.
-use Rattle.abi_read.proofs.Prelude.{sym, answers, needs}
+use Rattle.abi_read.proofs.Prelude.{sym, answers, rules}
 use Rattle.abi_read.proofs.mouldgrey_table_version.Statement.{statement}
 use Rattle.abi_read.proofs.mouldgrey_table_version.Tie as tie
 
@@ -7,5 +7,5 @@ pub mouldgrey_table_version_spec : {M : Type 1} → statement M
 mouldgrey_table_version_spec =
     tie.close
     (tie.spec
-    (λ c κs. search needs) (λ c κs. search needs) (λ c κs. search needs)
+    (λ c κs. search rules) (λ c κs. search rules) (λ c κs. search rules)
     (λ c. rw (sym c.before.before.before.decode-header.ensures) (answers c.before.before.version.ensures c.store-version.ensures)))

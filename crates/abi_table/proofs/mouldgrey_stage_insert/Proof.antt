@@ -1,5 +1,5 @@
 -- `abi_table::mouldgrey_stage_insert` meets its contract. Assumes nothing.
-use Rattle.abi_table.proofs.Prelude.{sym, answers, needs}
+use Rattle.abi_table.proofs.Prelude.{sym, answers, rules}
 use Rattle.abi_table.proofs.mouldgrey_stage_insert.Statement.{statement}
 use Rattle.abi_table.proofs.mouldgrey_stage_insert.Tie as tie
 
@@ -7,5 +7,5 @@ pub mouldgrey_stage_insert_spec : {M : Type 1} → statement M
 mouldgrey_stage_insert_spec =
     tie.close
     (tie.spec
-    (λ c κs. search needs) (λ c κs. search needs) (λ c κs. search needs) (λ c. search needs)
+    (λ c κs. search rules) (λ c κs. search rules) (λ c κs. search rules) (λ c. search rules)
     (λ c. rw (sym c.before.before.before.before.before.before.decode-header.ensures) (answers c.before.before.before.before.stage-insert.ensures c.store-table.ensures)))

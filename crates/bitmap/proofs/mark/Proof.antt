@@ -1,5 +1,5 @@
 -- `bitmap::mark` meets its contract. Assumes nothing.
-use Rattle.bitmap.proofs.Prelude.{length-set, needs}
+use Rattle.bitmap.proofs.Prelude.{length-set, rules}
 use Rattle.bitmap.proofs.Marking.{marked_new, marked_already}
 use Rattle.bitmap.proofs.mark.Statement.{statement}
 use Rattle.bitmap.proofs.mark.Tie as tie
@@ -14,6 +14,6 @@ pub mark_spec : {M : Type 1} → statement M
 mark_spec =
     tie.close
     (tie.spec
-    (λ c. search needs) (λ c. search needs) (λ c. search needs) (λ c. search needs) (λ c. search needs) (λ c. search needs)
-    (λ c. search needs) (λ c. search needs) (λ c. search needs) (λ c. search needs) (λ c. search needs) (λ c. search needs)
-    (λ c. search needs) (λ c. simp length-set (search needs)) (λ c. search needs) returns (λ c. search needs) returns_2)
+    (λ c. search rules) (λ c. search rules) (λ c. search rules) (λ c. search rules) (λ c. search rules) (λ c. search rules)
+    (λ c. search rules) (λ c. search rules) (λ c. search rules) (λ c. search rules) (λ c. search rules) (λ c. search rules)
+    (λ c. search rules) (λ c. simp length-set (search rules)) (λ c. search rules) returns (λ c. search rules) returns_2)

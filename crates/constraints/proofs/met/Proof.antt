@@ -1,5 +1,5 @@
 -- `constraints::met` meets its contract. Assumes nothing.
-use Rattle.constraints.proofs.Prelude.{◌∙◌, ⊎_elim, needs, eq-eqb, ne_eqb}
+use Rattle.constraints.proofs.Prelude.{◌∙◌, ⊎_elim, rules, eq-eqb, ne_eqb}
 use Rattle.constraints.proofs.Laws.{met_by}
 use Rattle.constraints.proofs.met.Statement.{statement}
 use Rattle.constraints.proofs.met.Tie as tie
@@ -16,4 +16,4 @@ returns c =
 pub met_spec : {M : Type 1} → statement M
 met_spec =
     tie.close
-    (tie.spec (λ c κs. search needs) (λ c κs. search needs) (λ c κs. search needs) returns)
+    (tie.spec (λ c κs. search rules) (λ c κs. search rules) (λ c κs. search rules) returns)

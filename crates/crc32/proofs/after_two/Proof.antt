@@ -1,5 +1,5 @@
 -- `crc32::after_two` meets its contract. Assumes nothing.
-use Rattle.crc32.proofs.Prelude.{sym, ap₂, ◌∙◌, bit_xor, needs}
+use Rattle.crc32.proofs.Prelude.{sym, ap₂, ◌∙◌, bit_xor, rules}
 use Rattle.crc32.proofs.Slices.{two_words}
 use Rattle.crc32.proofs.after_two.Statement.{statement}
 use Rattle.crc32.proofs.after_two.Tie as tie
@@ -11,4 +11,4 @@ returns c =
     ∙ sym (two_words s.args.register s.args.first s.args.second s.ranges.first.fits s.ranges.second.fits)
 
 pub after_two_spec : {M : Type 1} → statement M
-after_two_spec = tie.close (tie.spec (λ c κs. search needs) (λ c κs. search needs) returns)
+after_two_spec = tie.close (tie.spec (λ c κs. search rules) (λ c κs. search rules) returns)

@@ -1,5 +1,5 @@
 -- `crc32::four_bytes` meets its contract. Assumes nothing.
-use Rattle.crc32.proofs.Prelude.{ap₂, ◌∙◌, bit_xor, needs}
+use Rattle.crc32.proofs.Prelude.{ap₂, ◌∙◌, bit_xor, rules}
 use Rattle.crc32.proofs.Slices.{four_entries}
 use Rattle.crc32.proofs.four_bytes.Statement.{statement}
 use Rattle.crc32.proofs.four_bytes.Tie as tie
@@ -16,5 +16,5 @@ pub four_bytes_spec : {M : Type 1} → statement M
 four_bytes_spec =
     tie.close
     (tie.spec
-    (λ c. search needs) (λ c κs. search needs) (λ c. search needs) (λ c κs. search needs) (λ c. search needs)
-    (λ c κs. search needs) (λ c κs. search needs) returns)
+    (λ c. search rules) (λ c κs. search rules) (λ c. search rules) (λ c κs. search rules) (λ c. search rules)
+    (λ c κs. search rules) (λ c κs. search rules) returns)

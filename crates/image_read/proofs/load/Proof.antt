@@ -1,6 +1,6 @@
 -- `image_read::load` meets its contract. Assumes nothing.
 use Rattle.image_read.proofs.LoadingSteps.{loading_refused, parts_fit, keys_fit, keys_built, loading_done}
-use Rattle.image_read.proofs.Prelude.{body, needs}
+use Rattle.image_read.proofs.Prelude.{body, rules}
 use Rattle.image_read.proofs.load.Statement.{statement}
 use Rattle.image_read.proofs.load.Tie as tie
 
@@ -43,4 +43,4 @@ pub load_spec : {M : Type 1} → statement M
 load_spec =
     tie.close
     (tie.spec
-    (λ c κs. search needs) (λ c κs. search needs) returns write_parts_requires (λ c κs. search needs) write_keys_requires (λ c. search needs) (λ c. search needs) (λ c. search needs) (λ c. search needs) returns_2)
+    (λ c κs. search rules) (λ c κs. search rules) returns write_parts_requires (λ c κs. search rules) write_keys_requires (λ c. search rules) (λ c. search rules) (λ c. search rules) (λ c. search rules) returns_2)

@@ -1,6 +1,6 @@
 -- `image_read::read_image` meets its contract. Assumes nothing.
 use Rattle.image_read.proofs.LoadingSteps.{read_refused, read_loaded}
-use Rattle.image_read.proofs.Prelude.{ℕ, arith, length-replicate, body, needs}
+use Rattle.image_read.proofs.Prelude.{ℕ, arith, length-replicate, body, rules}
 use Rattle.image_read.proofs.read_image.Statement.{statement}
 use Rattle.image_read.proofs.read_image.Tie as tie
 
@@ -29,4 +29,4 @@ pub read_image_spec : {M : Type 1} → statement M
 read_image_spec =
     tie.close
     (tie.spec
-    (λ c. search needs) (λ c κs. omega (arith, length-replicate {A = ℕ} 131072 0)) (λ c. search needs) (λ c. search needs) (λ c. search needs) load_requires returns (λ c. search needs) (λ c. search needs) (λ c. search needs) (λ c. search needs) returns_2)
+    (λ c. search rules) (λ c κs. omega (arith, length-replicate {A = ℕ} 131072 0)) (λ c. search rules) (λ c. search rules) (λ c. search rules) load_requires returns (λ c. search rules) (λ c. search rules) (λ c. search rules) (λ c. search rules) returns_2)

@@ -1,5 +1,5 @@
 -- `image_read::read_text` meets its contract. Assumes nothing.
-use Rattle.image_read.proofs.Prelude.{arith, needs}
+use Rattle.image_read.proofs.Prelude.{arith, rules}
 use Rattle.image_read.proofs.TextSteps.{text_none, text_in, text_short, text_written}
 use Rattle.image_read.proofs.read_text.Statement.{statement}
 use Rattle.image_read.proofs.read_text.Tie as tie
@@ -20,6 +20,6 @@ pub read_text_spec : {M : Type 1} → statement M
 read_text_spec =
     tie.close
     (tie.spec
-    (λ c κs. search needs) (λ c. search needs) (λ c. search needs)
-    (λ c. text_none _ _ (c.before.before.parse.ensures.no_image c.enum_told.given.1)) (λ c. search needs) returns_2
-    write_text_requires (λ c. search needs) (λ c. search needs) returns_3)
+    (λ c κs. search rules) (λ c. search rules) (λ c. search rules)
+    (λ c. text_none _ _ (c.before.before.parse.ensures.no_image c.enum_told.given.1)) (λ c. search rules) returns_2
+    write_text_requires (λ c. search rules) (λ c. search rules) returns_3)

@@ -1,6 +1,6 @@
 -- `image_read::write_keys` meets its contract. Assumes nothing.
 use Rattle.image_read.proofs.LoadingSteps.{keys_copied}
-use Rattle.image_read.proofs.Prelude.{needs}
+use Rattle.image_read.proofs.Prelude.{rules}
 use Rattle.image_read.proofs.write_keys.Statement.{statement}
 use Rattle.image_read.proofs.write_keys.Tie as tie
 
@@ -13,5 +13,5 @@ pub write_keys_spec : {M : Type 1} → statement M
 write_keys_spec =
     tie.close
     (tie.spec
-    (λ c κs. search needs) (λ c κs. search needs) (λ c. search needs) (λ c. search needs) (λ c. search needs) (λ c. search needs)
-    (λ c κs. search needs) (λ c. search needs) returns_2)
+    (λ c κs. search rules) (λ c κs. search rules) (λ c. search rules) (λ c. search rules) (λ c. search rules) (λ c. search rules)
+    (λ c κs. search rules) (λ c. search rules) returns_2)

@@ -1,5 +1,5 @@
 -- `image_write::image_length` meets its contract. Assumes nothing.
-use Rattle.image_write.proofs.Prelude.{ℕ, ◌+◌, ◌*◌, ap, arith, needs, inside_few}
+use Rattle.image_write.proofs.Prelude.{ℕ, ◌+◌, ◌*◌, ap, arith, rules, inside_few}
 use Rattle.image_spec.specs.Image.{image_length}
 use Rattle.image_write.proofs.image_length.Statement.{statement}
 use Rattle.image_write.proofs.image_length.Tie as tie
@@ -14,9 +14,9 @@ pub image_length_spec : {M : Type 1} → statement M
 image_length_spec =
     tie.close
     (tie.spec
-    (λ c. search needs) (λ c. search needs) (λ c. omega (arith, inside_few _ c.before.before.requires.0))
-    (λ c κs. search needs) (λ c. search needs) (λ c. omega (arith, inside_few _ c.before.before.before.requires.0))
-    (λ c. search needs) (λ c. search needs) (λ c. omega (arith, inside_few _ c.before.before.before.before.requires.0))
-    (λ c. search needs)
+    (λ c. search rules) (λ c. search rules) (λ c. omega (arith, inside_few _ c.before.before.requires.0))
+    (λ c κs. search rules) (λ c. search rules) (λ c. omega (arith, inside_few _ c.before.before.before.requires.0))
+    (λ c. search rules) (λ c. search rules) (λ c. omega (arith, inside_few _ c.before.before.before.before.requires.0))
+    (λ c. search rules)
     (λ c. omega (arith, inside_few _ c.before.before.before.before.before.requires.0, c.before.before.before.before.before.requires.1))
     returns)

@@ -1,5 +1,5 @@
 -- `image_write::write_image` meets its contract. Assumes nothing.
-use Rattle.image_write.proofs.Prelude.{◌+◌, ◌-◌, ◌≡◌, sym, ◌∙◌, arith, length, needs, image_length, write_refusal, image_written, length_is, Accepted, write_accepted, accepted_holds}
+use Rattle.image_write.proofs.Prelude.{◌+◌, ◌-◌, ◌≡◌, sym, ◌∙◌, arith, length, rules, image_length, write_refusal, image_written, length_is, Accepted, write_accepted, accepted_holds}
 use Rattle.image_write.proofs.Answers.{written_refused, written_accepted}
 use Rattle.image_write.proofs.write_image.Statement.{statement}
 use Rattle.image_write.proofs.write_image.Tie as tie
@@ -54,5 +54,5 @@ pub write_image_spec : {M : Type 1} → statement M
 write_image_spec =
     tie.close
     (tie.spec
-    (λ c κs. search needs) returns (λ c κs. let k = accepted c in (k.inside, k.text_short)) write_body_requires
-    sub_write_checksum write_checksum_requires (λ c. search needs) returns_2)
+    (λ c κs. search rules) returns (λ c κs. let k = accepted c in (k.inside, k.text_short)) write_body_requires
+    sub_write_checksum write_checksum_requires (λ c. search rules) returns_2)

@@ -1,5 +1,5 @@
 -- `image_write::write_refusal` meets its contract. Assumes nothing.
-use Rattle.image_write.proofs.Prelude.{◌≡◌, sym, ◌∙◌, needs, false, pending_outside, rows_short, pairs_short, pending_outside_no, write_outside, write_rows_too_short, write_sorts_too_short, write_text_too_long, write_output_too_short, write_none}
+use Rattle.image_write.proofs.Prelude.{◌≡◌, sym, ◌∙◌, rules, false, pending_outside, rows_short, pairs_short, pending_outside_no, write_outside, write_rows_too_short, write_sorts_too_short, write_text_too_long, write_output_too_short, write_none}
 use Rattle.image_write.proofs.write_refusal.Statement.{statement}
 use Rattle.image_write.proofs.write_refusal.Tie as tie
 
@@ -39,7 +39,7 @@ pub write_refusal_spec : {M : Type 1} → statement M
 write_refusal_spec =
     tie.close
     (tie.spec
-    (λ c κs. search needs) (λ c. write_outside _ _ _ _ _ _ (sym c.before.is-pending-outside.ensures ∙ c.if1.true))
+    (λ c κs. search rules) (λ c. write_outside _ _ _ _ _ _ (sym c.before.is-pending-outside.ensures ∙ c.if1.true))
     (λ c κs. pending_outside_no _ _ (inside c))
     (λ c. write_rows_too_short _ _ _ _ _ _ (inside c.before.before) (sym c.before.is-rows-short.ensures ∙ c.if2.true))
     (λ c κs. pending_outside_no _ _ (inside c.before.before))

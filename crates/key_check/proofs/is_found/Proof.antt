@@ -1,5 +1,5 @@
 -- `key_check::is_found` meets its contract. Assumes nothing.
-use Rattle.key_check.proofs.Prelude.{arith, needs, rows_in_lem, Inside, row_inside}
+use Rattle.key_check.proofs.Prelude.{arith, rules, rows_in_lem, Inside, row_inside}
 use Rattle.key_check.proofs.CheckSteps.{own_decided}
 use Rattle.key_check.proofs.is_found.Statement.{statement}
 use Rattle.key_check.proofs.is_found.Tie as tie
@@ -17,8 +17,8 @@ pub is_found_spec : {M : Type 1} → statement M
 is_found_spec =
     tie.close
     (tie.spec
-    (λ c κs. search needs) (λ c. search needs)
-    (λ c. omega (arith, lies c.before.before.before.before, c.before.before.before.before.requires.0.most_keys)) (λ c. omega (arith, lies c.before.before.before.before)) (λ c. search needs) (λ c. search needs)
-    (λ c. omega (arith, lies c.before.before.before.before, c.before.before.before.before.requires.0.most_keys)) (λ c κs. search needs)
-    (λ c. omega (arith, lies c.before.before.before.before.before.before)) (λ c. search needs) (λ c. search needs)
-    (λ c. omega (arith, lies c.before.before.before.before.before.before, c.before.before.before.before.before.before.requires.0.most_keys)) (λ c κs. search needs) returns)
+    (λ c κs. search rules) (λ c. search rules)
+    (λ c. omega (arith, lies c.before.before.before.before, c.before.before.before.before.requires.0.most_keys)) (λ c. omega (arith, lies c.before.before.before.before)) (λ c. search rules) (λ c. search rules)
+    (λ c. omega (arith, lies c.before.before.before.before, c.before.before.before.before.requires.0.most_keys)) (λ c κs. search rules)
+    (λ c. omega (arith, lies c.before.before.before.before.before.before)) (λ c. search rules) (λ c. search rules)
+    (λ c. omega (arith, lies c.before.before.before.before.before.before, c.before.before.before.before.before.before.requires.0.most_keys)) (λ c κs. search rules) returns)

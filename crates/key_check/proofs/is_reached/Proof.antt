@@ -1,6 +1,6 @@
 -- `key_check::is_reached` meets its contract. The loop's invariant: each slot passed is taken, has not the row's own word and leads
 -- to no row with the key. Assumes nothing.
-use Rattle.key_check.proofs.Prelude.{◌-◌, sym, ◌∙◌, needs, home_slot, rows_in_lem, ScannedSlots, begin, on}
+use Rattle.key_check.proofs.Prelude.{◌-◌, sym, ◌∙◌, rules, home_slot, rows_in_lem, ScannedSlots, begin, on}
 use Rattle.key_check.proofs.CheckSteps.{Past, reached_own, reached_free, reached_other, reached_none}
 use Rattle.key_check.proofs.is_reached.Statement.{statement}
 use Rattle.key_check.proofs.is_reached.Tie as tie
@@ -43,9 +43,9 @@ pub is_reached_spec : {M : Type 1} → statement M
 is_reached_spec =
     tie.close
     (tie.spec
-    invariant_loop decreases_loop (λ c. search needs) (λ c κs. search needs) (λ c κs. search needs)
-    (λ c. begin _ _ _ _ _ c.home_slot_lem.ensures.0 c.home_slot_lem.ensures.1) (λ c. search needs) (λ c. search needs)
-    (λ c. search needs) returns returns_2
+    invariant_loop decreases_loop (λ c. search rules) (λ c κs. search rules) (λ c κs. search rules)
+    (λ c. begin _ _ _ _ _ c.home_slot_lem.ensures.0 c.home_slot_lem.ensures.1) (λ c. search rules) (λ c. search rules)
+    (λ c. search rules) returns returns_2
     (λ c κs. let p = c.before.before.before.before.before.before.before.before.before.before.before.requires in (rows_in_lem _ _ _ p.0, p.1))
-    returns_3 (λ c κs. search needs) (λ c. search needs) (λ c. search needs) loop_again
+    returns_3 (λ c κs. search rules) (λ c. search rules) (λ c. search rules) loop_again
     (λ c. let l = c.before.loop in reached_none _ _ _ _ _ _ l.at l.passed l.invariant c.loop-test.false))

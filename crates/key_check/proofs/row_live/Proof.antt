@@ -1,5 +1,5 @@
 -- `key_check::row_live` meets its contract. Assumes nothing.
-use Rattle.key_check.proofs.Prelude.{◌∙◌, arith, needs, Inside, row_inside}
+use Rattle.key_check.proofs.Prelude.{◌∙◌, arith, rules, Inside, row_inside}
 use Rattle.key_check.proofs.CheckSteps.{row_part}
 use Rattle.key_check.proofs.row_live.Statement.{statement}
 use Rattle.key_check.proofs.row_live.Tie as tie
@@ -16,6 +16,6 @@ pub row_live_spec : {M : Type 1} → statement M
 row_live_spec =
     tie.close
     (tie.spec
-    (λ c κs. search needs) (λ c. search needs)
-    (λ c. omega (arith, lies c.before.before.before)) (λ c. omega (arith, lies c.before.before.before)) (λ c. search needs) (λ c. search needs)
-    (λ c. omega (arith, lies c.before.before.before)) (λ c κs. search needs) returns)
+    (λ c κs. search rules) (λ c. search rules)
+    (λ c. omega (arith, lies c.before.before.before)) (λ c. omega (arith, lies c.before.before.before)) (λ c. search rules) (λ c. search rules)
+    (λ c. omega (arith, lies c.before.before.before)) (λ c κs. search rules) returns)

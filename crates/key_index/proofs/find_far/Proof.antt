@@ -1,6 +1,6 @@
 -- `key_index::find_far` meets its contract. The loop's invariant: each slot passed leads to no row with the key.
 -- Assumes nothing.
-use Rattle.key_index.proofs.Prelude.{◌+◌, ◌-◌, ◌≤◌, arith, needs, slots, home_slot, rows_in_lem}
+use Rattle.key_index.proofs.Prelude.{◌+◌, ◌-◌, ◌≤◌, arith, rules, slots, home_slot, rows_in_lem}
 use Rattle.key_index.proofs.ScanSteps.{ScannedSlots, begin, on, on_run}
 use Rattle.key_index.proofs.FindSteps.{Past, past_bits, leads_some, found_free, found_round, found_row}
 use Rattle.key_index.proofs.find_far.Statement.{statement}
@@ -46,10 +46,10 @@ pub find_far_spec : {M : Type 1} → statement M
 find_far_spec =
     tie.close
     (tie.spec
-    invariant_loop decreases_loop (λ c. search needs) (λ c κs. search needs)
-    (λ c. begin _ _ _ _ _ c.home_slot_lem.ensures.0 c.home_slot_lem.ensures.1) (λ c. search needs) (λ c. search needs)
-    (λ c. search needs) returns
+    invariant_loop decreases_loop (λ c. search rules) (λ c κs. search rules)
+    (λ c. begin _ _ _ _ _ c.home_slot_lem.ensures.0 c.home_slot_lem.ensures.1) (λ c. search rules) (λ c. search rules)
+    (λ c. search rules) returns
     (λ c κs. let p = c.before.before.before.before.before.before.before.before.before.requires in (rows_in_lem _ _ _ p.0, p.1))
-    sub_row returns_2 (λ c κs. search needs) (λ c. search needs) (λ c κs. search needs) (λ c. search needs) (λ c. search needs)
-    (λ c. search needs) loop_again (λ c. search needs) (λ c. passed_one c.before)
+    sub_row returns_2 (λ c κs. search rules) (λ c. search rules) (λ c κs. search rules) (λ c. search rules) (λ c. search rules)
+    (λ c. search rules) loop_again (λ c. search rules) (λ c. passed_one c.before)
     (λ c. let l = c.before.loop in found_round _ _ _ _ _ (few c.before.before.before.before.before.before.before) l.at l.passed l.invariant c.loop-test.false))

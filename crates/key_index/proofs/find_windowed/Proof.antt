@@ -1,5 +1,5 @@
 -- `key_index::find_windowed` meets its contract. Assumes nothing.
-use Rattle.key_index.proofs.Prelude.{◌≤◌, arith, needs}
+use Rattle.key_index.proofs.Prelude.{◌≤◌, arith, rules}
 use Rattle.key_index.proofs.WordSteps.{leads_bits}
 use Rattle.key_index.proofs.FindSteps.{found_free, passed_to}
 use Rattle.key_index.proofs.find_windowed.Statement.{statement}
@@ -19,4 +19,4 @@ returns c =
 pub find_windowed_spec : {M : Type 1} → statement M
 find_windowed_spec =
     tie.close
-    (tie.spec (λ c. search needs) (λ c κs. search needs) (λ c κs. search needs) returns (λ c κs. search needs) (λ c. c.find.ensures))
+    (tie.spec (λ c. search rules) (λ c κs. search rules) (λ c κs. search rules) returns (λ c κs. search rules) (λ c. c.find.ensures))

@@ -1,5 +1,5 @@
 -- `key_index::is_hit` meets its contract. Assumes nothing.
-use Rattle.key_index.proofs.Prelude.{ℕ, ◌-◌, ◌*◌, ◌%◌, ◌^◌, ◌≤◌, refl, sym, ap, ◌∙◌, List, arith, take, drop, not-true, not-false, needs, same, key_row}
+use Rattle.key_index.proofs.Prelude.{ℕ, ◌-◌, ◌*◌, ◌%◌, ◌^◌, ◌≤◌, refl, sym, ap, ◌∙◌, List, arith, take, drop, not-true, not-false, rules, same, key_row}
 use Rattle.key_index.proofs.WordSteps.{Named, named, hit_bits, hit_nameless, hit_cells}
 use Rattle.key_index.proofs.is_hit.Statement.{statement}
 use Rattle.key_index.proofs.is_hit.Tie as tie
@@ -26,8 +26,8 @@ pub is_hit_spec : {M : Type 1} → statement M
 is_hit_spec =
     tie.close
     (tie.spec
-    (λ c. hit_bits _ _ _ _ _ _ (few c.before.before.before) c.if1.true) (λ c κs. search needs)
+    (λ c. hit_bits _ _ _ _ _ _ (few c.before.before.before) c.if1.true) (λ c κs. search rules)
     (λ c. hit_nameless _ _ _ _ _ _ (few c.before.before.before.before.before) (sym c.before.names-row.ensures ∙ not-true _ c.if2.true))
-    (λ c. omega (arith, row c)) (λ c κs. search needs)
+    (λ c. omega (arith, row c)) (λ c κs. search rules)
     (λ c κs. let p = c.before.before.before.before.before.before.requires in omega (arith, row c.before, p.0.most_keys, p.1))
     returns_3)

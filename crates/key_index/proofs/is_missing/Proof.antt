@@ -1,5 +1,5 @@
 -- `key_index::is_missing` meets its contract. Assumes nothing.
-use Rattle.key_index.proofs.Prelude.{sym, ◌∙◌, false≢true, arith, eqb-true, needs}
+use Rattle.key_index.proofs.Prelude.{sym, ◌∙◌, false≢true, arith, eqb-true, rules}
 use Rattle.key_index.proofs.WindowSteps.{soon_home, soon_window}
 use Rattle.key_index.proofs.is_missing.Statement.{statement}
 use Rattle.key_index.proofs.is_missing.Tie as tie
@@ -11,7 +11,7 @@ pub is_missing_spec : {M : Type 1} → statement M
 is_missing_spec =
     tie.close
     (tie.spec
-    (λ c. search needs) (λ c. λ e. absurd (false≢true e)) (λ c. search needs) (λ c κs. search needs)
-    (λ c. λ e. absurd (false≢true e)) (λ c. search needs) (λ c κs. search needs) returns_3 (λ c. search needs)
-    (λ c. search needs)
+    (λ c. search rules) (λ c. λ e. absurd (false≢true e)) (λ c. search rules) (λ c κs. search rules)
+    (λ c. λ e. absurd (false≢true e)) (λ c. search rules) (λ c κs. search rules) returns_3 (λ c. search rules)
+    (λ c. search rules)
     (λ c. λ e. soon_home _ _ _ _ c.before.before.before.before.before.before.before.requires.0 (eqb-true _ 0 e)))

@@ -1,5 +1,5 @@
 -- `key_index::look_up` meets its contract. Assumes nothing.
-use Rattle.key_index.proofs.Prelude.{◌+◌, ◌%◌, ◌^◌, ◌≤◌, ◌<◌, arith, get_or, needs, rows_in_lem}
+use Rattle.key_index.proofs.Prelude.{◌+◌, ◌%◌, ◌^◌, ◌≤◌, ◌<◌, arith, get_or, rules, rows_in_lem}
 use Rattle.key_index.proofs.ScanSteps.{begin}
 use Rattle.key_index.proofs.FindSteps.{leads_some, found_free, passed_to, found_row}
 use Rattle.key_index.proofs.look_up.Statement.{statement}
@@ -42,12 +42,12 @@ pub look_up_spec : {M : Type 1} → statement M
 look_up_spec =
     tie.close
     (tie.spec
-    (λ c. search needs) (λ c κs. search needs) (λ c. search needs) (λ c. search needs) (λ c. search needs)
+    (λ c. search rules) (λ c κs. search rules) (λ c. search rules) (λ c. search rules) (λ c. search rules)
     (λ c κs. let p = c.before.before.before.before.before.before.requires in (rows_in_lem _ _ _ p.0, p.1))
-    (λ c. omega (arith, named c)) returns (λ c κs. search needs) returns_2 (λ c κs. search needs)
+    (λ c. omega (arith, named c)) returns (λ c κs. search rules) returns_2 (λ c κs. search rules)
     (λ c. omega (arith, c.bits-ahead.ensures.below, c.before.before.before.before.before.before.before.before.before.before.before.requires.0))
     (λ c. omega (arith, c.bits-ahead.ensures.below, c.before.before.before.before.before.before.before.before.before.before.before.requires.0))
     (λ c. omega (arith, c.bits-ahead.ensures.below, c.before.before.before.before.before.before.before.before.before.before.before.requires.0))
     (λ c. omega (arith, c.before.bits-ahead.ensures.below, c.before.before.before.before.before.before.before.before.before.before.before.before.requires.0))
     (λ c κs. let p = c.before.before.before.before.before.before.before.before.before.before.before.before.requires in (rows_in_lem _ _ _ p.0, p.1))
-    (λ c. omega (arith, named_ahead c)) returns_3 (λ c κs. search needs) (λ c. c.find-far.ensures))
+    (λ c. omega (arith, named_ahead c)) returns_3 (λ c κs. search rules) (λ c. c.find-far.ensures))

@@ -1,5 +1,5 @@
 -- `key_index::put` meets its contract. The loop's invariant: nothing is written, and no slot passed is free. Assumes nothing.
-use Rattle.key_index.proofs.Prelude.{◌+◌, ◌-◌, ◌≡◌, refl, arith, length, length-set, needs, slots, home_slot}
+use Rattle.key_index.proofs.Prelude.{◌+◌, ◌-◌, ◌≡◌, refl, arith, length, length-set, rules, slots, home_slot}
 use Rattle.key_index.proofs.ScanSteps.{ScannedSlots, begin_past, on, on_run}
 use Rattle.key_index.proofs.PutSteps.{put_here, put_none}
 use Rattle.key_index.proofs.WindowSteps.{Taken}
@@ -40,10 +40,10 @@ pub put_spec : {M : Type 1} → statement M
 put_spec =
     tie.close
     (tie.spec
-    invariant_loop decreases_loop (λ c. search needs) (λ c κs. search needs) (λ c κs. search needs) (λ c. search needs)
+    invariant_loop decreases_loop (λ c. search rules) (λ c κs. search rules) (λ c κs. search rules) (λ c. search rules)
     (λ c. let r = c.taken-run.ensures in (refl, refl, begin_past _ _ _ _ _ _ c.before.before.home_slot_lem.ensures.0 r.below r.each))
-    (λ c. search needs) (λ c. search needs) (λ c. search needs) (λ c κs. search needs) (λ c. search needs)
-    (λ c. search needs) (λ c. omega arith) (λ c. simp length-set c.before.before.before.before.loop.invariant.0) returns
-    (λ c κs. search needs) (λ c. search needs) (λ c κs. search needs) (λ c. search needs) (λ c. search needs)
-    (λ c. search needs) loop_again (λ c. search needs) (λ c. passed_one c.before) (λ c. search needs)
+    (λ c. search rules) (λ c. search rules) (λ c. search rules) (λ c κs. search rules) (λ c. search rules)
+    (λ c. search rules) (λ c. omega arith) (λ c. simp length-set c.before.before.before.before.loop.invariant.0) returns
+    (λ c κs. search rules) (λ c. search rules) (λ c κs. search rules) (λ c. search rules) (λ c. search rules)
+    (λ c. search rules) loop_again (λ c. search rules) (λ c. passed_one c.before) (λ c. search rules)
     (λ c. let l = c.before.loop in rw l.invariant.1 (put_none _ _ _ _ l.place l.taken l.invariant.2 c.loop-test.false)))

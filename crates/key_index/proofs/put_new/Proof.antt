@@ -1,6 +1,6 @@
 -- `key_index::put_new` meets its contract. The loop's invariant: nothing is written, and each slot passed is taken and leads to no row
 -- with the key. Assumes nothing.
-use Rattle.key_index.proofs.Prelude.{◌+◌, ◌-◌, ◌≤◌, ◌≡◌, refl, arith, length, length-set, needs, slots, home_slot}
+use Rattle.key_index.proofs.Prelude.{◌+◌, ◌-◌, ◌≤◌, ◌≡◌, refl, arith, length, length-set, rules, slots, home_slot}
 use Rattle.key_index.proofs.ScanSteps.{ScannedSlots, begin, on, on_run}
 use Rattle.key_index.proofs.FindSteps.{past_bits}
 use Rattle.key_index.proofs.NewPutSteps.{Other, new_put, new_known, new_none}
@@ -51,10 +51,10 @@ pub put_new_spec : {M : Type 1} → statement M
 put_new_spec =
     tie.close
     (tie.spec
-    invariant_loop decreases_loop (λ c. search needs) (λ c κs. search needs)
+    invariant_loop decreases_loop (λ c. search rules) (λ c κs. search rules)
     (λ c. (refl, refl, begin _ _ _ _ _ c.home_slot_lem.ensures.0 c.home_slot_lem.ensures.1))
-    (λ c. search needs) (λ c. search needs) (λ c. search needs) (λ c κs. search needs) (λ c. search needs)
-    (λ c. search needs) (λ c. omega arith) (λ c. simp length-set c.before.before.before.before.loop.invariant.0) returns is_hit_requires (λ c. search needs) returns_2
-    (λ c κs. search needs) (λ c. search needs) (λ c κs. search needs) (λ c. search needs) (λ c. search needs)
-    (λ c. search needs) loop_again (λ c. search needs) (λ c. passed_one c.before) (λ c. search needs)
+    (λ c. search rules) (λ c. search rules) (λ c. search rules) (λ c κs. search rules) (λ c. search rules)
+    (λ c. search rules) (λ c. omega arith) (λ c. simp length-set c.before.before.before.before.loop.invariant.0) returns is_hit_requires (λ c. search rules) returns_2
+    (λ c κs. search rules) (λ c. search rules) (λ c κs. search rules) (λ c. search rules) (λ c. search rules)
+    (λ c. search rules) loop_again (λ c. search rules) (λ c. passed_one c.before) (λ c. search rules)
     (λ c. let l = c.before.loop in new_none _ _ _ _ _ (few c.before.before.before.before.before.before.before) l.at l.passed _ _ l.invariant.2 c.loop-test.false c.before.before.before.before.before.before.before.requires.0))

@@ -1,5 +1,5 @@
 -- `key_index::row_hash` meets its contract. Assumes nothing.
-use Rattle.key_index.proofs.Prelude.{ℕ, ap, ◌∙◌, List, arith, needs, Inside, row_inside, key_part}
+use Rattle.key_index.proofs.Prelude.{ℕ, ap, ◌∙◌, List, arith, rules, Inside, row_inside, key_part}
 use Rattle.cells.specs.Cells.{compact_hash, key_hash}
 use Rattle.key_index.proofs.row_hash.Statement.{statement}
 use Rattle.key_index.proofs.row_hash.Tie as tie
@@ -16,6 +16,6 @@ pub row_hash_spec : {M : Type 1} → statement M
 row_hash_spec =
     tie.close
     (tie.spec
-    (λ c κs. search needs) (λ c. search needs)
-    (λ c. omega (arith, lies c.before.before.before)) (λ c. omega (arith, lies c.before.before.before)) (λ c. search needs) (λ c. search needs)
-    (λ c. omega (arith, lies c.before.before.before)) (λ c κs. search needs) returns)
+    (λ c κs. search rules) (λ c. search rules)
+    (λ c. omega (arith, lies c.before.before.before)) (λ c. omega (arith, lies c.before.before.before)) (λ c. search rules) (λ c. search rules)
+    (λ c. omega (arith, lies c.before.before.before)) (λ c κs. search rules) returns)

@@ -1,5 +1,5 @@
 -- `key_index::skip_other_keys` meets its contract. Assumes nothing.
-use Rattle.key_index.proofs.Prelude.{◌-◌, sym, ◌∙◌, needs, OtherRun}
+use Rattle.key_index.proofs.Prelude.{◌-◌, sym, ◌∙◌, rules, OtherRun}
 use Rattle.key_index.proofs.WindowSteps.{other_none, other_more}
 use Rattle.key_index.proofs.skip_other_keys.Statement.{statement}
 use Rattle.key_index.proofs.skip_other_keys.Tie as tie
@@ -19,7 +19,7 @@ pub skip_other_keys_spec : {M : Type 1} → statement M
 skip_other_keys_spec =
     tie.close
     (tie.spec
-    invariant_loop decreases_loop (λ c. search needs) (λ c. search needs) (λ c. other_none _ _ _ _ c.before.requires.0) (λ c. search needs)
-    (λ c. search needs) (λ c κs. search needs) (λ c. search needs) (λ c. c.before.before.before.loop.invariant)
-    (λ c κs. search needs) (λ c. search needs) (λ c. c.before.before.before.before.before.loop.invariant)
-    (λ c. search needs) (λ c. search needs) loop_again (λ c. search needs) (λ c. c.before.loop.invariant))
+    invariant_loop decreases_loop (λ c. search rules) (λ c. search rules) (λ c. other_none _ _ _ _ c.before.requires.0) (λ c. search rules)
+    (λ c. search rules) (λ c κs. search rules) (λ c. search rules) (λ c. c.before.before.before.loop.invariant)
+    (λ c κs. search rules) (λ c. search rules) (λ c. c.before.before.before.before.before.loop.invariant)
+    (λ c. search rules) (λ c. search rules) loop_again (λ c. search rules) (λ c. c.before.loop.invariant))

@@ -1,5 +1,5 @@
 -- `key_index::some_free_long` meets its contract. Assumes nothing.
-use Rattle.key_index.proofs.Prelude.{◌-◌, needs, is_free}
+use Rattle.key_index.proofs.Prelude.{◌-◌, rules, is_free}
 use Rattle.key_index.proofs.WindowSteps.{Looked, looked_begin, looked_more, looked_all}
 use Rattle.key_index.proofs.some_free_long.Statement.{statement}
 use Rattle.key_index.proofs.some_free_long.Tie as tie
@@ -17,6 +17,6 @@ some_free_long_spec =
     invariant_loop
     decreases_loop
     (λ c. looked_begin _ _ _ 64)
-    (λ c. search needs) (λ c. search needs) (λ c. search needs) (λ c. search needs) (λ c. search needs)
+    (λ c. search rules) (λ c. search rules) (λ c. search rules) (λ c. search rules) (λ c. search rules)
     (λ c. looked_more _ _ _ _ _ _ c.before.before.loop.invariant c.before.loop-test.true)
     (λ c. looked_all _ _ _ _ _ _ c.before.loop.invariant c.loop-test.false))

@@ -1,6 +1,6 @@
 -- `key_index::taken_run` meets its contract. The loop's invariant: of the slots looked at, those before the run's end are taken.
 -- Assumes nothing.
-use Rattle.key_index.proofs.Prelude.{arith, needs}
+use Rattle.key_index.proofs.Prelude.{arith, rules}
 use Rattle.key_index.proofs.WindowSteps.{Taken, Run, run_begin, run_ends, run_on, taken_none, taken_end}
 use Rattle.key_index.proofs.taken_run.Statement.{statement}
 use Rattle.key_index.proofs.taken_run.Tie as tie
@@ -17,11 +17,11 @@ taken_run_spec =
     (tie.spec
     invariant_loop
     decreases_loop
-    (λ c. search needs)
+    (λ c. search rules)
     (λ c. taken_none _ _ _ c.before.requires.0)
     (λ c. run_begin _ _ _ 4)
-    (λ c. search needs) (λ c. search needs) (λ c. search needs) (λ c. search needs) (λ c. search needs) (λ c. search needs)
+    (λ c. search rules) (λ c. search rules) (λ c. search rules) (λ c. search rules) (λ c. search rules) (λ c. search rules)
     (λ c. run_ends _ _ _ _ _ _ c.before.before.before.loop.invariant c.before.before.loop-test.true)
-    (λ c. search needs)
+    (λ c. search rules)
     (λ c. run_on _ _ _ _ _ _ c.before.before.before.loop.invariant c.before.before.loop-test.true c.if2.false)
     (λ c. taken_end _ _ _ _ _ (omega arith) c.before.loop.invariant c.loop-test.false))

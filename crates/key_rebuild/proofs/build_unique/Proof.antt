@@ -1,5 +1,5 @@
 -- `key_rebuild::build_unique` meets its contract. Assumes nothing.
-use Rattle.key_rebuild.proofs.Prelude.{◌-◌, ◌∙◌, not-true, not-false, arith, needs}
+use Rattle.key_rebuild.proofs.Prelude.{◌-◌, ◌∙◌, not-true, not-false, arith, rules}
 use Rattle.key_rebuild.proofs.UniqueSteps.{other_store, UniqueInvariant, unique_begin, unique_on, unique_repeat, unique_end}
 use Rattle.key_rebuild.proofs.build_unique.Statement.{statement}
 use Rattle.key_rebuild.proofs.build_unique.Tie as tie
@@ -27,6 +27,6 @@ build_unique_spec =
     tie.close
     (tie.spec
     invariant_loop decreases_loop (λ c κs. c.before.before.before.requires.slots_fit) (λ c. unique_begin _ _ _ _ c.before.before.before.before.before.before.requires.slots_fit.long c.before.before.empty.ensures)
-    put_new_row_requires (λ c. c.before.before.store2.given ∙ c.before.before.before.before.before.before.before.loop.invariant.same ∙ c.before.before.before.before.before.before.before.before.before.store.given) returns (λ c. search needs) (λ c. search needs) loop_again
+    put_new_row_requires (λ c. c.before.before.store2.given ∙ c.before.before.before.before.before.before.before.loop.invariant.same ∙ c.before.before.before.before.before.before.before.before.before.store.given) returns (λ c. search rules) (λ c. search rules) loop_again
     (λ c. c.before.before.loop.invariant.same ∙ c.before.before.before.before.store.given)
     (λ c. let l = c.before.before.loop in unique_end _ _ _ _ l.row l.invariant (omega (arith, c.if1.false))))

@@ -1,5 +1,5 @@
 -- `key_rebuild::put_new_row` meets its contract. Assumes nothing.
-use Rattle.key_rebuild.proofs.Prelude.{sym, ◌∙◌, arith, needs, Inside, row_inside, key_part}
+use Rattle.key_rebuild.proofs.Prelude.{sym, ◌∙◌, arith, rules, Inside, row_inside, key_part}
 use Rattle.key_rebuild.proofs.UniqueSteps.{earlier_fit, new_row_dead, new_row_live}
 use Rattle.key_rebuild.proofs.put_new_row.Statement.{statement}
 use Rattle.key_rebuild.proofs.put_new_row.Tie as tie
@@ -13,7 +13,7 @@ returns c = let s = c.before.before.before.before.before in new_row_dead _ _ _ s
 put_new_requires : tie.Need-put-new-requires
 put_new_requires c κs =
     let s = c.before.before.before.before.before.before.before.before.before in
-    (earlier_fit _ _ _ s.requires.0 s.args.row (omega (arith, s.requires.1)), search needs, omega (arith, s.requires.1, s.requires.0.within))
+    (earlier_fit _ _ _ s.requires.0 s.args.row (omega (arith, s.requires.1)), search rules, omega (arith, s.requires.1, s.requires.0.within))
 
 returns_2 : tie.Need-returns-2
 returns_2 c =
@@ -27,7 +27,7 @@ pub put_new_row_spec : {M : Type 1} → statement M
 put_new_row_spec =
     tie.close
     (tie.spec
-    (λ c κs. search needs) (λ c κs. omega (arith, lies c.before.before.before, c.before.before.before.requires.0.some_columns)) returns
-    (λ c. search needs) (λ c. omega (arith, lies c.before.before.before.before.before.before, c.before.before.before.before.before.before.requires.0.within)) (λ c κs. let p = c.before.before.before.before.before.before.requires in (p.0.within, p.1))
-    (λ c. omega (arith, lies c.before.before.before.before.before.before.before.before, c.before.before.before.before.before.before.before.before.requires.0.within)) (λ c. search needs) (λ c. search needs) (λ c. omega (arith, lies c.before.before.before.before.before.before.before.before, c.before.before.before.before.before.before.before.before.requires.0.within))
-    put_new_requires (λ c. search needs) returns_2)
+    (λ c κs. search rules) (λ c κs. omega (arith, lies c.before.before.before, c.before.before.before.requires.0.some_columns)) returns
+    (λ c. search rules) (λ c. omega (arith, lies c.before.before.before.before.before.before, c.before.before.before.before.before.before.requires.0.within)) (λ c κs. let p = c.before.before.before.before.before.before.requires in (p.0.within, p.1))
+    (λ c. omega (arith, lies c.before.before.before.before.before.before.before.before, c.before.before.before.before.before.before.before.before.requires.0.within)) (λ c. search rules) (λ c. search rules) (λ c. omega (arith, lies c.before.before.before.before.before.before.before.before, c.before.before.before.before.before.before.before.before.requires.0.within))
+    put_new_requires (λ c. search rules) returns_2)

@@ -1,5 +1,5 @@
 -- `key_rebuild::put_row` meets its contract. Assumes nothing.
-use Rattle.key_rebuild.proofs.Prelude.{sym, ◌∙◌, arith, needs, rows_in_lem, Inside, row_inside}
+use Rattle.key_rebuild.proofs.Prelude.{sym, ◌∙◌, arith, rules, rows_in_lem, Inside, row_inside}
 use Rattle.key_rebuild.proofs.RebuildSteps.{row_dead, row_live}
 use Rattle.key_rebuild.proofs.put_row.Statement.{statement}
 use Rattle.key_rebuild.proofs.put_row.Tie as tie
@@ -24,4 +24,4 @@ pub put_row_spec : {M : Type 1} → statement M
 put_row_spec =
     tie.close
     (tie.spec
-    (λ c κs. search needs) (λ c κs. omega (arith, lies c.before.before.before, c.before.before.before.requires.0.some_columns)) returns row_hash_requires (λ c κs. search needs) (λ c. search needs) returns_2)
+    (λ c κs. search rules) (λ c κs. omega (arith, lies c.before.before.before, c.before.before.before.requires.0.some_columns)) returns row_hash_requires (λ c κs. search rules) (λ c. search rules) returns_2)

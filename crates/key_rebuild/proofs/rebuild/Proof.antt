@@ -1,5 +1,5 @@
 -- `key_rebuild::rebuild` meets its contract. Assumes nothing.
-use Rattle.key_rebuild.proofs.Prelude.{◌-◌, refl, ◌∙◌, arith, needs, fits_stores}
+use Rattle.key_rebuild.proofs.Prelude.{◌-◌, refl, ◌∙◌, arith, rules, fits_stores}
 use Rattle.key_rebuild.proofs.RebuildSteps.{RebuildInvariant, turn_begin, turn_on, turn_end}
 use Rattle.key_rebuild.proofs.rebuild.Statement.{statement}
 use Rattle.key_rebuild.proofs.rebuild.Tie as tie
@@ -33,5 +33,5 @@ pub rebuild_spec : {M : Type 1} → statement M
 rebuild_spec =
     tie.close
     (tie.spec
-    invariant_loop decreases_loop (λ c κs. search needs) loop_holds put_row_requires (λ c. omega arith) (λ c. omega arith) loop_again
+    invariant_loop decreases_loop (λ c κs. search rules) loop_holds put_row_requires (λ c. omega arith) (λ c. omega arith) loop_again
     same_length returns)

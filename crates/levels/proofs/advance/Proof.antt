@@ -1,5 +1,5 @@
 -- `levels::advance` meets its contract. Assumes nothing.
-use Rattle.levels.proofs.Prelude.{refl, arith, found, more, ended, nothing_left, not-true, not-false, needs}
+use Rattle.levels.proofs.Prelude.{refl, arith, found, more, ended, nothing_left, not-true, not-false, rules}
 use Rattle.levels.proofs.advance.Statement.{statement}
 use Rattle.levels.proofs.advance.Tie as tie
 
@@ -31,8 +31,8 @@ pub advance_spec : {M : Type 1} → statement M
 advance_spec =
     tie.close
     (tie.spec
-    (λ c κs. search needs) (λ c κs. search needs) (λ c. search needs) (λ c. search needs)
+    (λ c κs. search rules) (λ c κs. search rules) (λ c. search rules) (λ c. search rules)
     (λ c. found _ c.before.before.before.before.before.take-line.ensures c.before.if1.true c.make-room-for-answer.ensures refl)
-    (λ c κs. search needs) flush_and_read_requires (λ c. search needs) (λ c. search needs) returns_2 (λ c κs. search needs)
-    (λ c. search needs) (λ c. search needs) returns_3 (λ c κs. search needs) (λ c. search needs) (λ c. search needs)
+    (λ c κs. search rules) flush_and_read_requires (λ c. search rules) (λ c. search rules) returns_2 (λ c κs. search rules)
+    (λ c. search rules) (λ c. search rules) returns_3 (λ c κs. search rules) (λ c. search rules) (λ c. search rules)
     returns_4)

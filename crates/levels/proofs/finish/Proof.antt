@@ -1,5 +1,5 @@
 -- `levels::finish` meets its contract. Assumes nothing.
-use Rattle.levels.proofs.Prelude.{refl, sym, ◌∙◌, false≢true, needs}
+use Rattle.levels.proofs.Prelude.{refl, sym, ◌∙◌, false≢true, rules}
 use Rattle.levels.proofs.finish.Statement.{statement}
 use Rattle.levels.proofs.finish.Tie as tie
 
@@ -11,4 +11,4 @@ returns_2 : tie.Need-returns-2
 returns_2 c = record { same_state = refl; all_handed = λ e. absurd (false≢true (sym c.if1.false ∙ (c.before.is-written.ensures ∙ e))); unwritten = λ e. refl }
 
 pub finish_spec : {M : Type 1} → statement M
-finish_spec = tie.close (tie.spec (λ c κs. search needs) (λ c κs. search needs) returns returns_2)
+finish_spec = tie.close (tie.spec (λ c κs. search rules) (λ c κs. search rules) returns returns_2)

@@ -1,5 +1,5 @@
 -- `levels::flush_and_read` meets its contract. Assumes nothing.
-use Rattle.levels.proofs.Prelude.{refl, sym, ◌∙◌, false≢true, needs}
+use Rattle.levels.proofs.Prelude.{refl, sym, ◌∙◌, false≢true, rules}
 use Rattle.levels.proofs.flush_and_read.Statement.{statement}
 use Rattle.levels.proofs.flush_and_read.Tie as tie
 
@@ -27,4 +27,4 @@ pub flush_and_read_spec : {M : Type 1} → statement M
 flush_and_read_spec =
     tie.close
     (tie.spec
-    (λ c κs. search needs) (λ c κs. search needs) (λ c κs. search needs) (λ c. search needs) returns returns_2)
+    (λ c κs. search rules) (λ c κs. search rules) (λ c κs. search rules) (λ c. search rules) returns returns_2)

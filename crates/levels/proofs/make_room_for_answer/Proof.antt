@@ -1,5 +1,5 @@
 -- `levels::make_room_for_answer` meets its contract. Assumes nothing.
-use Rattle.levels.proofs.Prelude.{refl, sym, ◌∙◌, false≢true, needs}
+use Rattle.levels.proofs.Prelude.{refl, sym, ◌∙◌, false≢true, rules}
 use Rattle.levels.proofs.make_room_for_answer.Statement.{statement}
 use Rattle.levels.proofs.make_room_for_answer.Tie as tie
 
@@ -24,4 +24,4 @@ returns_2 c =
     }
 
 pub make_room_for_answer_spec : {M : Type 1} → statement M
-make_room_for_answer_spec = tie.close (tie.spec (λ c κs. search needs) (λ c κs. search needs) returns returns_2)
+make_room_for_answer_spec = tie.close (tie.spec (λ c κs. search rules) (λ c κs. search rules) returns returns_2)

@@ -1,5 +1,5 @@
 -- `levels::run` meets its contract, and ends by the reads that are left. Assumes nothing.
-use Rattle.levels.proofs.Prelude.{machine, input_left, Running, running_begin, running_again, run_ends, needs}
+use Rattle.levels.proofs.Prelude.{machine, input_left, Running, running_begin, running_again, run_ends, rules}
 use Rattle.levels.proofs.run.Statement.{statement}
 use Rattle.levels.proofs.run.Tie as tie
 
@@ -21,7 +21,7 @@ pub run_spec : {M : Type 1} → statement M
 run_spec =
     tie.close
     (tie.spec
-    invariant_loop decreases_loop (λ c κs. search needs) (λ c κs. search needs)
+    invariant_loop decreases_loop (λ c κs. search rules) (λ c κs. search rules)
     (λ c. running_begin _ _ _ _ _ _ c.before.before.no_table.ensures c.first_read.ensures)
     (λ c κs. c.before.before.before.before.before.before.before.loop.invariant.within)
     (λ c κs. c.before.before.before.before.before.step.ensures.0.within.text_in) returns

@@ -1,5 +1,5 @@
 -- `levels_answer::answer` meets its contract. Assumes nothing.
-use Rattle.levels_answer.proofs.Prelude.{arith, encoded_answers, needs}
+use Rattle.levels_answer.proofs.Prelude.{arith, encoded_answers, rules}
 use Rattle.levels_answer.proofs.answer.Statement.{statement}
 use Rattle.levels_answer.proofs.answer.Tie as tie
 
@@ -15,7 +15,7 @@ pub answer_spec : {M : Type 1} → statement M
 answer_spec =
     tie.close
     (tie.spec
-    (λ c κs. search needs) (λ c κs. search needs)
+    (λ c κs. search rules) (λ c κs. search rules)
     (λ c. c.before.before.before.before.before.before.before.before.before.before.before.before.before.rows.given)
     (λ c. c.before.before.before.before.before.before.before.before.before.before.before.keys.given)
     (λ c. c.before.before.before.before.before.before.before.before.before.sorts.given)

@@ -1,5 +1,5 @@
 -- `levels_answer::append_answer` meets its contract. Assumes nothing.
-use Rattle.levels_answer.proofs.Prelude.{◌-◌, arith, length, drop, length-take, length-drop, answer_appended, needs}
+use Rattle.levels_answer.proofs.Prelude.{◌-◌, arith, length, drop, length-take, length-drop, answer_appended, rules}
 use Rattle.levels_answer.proofs.append_answer.Statement.{statement}
 use Rattle.levels_answer.proofs.append_answer.Tie as tie
 
@@ -22,7 +22,7 @@ append_answer_spec =
     tie.close
     (tie.spec
     (λ c. simp length-take (omega (arith, c.before.before.before.before.before.before.before.requires.0)))
-    (λ c. search needs) (λ c. search needs) (λ c. search needs) (λ c κs. search needs) add_t23
+    (λ c. search rules) (λ c. search rules) (λ c. search rules) (λ c κs. search rules) add_t23
     (λ c. c.before.before.before.before.before.before.before.before.before.before.before.rows.given)
     (λ c. c.before.before.before.before.before.before.before.before.before.keys.given) (λ c. c.before.before.before.before.before.before.before.sorts.given)
-    (λ c. c.before.before.before.before.before.pending.given) (λ c. search needs) returns)
+    (λ c. c.before.before.before.before.before.pending.given) (λ c. search rules) returns)

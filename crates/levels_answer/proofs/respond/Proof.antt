@@ -1,5 +1,5 @@
 -- `levels_answer::respond` meets its contract. Assumes nothing.
-use Rattle.levels_answer.proofs.Prelude.{length-take, arith, read_fits, parsed_numbers, wrong_responds, line_responds, needs}
+use Rattle.levels_answer.proofs.Prelude.{length-take, arith, read_fits, parsed_numbers, wrong_responds, line_responds, rules}
 use Rattle.levels_answer.proofs.respond.Statement.{statement}
 use Rattle.levels_answer.proofs.respond.Tie as tie
 
@@ -22,9 +22,9 @@ pub respond_spec : {M : Type 1} → statement M
 respond_spec =
     tie.close
     (tie.spec
-    (λ c. search needs) (λ c κs. search needs) (λ c. search needs) (λ c. search needs) array_share_prefix_numbers
+    (λ c. search rules) (λ c κs. search rules) (λ c. search rules) (λ c. search rules) array_share_prefix_numbers
     slice_aggregate_serve serve_requires
-    (λ c. wrong_responds c.before.before.before.parse.ensures (search needs) c.enum_told.given.1 _)
+    (λ c. wrong_responds c.before.before.before.parse.ensures (search rules) c.enum_told.given.1 _)
     (λ c. c.before.before.before.before.before.before.before.rows.given)
     (λ c. c.before.before.before.before.before.keys.given) (λ c. c.before.before.before.sorts.given)
     (λ c. c.before.pending.given) returns_2)

@@ -1,5 +1,5 @@
 -- `levels_text::is_form` meets its contract. Assumes nothing.
-use Rattle.levels_text.proofs.Prelude.{sym, ◌∙◌, needs, ne_eqb}
+use Rattle.levels_text.proofs.Prelude.{sym, ◌∙◌, rules, ne_eqb}
 use Rattle.levels_text.specs.Lines.{is_form}
 use Rattle.levels_text.proofs.is_form.Statement.{statement}
 use Rattle.levels_text.proofs.is_form.Tie as tie
@@ -18,4 +18,4 @@ is_form_spec =
     tie.close
     (tie.spec
     (λ c. rw c.if1.true) (λ c. rw c.if2.true) (λ c. rw c.if3.true) (λ c. rw c.if4.true) (λ c. rw c.if5.true)
-    (λ c κs. search needs) returns_6 returns_7)
+    (λ c κs. search rules) returns_6 returns_7)

@@ -1,5 +1,5 @@
 -- `levels_text::parse` meets its contract. Assumes nothing.
-use Rattle.levels_text.proofs.Prelude.{needs, parsed_no_line, parsed_right, parsed_wrong}
+use Rattle.levels_text.proofs.Prelude.{rules, parsed_no_line, parsed_right, parsed_wrong}
 use Rattle.levels_text.proofs.parse.Statement.{statement}
 use Rattle.levels_text.proofs.parse.Tie as tie
 
@@ -13,7 +13,7 @@ pub parse_spec : {M : Type 1} → statement M
 parse_spec =
     tie.close
     (tie.spec
-    (λ c κs. search needs) (λ c. search needs) (λ c. search needs) (λ c κs. search needs) (λ c. search needs) returns
-    (λ c. search needs)
+    (λ c κs. search rules) (λ c. search rules) (λ c. search rules) (λ c κs. search rules) (λ c. search rules) returns
+    (λ c. search rules)
     (λ c. parsed_no_line _ _ _ _ c.before.before.before.before.read_line.ensures c.enum_told.given.1)
-    (λ c. search needs) returns_3)
+    (λ c. search rules) returns_3)

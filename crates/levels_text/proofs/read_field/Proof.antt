@@ -1,5 +1,5 @@
 -- `levels_text::read_field` meets its contract. Assumes nothing.
-use Rattle.levels_text.proofs.Prelude.{◌-◌, length, needs, ⊎_elim, first_end, first_at_comma}
+use Rattle.levels_text.proofs.Prelude.{◌-◌, length, rules, ⊎_elim, first_end, first_at_comma}
 use Rattle.levels_text.specs.inner.Reading.{field_at}
 use Rattle.levels_text.specs.Laws.Digits.{Digits, digits_begin}
 use Rattle.levels_text.proofs.Digits.{field_below, field_above, field_large, field_more, field_empty, start_inside, field_zero, field_read}
@@ -40,7 +40,7 @@ pub read_field_spec : {M : Type 1} → statement M
 read_field_spec =
     tie.close
     (tie.spec
-    invariant_loop decreases_loop (λ c. digits_begin _ _) (λ c. search needs) returns returns_2 (λ c. search needs) (λ c. search needs)
-    (λ c. search needs) returns_3 (λ c. search needs) (λ c. search needs) loop_again returns_4
-    (λ c. start_inside _ c.before.before.before.loop.invariant c.before.if5.false) (λ c. search (needs, start_inside _ c.before.before.before.before.loop.invariant c.before.before.if5.false))
-    (λ c. field_zero _ c.before.before.before.before.before.loop.invariant c.before.before.before.if5.false c.before.if6.true c.if7.true) (λ c. search needs) returns_6)
+    invariant_loop decreases_loop (λ c. digits_begin _ _) (λ c. search rules) returns returns_2 (λ c. search rules) (λ c. search rules)
+    (λ c. search rules) returns_3 (λ c. search rules) (λ c. search rules) loop_again returns_4
+    (λ c. start_inside _ c.before.before.before.loop.invariant c.before.if5.false) (λ c. search (rules, start_inside _ c.before.before.before.before.loop.invariant c.before.before.if5.false))
+    (λ c. field_zero _ c.before.before.before.before.before.loop.invariant c.before.before.before.if5.false c.before.if6.true c.if7.true) (λ c. search rules) returns_6)

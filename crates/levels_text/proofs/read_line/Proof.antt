@@ -1,5 +1,5 @@
 -- `levels_text::read_line` meets its contract. Assumes nothing.
-use Rattle.levels_text.proofs.Prelude.{◌-◌, refl, arith, length, needs, read_no_room, read_wrong, too_long, no_bytes, comma_first}
+use Rattle.levels_text.proofs.Prelude.{◌-◌, refl, arith, length, rules, read_no_room, read_wrong, too_long, no_bytes, comma_first}
 use Rattle.levels_text.proofs.Numbers.{Numbers, numbers_begin, wrong_letter, wrong_number, fits, next_place_lem, numbers_more, line_read}
 use Rattle.levels_text.specs.Lines.{letter}
 use Rattle.levels_text.proofs.read_line.Statement.{statement}
@@ -39,10 +39,10 @@ read_line_spec =
     (tie.spec
     invariant_loop decreases_loop (λ c. read_wrong _ _ _ (too_long _ c.if1.true) (λ h. refl))
     (λ c. read_wrong _ _ _ (no_bytes c.before.before.before.before.args.line.now c.if2.true) (λ h. refl))
-    (λ c. read_no_room _ _ c.if3.true) (λ c. search needs) returns_4
+    (λ c. read_no_room _ _ c.if3.true) (λ c. search rules) returns_4
     (λ c. numbers_begin _ _ c.before.before.before.before.if1.false c.before.before.if3.false c.before.before.before.if2.false c.if4.false)
-    (λ c. search needs) (λ c. c.before.before.before.loop.invariant.same)
+    (λ c. search rules) (λ c. c.before.before.before.loop.invariant.same)
     (λ c. wrong_letter _ _ _ _ _ c.before.before.before.loop.invariant c.before.before.loop-test.true c.if5.true)
-    (λ c. search needs) (λ c κs. search needs) (λ c. search needs)
-    (λ c. c.before.before.before.before.before.before.loop.invariant.same) returns_6 (λ c. search needs)
-    (λ c. search needs) slice_write_numbers add_count loop_less loop_again (λ c. c.before.loop.invariant.same) returns_7)
+    (λ c. search rules) (λ c κs. search rules) (λ c. search rules)
+    (λ c. c.before.before.before.before.before.before.loop.invariant.same) returns_6 (λ c. search rules)
+    (λ c. search rules) slice_write_numbers add_count loop_less loop_again (λ c. c.before.loop.invariant.same) returns_7)

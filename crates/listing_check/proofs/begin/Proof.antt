@@ -1,5 +1,5 @@
 -- `listing_check::begin` meets its contract. Assumes nothing.
-use Rattle.listing_check.proofs.Prelude.{sym, ◌∙◌, not-true, not-false, needs}
+use Rattle.listing_check.proofs.Prelude.{sym, ◌∙◌, not-true, not-false, rules}
 use Rattle.listing_check.proofs.Steps.{settle, no_listing, unknown, out_of_place, begin}
 use Rattle.listing_check.proofs.Risen.{none_misplaced, one_misplaced}
 use Rattle.listing_check.proofs.begin.Statement.{statement}
@@ -37,6 +37,6 @@ pub begin_spec : {M : Type 1} → statement M
 begin_spec =
     tie.close
     (tie.spec
-    (λ c κs. search needs) returns (λ c κs. search needs) returns_2
-    (λ c κs. search needs) (λ c. search needs) (λ c. search needs) (λ c κs. search needs) returns_3
+    (λ c κs. search rules) returns (λ c κs. search rules) returns_2
+    (λ c κs. search rules) (λ c. search rules) (λ c. search rules) (λ c κs. search rules) returns_3
     returns_4)

@@ -2,7 +2,7 @@
 -- lifetime that the proof creates; the conditions are passed on whole. Assumes nothing.
 use types.Logic.{Logic}
 use denote.Ref.{Bor}
-use Rattle.manual_proofs.proofs.Prelude.{◌≡◌, refl, sym, ◌∙◌, ℕ, Bool, List, [], ◌∷◌, lit<, length, Ura, full_share, Ty, erased, imm, named, ty_ref, vbool, SProp, ent, id⊢, Lft, Share, GName, Fml, ftrue, fsep, flft, fat, froom, Memory, Routine, Tables, WpFn, Fun, tables, tables_of, ‵, raw, ◌⊛◌, ⋆, some, later, ◌$◌, ◌∵◌, !, qed, move, drop, group, use1, use2, split, join, pick, rewrite, fsplit, fjoin, suffices, frame, await, done, agg, look, init, forget, stop, from, load, addr, lit, of_opd, and_then, no_more, assigns, land, returns, enter, alloc1, alloc0, params1, pass1, pass0, free1, free0, lft_new, lft_end, fm_of, u32, bool, Is, bool_Makes, pointee, RefT, now, slice_ty, slice_val, ShrSlice, Room, owned, nothing, Clauses, on_entry, cited, says, needs, ends_at, ty_array, Array, lone}
+use Rattle.manual_proofs.proofs.Prelude.{◌≡◌, refl, sym, ◌∙◌, ℕ, Bool, List, [], ◌∷◌, lit<, length, Ura, full_share, Ty, erased, imm, named, ty_ref, vbool, SProp, ent, id⊢, Lft, Share, GName, Fml, ftrue, fsep, flft, fat, froom, Memory, Routine, Tables, WpFn, Fun, tables, tables_of, ‵, raw, ◌⊛◌, ⋆, some, later, ◌$◌, ◌∵◌, !, qed, move, drop, group, use1, use2, split, join, pick, rewrite, fsplit, fjoin, suffices, frame, await, done, agg, look, init, forget, stop, from, load, addr, lit, of_opd, and_then, no_more, assigns, land, returns, enter, alloc1, alloc0, params1, pass1, pass0, free1, free0, lft_new, lft_end, fm_of, u32, bool, Is, bool_Makes, pointee, RefT, now, slice_ty, slice_val, ShrSlice, Room, owned, nothing, Clauses, on_entry, cited, says, rules, ends_at, ty_array, Array, lone}
 use Rattle.listing_check.proofs.Prelude.{◌≤◌, arith, take, length-take-le, Constraint, meets, Header, Row, all_pass}
 use denote.Enum.Laws as EL
 use Rattle.constraints.specs.contracts.Constraint as CT
@@ -98,6 +98,6 @@ module _ {M : Type 1} {𝓤 : Ura M} (𝓛 : Logic 𝓤) (mem : Memory → SProp
 pub meets_all_spec : {M : Type 1} → f.Statement.statement M
 unfolding f.Code.routine tables_of
 meets_all_spec 𝓤 𝓛 𝓜 𝓡 =
-    walk_runs f.ended params 𝓛 𝓜 𝓡 (f.clauses 𝓛 𝓜.mem 𝓡.run) f.Code.env f.Key.name f.Code.function (f.Code.unfolded 𝓤 𝓛.H 𝓜 𝓡) (λ κs qs bounds a g are. needs 𝓤 ((1 ≤ a.0.columns) × (a.0.columns ≤ 8)) _ (λ narrow.
+    walk_runs f.ended params 𝓛 𝓜 𝓡 (f.clauses 𝓛 𝓜.mem 𝓡.run) f.Code.env f.Key.name f.Code.function (f.Code.unfolded 𝓤 𝓛.H 𝓜 𝓡) (λ κs qs bounds a g are. rules 𝓤 ((1 ≤ a.0.columns) × (a.0.columns ≤ 8)) _ (λ narrow.
     walk 𝓛 𝓜.mem 𝓡.run κs.0 qs.0 a.0 a.1.0 a.1.1.0 are.0 are.1.0 narrow (tables_of 𝓤 𝓛.H 𝓜 (tables 𝓤 𝓛.H 𝓜 𝓡 f.Code.env))
     (cited 𝓤 𝓛.H _ 𝓜 𝓡 f.Code.env all.Symbol.name all.Symbol.routine f.Code.calls-query::loops::all-pass (all.Met.met 𝓤 𝓛 𝓜 𝓡)) are.1.1.0.0.1))

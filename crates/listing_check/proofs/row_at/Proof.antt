@@ -1,5 +1,5 @@
 -- `listing_check::row_at` meets its contract. Assumes nothing.
-use Rattle.listing_check.proofs.Prelude.{arith, needs}
+use Rattle.listing_check.proofs.Prelude.{arith, rules}
 use Rattle.listing_check.proofs.Rows.{row_due, row_read}
 use Rattle.listing_check.proofs.row_at.Statement.{statement}
 use Rattle.listing_check.proofs.row_at.Tie as tie
@@ -18,5 +18,5 @@ pub row_at_spec : {M : Type 1} → statement M
 row_at_spec =
     tie.close
     (tie.spec
-    (λ c. search needs) (λ c. search needs) reread_line_requires (λ c. search needs) (λ c. search needs)
-    (λ c. search needs) (λ c. search needs) (λ c κs. search needs) (λ c. search needs) returns)
+    (λ c. search rules) (λ c. search rules) reread_line_requires (λ c. search rules) (λ c. search rules)
+    (λ c. search rules) (λ c. search rules) (λ c κs. search rules) (λ c. search rules) returns)

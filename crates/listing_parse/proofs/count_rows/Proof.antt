@@ -1,5 +1,5 @@
 -- `listing_parse::count_rows` meets its contract. Assumes nothing.
-use Rattle.listing_parse.proofs.Prelude.{◌-◌, arith, length, needs}
+use Rattle.listing_parse.proofs.Prelude.{◌-◌, arith, length, rules}
 use Rattle.listing_parse.proofs.Counting.{Counting, counting_begin, counting_full, counting_wrong, counting_more, counting_end}
 use Rattle.listing_parse.proofs.count_rows.Statement.{statement}
 use Rattle.listing_parse.proofs.count_rows.Tie as tie
@@ -19,7 +19,7 @@ returns_2 : tie.Need-returns-2 invariant_loop decreases_loop
 returns_2 c = counting_wrong _ _ _ _ _ _ c.before.before.before.before.before.before.before.loop.invariant c.before.before.before.row_at.ensures c.if2.true
 
 loop_again : tie.Need-loop-preserved invariant_loop decreases_loop
-loop_again c = counting_more _ _ _ _ _ _ c.before.before.before.before.before.before.before.before.loop.invariant c.before.before.before.before.before.before.if1.false (c.before.before.before.before.row_at.ensures.found (search needs)) (search needs)
+loop_again c = counting_more _ _ _ _ _ _ c.before.before.before.before.before.before.before.before.loop.invariant c.before.before.before.before.before.before.if1.false (c.before.before.before.before.row_at.ensures.found (search rules)) (search rules)
 
 pub count_rows_spec : {M : Type 1} → statement M
 count_rows_spec =
@@ -28,7 +28,7 @@ count_rows_spec =
     invariant_loop decreases_loop (λ c. counting_begin _ _ _ _ _ _ c.before.before.requires.1.0)
     (λ c. c.before.before.loop.invariant.same)
     (λ c. counting_full _ _ _ _ _ _ c.before.before.loop.invariant c.before.loop-test.true c.if1.true)
-    row_at_requires (λ c. search needs) returns_2 (λ c. search needs) (λ c. omega (arith, c.slice-known3.given 0))
-    (λ c. omega (arith, c.slice-known3.given 0)) (λ c. search needs)
-    (λ c. let f = c.before.before.before.before.row_at.ensures.found (search needs) in omega (arith, f.forward, f.inside))
+    row_at_requires (λ c. search rules) returns_2 (λ c. search rules) (λ c. omega (arith, c.slice-known3.given 0))
+    (λ c. omega (arith, c.slice-known3.given 0)) (λ c. search rules)
+    (λ c. let f = c.before.before.before.before.row_at.ensures.found (search rules) in omega (arith, f.forward, f.inside))
     loop_again (λ c. c.before.loop.invariant.same) (λ c. counting_end _ _ _ _ _ _ c.before.loop.invariant c.loop-test.false))

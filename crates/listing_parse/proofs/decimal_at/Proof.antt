@@ -1,5 +1,5 @@
 -- `listing_parse::decimal_at` meets its contract. Assumes nothing.
-use Rattle.listing_parse.proofs.Prelude.{◌-◌, ◌<◌, sym, ◌∙◌, arith, length, ⊎_elim, needs}
+use Rattle.listing_parse.proofs.Prelude.{◌-◌, ◌<◌, sym, ◌∙◌, arith, length, ⊎_elim, rules}
 use Rattle.levels_text.specs.Laws.Digits.{Digits, digits_begin}
 use Rattle.listing_parse.proofs.Digits.{field_in, decimal_digit, decimal_more, decimal_large, decimal_empty, decimal_zero, decimal_read}
 use Rattle.listing_parse.proofs.decimal_at.Statement.{statement}
@@ -39,9 +39,9 @@ pub decimal_at_spec : {M : Type 1} → statement M
 decimal_at_spec =
     tie.close
     (tie.spec
-    invariant_loop decreases_loop (λ c. (digits_begin _ _, c.before.requires.0)) (λ c. c.before.loop.invariant.1) (λ c κs. search needs)
+    invariant_loop decreases_loop (λ c. (digits_begin _ _, c.before.requires.0)) (λ c. c.before.loop.invariant.1) (λ c κs. search rules)
     (λ c. omega (arith, c.before.before.before.loop.invariant.0.small)) (λ c. c.before.before.before.before.loop.invariant.1)
     (λ c. (decimal_digit _ c.before.before.before.before.loop.invariant.0 c.before.before.before.before.loop.invariant.1 (sym c.before.before.is_digit.ensures ∙ c.before.if1.true)).0)
-    cast_value add_value (λ c κs. search needs) returns (λ c. search needs)
-    (λ c. omega (arith, c.before.before.before.before.before.loop.invariant.1)) loop_again (λ c κs. search needs) returns_2 (λ c. c.before.before.before.before.before.before.before.requires.0) (λ c. search needs)
-    (λ c κs. search needs) returns_3 (λ c. search needs) returns_4)
+    cast_value add_value (λ c κs. search rules) returns (λ c. search rules)
+    (λ c. omega (arith, c.before.before.before.before.before.loop.invariant.1)) loop_again (λ c κs. search rules) returns_2 (λ c. c.before.before.before.before.before.before.before.requires.0) (λ c. search rules)
+    (λ c κs. search rules) returns_3 (λ c. search rules) returns_4)

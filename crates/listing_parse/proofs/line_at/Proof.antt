@@ -1,5 +1,5 @@
 -- `listing_parse::line_at` meets its contract. Assumes nothing.
-use Rattle.listing_parse.proofs.Prelude.{◌-◌, arith, needs}
+use Rattle.listing_parse.proofs.Prelude.{◌-◌, arith, rules}
 use Rattle.listing_parse.proofs.Digits.{goes_on}
 use Rattle.listing_parse.proofs.Lines.{Reading, reading_begin, reading_more, line_letter, line_comma_missing, line_no_decimal, line_newline_missing, line_found}
 use Rattle.listing_parse.proofs.line_at.Statement.{statement}
@@ -24,7 +24,7 @@ returns_3 : tie.Need-returns-3 invariant_loop decreases_loop
 returns_3 c = line_no_decimal c.before.before.before.before.before.before.loop.invariant c.before.before.before.before.before.loop-test.true c.before.before.before.if2.false (c.before.before.decimal-at.ensures.wrong c.if3.true)
 
 loop_again : tie.Need-loop-preserved invariant_loop decreases_loop
-loop_again c = reading_more c.before.before.before.before.before.before.loop.invariant c.before.before.before.before.before.loop-test.true c.before.before.before.if2.false _ (c.before.before.decimal-at.ensures.found (search needs))
+loop_again c = reading_more c.before.before.before.before.before.before.loop.invariant c.before.before.before.before.before.loop-test.true c.before.before.before.if2.false _ (c.before.before.decimal-at.ensures.found (search rules))
 
 pub line_at_spec : {M : Type 1} → statement M
 line_at_spec =
@@ -34,11 +34,11 @@ line_at_spec =
     decreases_loop
     (λ c. c.before.before.before.requires.0)
     (λ c. line_letter _ _ _ _ _ c.before.before.before.before.requires.0 c.if1.true)
-    (λ c. search needs) loop_holds
+    (λ c. search rules) loop_holds
     (λ c. c.before.before.loop.invariant.passed.inside)
     (λ c. c.before.before.before.loop.invariant.same)
     (λ c. line_comma_missing c.before.before.before.loop.invariant c.before.before.loop-test.true c.if2.true)
-    (λ c. search needs) decimal_at_requires
+    (λ c. search rules) decimal_at_requires
     (λ c. c.before.before.before.before.before.before.loop.invariant.same)
     returns_3
     (λ c. omega (arith, c.before.before.before.before.before.loop-test.true, c.before.before.before.before.before.before.before.before.before.before.before.requires.1.1.0.1))
@@ -49,6 +49,6 @@ line_at_spec =
     (λ c. c.before.before.loop.invariant.passed.inside)
     (λ c. c.before.before.before.loop.invariant.same)
     (λ c. line_newline_missing c.before.before.before.loop.invariant c.before.before.loop-test.false c.if4.true)
-    (λ c. search needs)
+    (λ c. search rules)
     (λ c. c.before.before.before.loop.invariant.same)
     (λ c. line_found c.before.before.before.loop.invariant c.before.before.loop-test.false c.if4.false))

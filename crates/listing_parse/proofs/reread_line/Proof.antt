@@ -1,5 +1,5 @@
 -- `listing_parse::reread_line` meets its contract. Assumes nothing.
-use Rattle.listing_parse.proofs.Prelude.{◌-◌, refl, arith, needs}
+use Rattle.listing_parse.proofs.Prelude.{◌-◌, refl, arith, rules}
 use Rattle.listing_parse.proofs.Lines.{Reading, rereading_line, reading_comma, reading_decimal, reading_inside, reading_again, line_again}
 use Rattle.listing_parse.proofs.reread_line.Statement.{statement}
 use Rattle.listing_parse.proofs.reread_line.Tie as tie
@@ -34,11 +34,11 @@ reread_line_spec =
     (tie.spec
     invariant_loop
     decreases_loop
-    (λ c. search needs) loop_holds (λ c. search needs) reread_decimal_requires
+    (λ c. search rules) loop_holds (λ c. search rules) reread_decimal_requires
     (λ c. omega (arith, c.before.loop-test.true, c.before.before.before.before.before.requires.1.1.0))
     (λ c. omega (arith, c.before.before.loop.invariant.room, c.before.before.loop.invariant.same, c.before.loop-test.true))
-    (λ c. search needs)
+    (λ c. search rules)
     (λ c. omega (arith, c.before.loop-test.true))
-    loop_again (λ c. search needs)
+    loop_again (λ c. search rules)
     (λ c. c.before.loop.invariant.same)
     (λ c. line_again c.before.loop.invariant c.loop-test.false refl c.before.before.before.before.requires.1.0))

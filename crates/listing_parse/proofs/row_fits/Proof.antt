@@ -1,5 +1,5 @@
 -- `listing_parse::row_fits` meets its contract. Assumes nothing.
-use Rattle.listing_parse.proofs.Prelude.{arith, needs}
+use Rattle.listing_parse.proofs.Prelude.{arith, rules}
 use Rattle.listing_spec.specs.Listings.{prefix_width}
 use Rattle.listing_parse.proofs.Rows.{dead_numbered, too_low, below_count, not_dead}
 use Rattle.listing_parse.proofs.row_fits.Statement.{statement}
@@ -16,7 +16,7 @@ pub row_fits_spec : {M : Type 1} → statement M
 row_fits_spec =
     tie.close
     (tie.spec
-    shared_slice_read_if2 (λ c. rw c.before.before.if1.true (dead_numbered _ _ _ c.if2.true)) (λ c. search needs)
+    shared_slice_read_if2 (λ c. rw c.before.before.if1.true (dead_numbered _ _ _ c.if2.true)) (λ c. search rules)
     (λ c. omega (arith, c.shared-slice-known2.given 0))
     (λ c. rw c.before.before.before.before.if1.true (too_low _ _ _ c.before.before.if2.false c.if3.true))
-    (λ c. search needs) returns_3 (λ c. search needs) (λ c. rw c.before.if1.false (not_dead _ _ _)))
+    (λ c. search rules) returns_3 (λ c. search rules) (λ c. rw c.before.if1.false (not_dead _ _ _)))

@@ -1,5 +1,5 @@
 -- `listing_read::convert_head` meets its contract. Assumes nothing.
-use Rattle.listing_read.proofs.Prelude.{arith, needs}
+use Rattle.listing_read.proofs.Prelude.{arith, rules}
 use Rattle.listing_spec.specs.Listings.{head_letter}
 use Rattle.listing_read.specs.inner.Converting.{converted_head}
 use Rattle.listing_read.proofs.convert_head.Statement.{statement}
@@ -10,11 +10,11 @@ unfolding head_letter converted_head
 convert_head_spec =
     tie.close
     (tie.spec
-    (λ c. search needs)
+    (λ c. search rules)
     (λ c κs. let h = rw c.before.before.if1.true at c.before.before.before.before.requires in omega (arith, h))
-    (λ c. search needs)
+    (λ c. search rules)
     (λ c. rw c.before.before.before.before.before.if1.true c.before.before.put-line.ensures)
-    (λ c. search needs)
+    (λ c. search rules)
     (λ c κs. let h = rw c.before.before.if1.false at c.before.before.before.before.requires in omega (arith, h))
-    (λ c. search needs)
+    (λ c. search rules)
     (λ c. rw c.before.before.before.before.before.if1.false c.before.before.put-line2.ensures))

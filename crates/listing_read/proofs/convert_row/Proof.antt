@@ -1,5 +1,5 @@
 -- `listing_read::convert_row` meets its contract. Assumes nothing.
-use Rattle.listing_read.proofs.Prelude.{arith, length-take, needs}
+use Rattle.listing_read.proofs.Prelude.{arith, length-take, rules}
 use Rattle.listing_read.proofs.Lengths.{row_back, row_forth, long_back, long_forth}
 use Rattle.listing_read.proofs.convert_row.Statement.{statement}
 use Rattle.listing_read.proofs.convert_row.Tie as tie
@@ -33,7 +33,7 @@ pub convert_row_spec : {M : Type 1} → statement M
 convert_row_spec =
     tie.close
     (tie.spec
-    (λ c. search needs) (λ c. search needs) (λ c. search needs)
+    (λ c. search rules) (λ c. search rules) (λ c. search rules)
     (λ c. long_back c.before.before.before.before.args.columns c.before.if1.true c.before.before.before.before.requires.1.0)
-    put_line_requires (λ c. search needs) returns slice_aggregate_put_numbered put_numbered_requires (λ c. search needs)
+    put_line_requires (λ c. search rules) returns slice_aggregate_put_numbered put_numbered_requires (λ c. search rules)
     returns_2)

@@ -1,5 +1,5 @@
 -- `listing_read::convert_rows` meets its contract. Assumes nothing.
-use Rattle.listing_read.proofs.Prelude.{◌-◌, ◌+◌, ◌≡◌, arith, length, needs, prefix_width, row_few, valid_rows_line}
+use Rattle.listing_read.proofs.Prelude.{◌-◌, ◌+◌, ◌≡◌, arith, length, rules, prefix_width, row_few, valid_rows_line}
 use Rattle.listing_read.proofs.Converting.{Converting, converting_begin, converting_wide, converting_room, converting_number, converting_more, converting_end}
 use Rattle.listing_read.proofs.convert_rows.Statement.{statement}
 use Rattle.listing_read.proofs.convert_rows.Tie as tie
@@ -43,12 +43,12 @@ loop_again : tie.Need-loop-preserved invariant_loop decreases_loop
 loop_again c =
     let at-convert-row = c.before.before in let at-reread-line = at-convert-row.before.before.before.before.before in
     let at-loop = at-reread-line.before.before.before in
-    (converting_more _ _ _ _ _ _ _ at-loop.loop.invariant.0 at-loop.loop.invariant.1 at-reread-line.reread-line.ensures.found (search needs) (search needs) at-convert-row.convert-row.ensures, at-loop.loop.invariant.1)
+    (converting_more _ _ _ _ _ _ _ at-loop.loop.invariant.0 at-loop.loop.invariant.1 at-reread-line.reread-line.ensures.found (search rules) (search rules) at-convert-row.convert-row.ensures, at-loop.loop.invariant.1)
 
 pub convert_rows_spec : {M : Type 1} → statement M
 convert_rows_spec =
     tie.close
     (tie.spec
-    invariant_loop decreases_loop (λ c κs. search needs) loop_holds reread_line_requires convert_row_requires add_number loop_less loop_again
+    invariant_loop decreases_loop (λ c κs. search rules) loop_holds reread_line_requires convert_row_requires add_number loop_less loop_again
     (λ c. c.before.loop.invariant.0.same_numbers) (λ c. c.before.loop.invariant.0.same)
     (λ c. converting_end _ _ _ _ _ _ _ c.before.loop.invariant.0 c.loop-test.false))

@@ -1,5 +1,5 @@
 -- `listing_read::lacks_room` meets its contract. Assumes nothing.
-use Rattle.listing_read.proofs.Prelude.{arith, needs, length_field}
+use Rattle.listing_read.proofs.Prelude.{arith, rules, length_field}
 use Rattle.listing_read.proofs.Lengths.{numbers_few, fields_sum}
 use Rattle.listing_read.proofs.Answers.{length_back, length_under, length_forth}
 use Rattle.listing_read.proofs.lacks_room.Statement.{statement}
@@ -21,6 +21,6 @@ pub lacks_room_spec : {M : Type 1} → statement M
 lacks_room_spec =
     tie.close
     (tie.spec
-    (λ c κs. search needs) (λ c κs. search needs) add_fields sub_result
+    (λ c κs. search rules) (λ c κs. search rules) add_fields sub_result
     (λ c. length_back _ _ _ _ (fields_sum _ c.before.before.number-length.ensures c.before.numbers-length.ensures) c.if1.true)
     returns_2 returns_3)

@@ -1,5 +1,5 @@
 -- `listing_read::numbers_length` meets its contract. Assumes nothing.
-use Rattle.listing_read.proofs.Prelude.{◌-◌, arith, needs, length_field}
+use Rattle.listing_read.proofs.Prelude.{◌-◌, arith, rules, length_field}
 use Rattle.listing_read.proofs.Lengths.{Summing, summing_begin, summing_few, summing_more, summing_end}
 use Rattle.listing_read.proofs.numbers_length.Statement.{statement}
 use Rattle.listing_read.proofs.numbers_length.Tie as tie
@@ -17,7 +17,7 @@ pub numbers_length_spec : {M : Type 1} → statement M
 numbers_length_spec =
     tie.close
     (tie.spec
-    invariant_loop decreases_loop (λ c. summing_begin _) (λ c κs. search needs) add_total
-    (λ c. omega (arith, c.before.loop-test.true, c.before.before.before.requires)) (λ c. search needs)
+    invariant_loop decreases_loop (λ c. summing_begin _) (λ c κs. search rules) add_total
+    (λ c. omega (arith, c.before.loop-test.true, c.before.before.before.requires)) (λ c. search rules)
     (λ c. summing_more c.before.before.loop.invariant c.before.loop-test.true c.number-length.ensures)
     (λ c. summing_end c.before.loop.invariant c.loop-test.false))

@@ -1,5 +1,5 @@
 -- `listing_read::read_found` meets its contract. Assumes nothing.
-use Rattle.listing_read.proofs.Prelude.{arith, row_few, needs}
+use Rattle.listing_read.proofs.Prelude.{arith, row_few, rules}
 use Rattle.listing_read.proofs.Reading.{valid_rows, cells_count, read_short, read_done, cells_few}
 use Rattle.listing_read.proofs.read_found.Statement.{statement}
 use Rattle.listing_read.proofs.read_found.Tie as tie
@@ -18,6 +18,6 @@ pub read_found_spec : {M : Type 1} → statement M
 read_found_spec =
     tie.close
     (tie.spec
-    (λ c. search needs) (λ c. search needs) (λ c κs. search needs) mul_if1
+    (λ c. search rules) (λ c. search rules) (λ c κs. search rules) mul_if1
     (λ c. read_short _ _ _ c.before.before.before.before.before.before.requires c.before.row-width.ensures _ c.if1.true)
-    write_rows_requires (λ c. search needs) returns_2)
+    write_rows_requires (λ c. search rules) returns_2)

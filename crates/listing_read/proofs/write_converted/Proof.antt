@@ -1,5 +1,5 @@
 -- `listing_read::write_converted` meets its contract. Assumes nothing.
-use Rattle.listing_read.proofs.Prelude.{arith, needs}
+use Rattle.listing_read.proofs.Prelude.{arith, rules}
 use Rattle.listing_read.proofs.Answers.{valid_rows, rows_few, head_room, rows_room, all_converted}
 use Rattle.listing_read.proofs.write_converted.Statement.{statement}
 use Rattle.listing_read.proofs.write_converted.Tie as tie
@@ -11,7 +11,7 @@ convert_rows_requires : tie.Need-convert-rows-requires
 convert_rows_requires c κs =
     let at-convert-head = c.before.before.before.before.before in let entry = at-convert-head.before.before.before.before in
     let l = entry.requires.0 in
-    (l.narrow.1, (l.inside, (search needs, (valid_rows _ _ _ l entry.args.output.now, (rows_few _ _ _ l entry.args.output.now, rows_room _ _ _ l _ entry.requires.1 at-convert-head.convert-head.ensures (search needs))))))
+    (l.narrow.1, (l.inside, (search rules, (valid_rows _ _ _ l entry.args.output.now, (rows_few _ _ _ l entry.args.output.now, rows_room _ _ _ l _ entry.requires.1 at-convert-head.convert-head.ensures (search rules))))))
 
 returns : tie.Need-returns
 returns c =
@@ -24,4 +24,4 @@ write_converted_spec =
     tie.close
     (tie.spec
     convert_head_requires (λ c. omega (arith, c.before.before.before.before.before.before.before.requires.0.narrow.1))
-    (λ c. search needs) convert_rows_requires (λ c. search needs) returns)
+    (λ c. search rules) convert_rows_requires (λ c. search rules) returns)

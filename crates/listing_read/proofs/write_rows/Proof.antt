@@ -1,5 +1,5 @@
 -- `listing_read::write_rows` meets its contract. Assumes nothing.
-use Rattle.listing_read.proofs.Prelude.{◌-◌, ◌+◌, ◌≡◌, arith, length, prefix_width, row_few, valid_rows_line, needs}
+use Rattle.listing_read.proofs.Prelude.{◌-◌, ◌+◌, ◌≡◌, arith, length, prefix_width, row_few, valid_rows_line, rules}
 use Rattle.listing_read.proofs.Writing.{Writing, writing_begin, writing_fits, writing_part, writing_reread, writing_end}
 use Rattle.listing_read.proofs.write_rows.Statement.{statement}
 use Rattle.listing_read.proofs.write_rows.Tie as tie
@@ -30,10 +30,10 @@ write_rows_spec =
     (tie.spec
     invariant_loop
     decreases_loop
-    (λ c κs. search needs) loop_holds (λ c. search needs)
+    (λ c κs. search rules) loop_holds (λ c. search rules)
     (λ c. omega (arith, writing_fits _ _ _ _ _ c.before.loop.invariant.0 c.before.loop.invariant.1 c.loop-test.true))
     (λ c. omega (arith, writing_fits _ _ _ _ _ c.before.loop.invariant.0 c.before.loop.invariant.1 c.loop-test.true))
-    (λ c. search needs) reread_line_requires
+    (λ c. search rules) reread_line_requires
     (λ c. omega (arith, writing_fits _ _ _ _ _ c.before.before.before.before.before.loop.invariant.0 c.before.before.before.before.before.loop.invariant.1 c.before.before.before.before.loop-test.true))
     (λ c. let f = c.before.before.reread-line.ensures.found in omega (arith, f.forward, f.inside))
     loop_again

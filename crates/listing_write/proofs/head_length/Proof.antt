@@ -1,5 +1,5 @@
 -- `listing_write::head_length` meets its contract. Assumes nothing.
-use Rattle.listing_write.proofs.Prelude.{arith, needs}
+use Rattle.listing_write.proofs.Prelude.{arith, rules}
 use Rattle.listing_write.specs.Laws.Lengths.{length_head}
 use Rattle.listing_write.proofs.Steps.{head_numbered, head_plain}
 use Rattle.listing_write.proofs.head_length.Statement.{statement}
@@ -19,7 +19,7 @@ pub head_length_spec : {M : Type 1} → statement M
 head_length_spec =
     tie.close
     (tie.spec
-    (λ c. search needs) (λ c κs. search needs) add_result
-    (λ c. head_numbered _ c.before.before.if1.true c.numbers-length.ensures) (λ c. search needs)
-    (λ c. search needs) (λ c κs. search needs) add_result_2
+    (λ c. search rules) (λ c κs. search rules) add_result
+    (λ c. head_numbered _ c.before.before.if1.true c.numbers-length.ensures) (λ c. search rules)
+    (λ c. search rules) (λ c κs. search rules) add_result_2
     (λ c. head_plain _ c.before.before.if1.false c.numbers-length2.ensures))

@@ -1,5 +1,5 @@
 -- `listing_write::numbers_length` meets its contract. Assumes nothing.
-use Rattle.listing_write.proofs.Prelude.{◌-◌, arith, length, get_or, needs}
+use Rattle.listing_write.proofs.Prelude.{◌-◌, arith, length, get_or, rules}
 use Rattle.levels_text.specs.Laws.Decimals.{length_field}
 use Rattle.listing_write.proofs.Steps.{Counting, counting_begin, counting_few, counting_again, counting_end}
 use Rattle.listing_write.proofs.numbers_length.Statement.{statement}
@@ -20,7 +20,7 @@ pub numbers_length_spec : {M : Type 1} → statement M
 numbers_length_spec =
     tie.close
     (tie.spec
-    invariant_loop decreases_loop (λ c. counting_begin _) (λ c. search needs) (λ c. search needs) (λ c κs. search needs) add_total
-    (λ c. search needs) (λ c. search needs)
+    invariant_loop decreases_loop (λ c. counting_begin _) (λ c. search rules) (λ c. search rules) (λ c κs. search rules) add_total
+    (λ c. search rules) (λ c. search rules)
     (λ c. counting_again c.before.before.before.loop.invariant c.before.before.loop-test.true c.number-length.ensures)
-    (λ c. counting_end c.before.loop.invariant (search needs)))
+    (λ c. counting_end c.before.loop.invariant (search rules)))

@@ -1,7 +1,7 @@
 -- `listing_write::put_head` meets its contract. Assumes nothing.
 use Rattle.listing_spec.specs.Listings.{head_letter}
 use Rattle.listing_write.specs.inner.Lines.{head_numbers, head_line}
-use Rattle.listing_write.proofs.Prelude.{arith, needs}
+use Rattle.listing_write.proofs.Prelude.{arith, rules}
 use Rattle.listing_write.proofs.put_head.Statement.{statement}
 use Rattle.listing_write.proofs.put_head.Tie as tie
 
@@ -10,11 +10,11 @@ unfolding head_line head_letter head_numbers
 put_head_spec =
     tie.close
     (tie.spec
-    (λ c. search needs)
+    (λ c. search rules)
     (λ c κs. let h = rw c.before.before.if1.true at c.before.before.before.before.requires in omega (arith, h))
-    (λ c. search needs)
+    (λ c. search rules)
     (λ c. rw c.before.before.before.before.before.if1.true c.before.before.put-line.ensures)
-    (λ c. search needs) (λ c. search needs)
+    (λ c. search rules) (λ c. search rules)
     (λ c κs. let h = rw c.before.before.if1.false at c.before.before.before.before.requires in omega (arith, h))
-    (λ c. search needs)
+    (λ c. search rules)
     (λ c. rw c.before.before.before.before.before.if1.false c.before.before.put-line2.ensures))

@@ -1,5 +1,5 @@
 -- `listing_write::put_row` meets its contract. Assumes nothing.
-use Rattle.listing_write.proofs.Prelude.{sym, ◌∙◌, needs}
+use Rattle.listing_write.proofs.Prelude.{sym, ◌∙◌, rules}
 use Rattle.listing_write.proofs.Steps.{room_numbered, room_live, put_numbered_row, put_live_row, put_dead_row}
 use Rattle.listing_write.proofs.put_row.Statement.{statement}
 use Rattle.listing_write.proofs.put_row.Tie as tie
@@ -26,5 +26,5 @@ pub put_row_spec : {M : Type 1} → statement M
 put_row_spec =
     tie.close
     (tie.spec
-    (λ c κs. search needs) put_numbered_requires (λ c. search needs) returns put_line_requires (λ c. search needs) returns_2
+    (λ c κs. search rules) put_numbered_requires (λ c. search rules) returns put_line_requires (λ c. search rules) returns_2
     (λ c. put_dead_row _ _ _ (sym c.before.is_live.ensures ∙ c.if1.false)))

@@ -1,5 +1,5 @@
 -- `listing_write::put_rows` meets its contract. The loop's invariant: the rows still to come end where all of them do. Assumes nothing.
-use Rattle.listing_write.proofs.Prelude.{◌-◌, arith, needs}
+use Rattle.listing_write.proofs.Prelude.{◌-◌, arith, rules}
 use Rattle.listing_write.proofs.Steps.{Putting, putting_begin, place_next, putting_room, putting_again, putting_end}
 use Rattle.listing_write.proofs.put_rows.Statement.{statement}
 use Rattle.listing_write.proofs.put_rows.Tie as tie
@@ -16,7 +16,7 @@ put_row_requires c κs =
     putting_room c.before.before.before.loop.invariant c.before.before.loop-test.true c.before.before.before.before.before.before.requires.1.1
 
 loop_again : tie.Need-loop-preserved invariant_loop decreases_loop
-loop_again c = putting_again c.before.before.before.before.before.before.loop.invariant c.before.before.before.before.before.loop-test.true (search needs) c.before.before.put-row.ensures
+loop_again c = putting_again c.before.before.before.before.before.before.loop.invariant c.before.before.before.before.before.loop-test.true (search rules) c.before.before.put-row.ensures
 
 pub put_rows_spec : {M : Type 1} → statement M
 put_rows_spec =
@@ -28,5 +28,5 @@ put_rows_spec =
     (λ c. omega (arith, place_next c.before.before.loop.invariant.place c.before.loop-test.true))
     (λ c. omega (arith, place_next c.before.before.loop.invariant.place c.before.loop-test.true))
     (λ c. omega (arith, place_next c.before.before.loop.invariant.place c.before.loop-test.true)) put_row_requires
-    (λ c. search needs) (λ c. search needs) loop_again (λ c. c.before.loop.invariant.same_length)
-    (λ c. putting_end c.before.loop.invariant (search needs)))
+    (λ c. search rules) (λ c. search rules) loop_again (λ c. c.before.loop.invariant.same_length)
+    (λ c. putting_end c.before.loop.invariant (search rules)))

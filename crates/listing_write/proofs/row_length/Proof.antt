@@ -1,5 +1,5 @@
 -- `listing_write::row_length` meets its contract. Assumes nothing.
-use Rattle.listing_write.proofs.Prelude.{sym, ◌∙◌, arith, needs}
+use Rattle.listing_write.proofs.Prelude.{sym, ◌∙◌, arith, rules}
 use Rattle.levels_text.specs.Laws.Decimals.{length_field, length_fields}
 use Rattle.listing_write.proofs.Steps.{bytes_numbered, bytes_live, bytes_dead}
 use Rattle.listing_write.proofs.row_length.Statement.{statement}
@@ -22,7 +22,7 @@ pub row_length_spec : {M : Type 1} → statement M
 row_length_spec =
     tie.close
     (tie.spec
-    (λ c κs. search needs) (λ c κs. search needs)
+    (λ c κs. search rules) (λ c κs. search rules)
     (λ c. let at = c.before.before.before.before in omega (arith, c.numbers-length.ensures, length_fields at.args.row.now, at.requires))
-    (λ c κs. search needs) add_result returns returns_2
+    (λ c κs. search rules) add_result returns returns_2
     (λ c. bytes_dead _ _ _ (sym c.before.is_live.ensures ∙ c.if1.false)))

@@ -1,6 +1,6 @@
 -- `listing_write::rows_length` meets its contract. The loop's invariant: the bytes counted and those still to come are all. Assumes
 -- nothing.
-use Rattle.listing_write.proofs.Prelude.{◌-◌, arith, length-take, length-drop, needs}
+use Rattle.listing_write.proofs.Prelude.{◌-◌, arith, length-take, length-drop, rules}
 use Rattle.listing_write.proofs.Steps.{place_next, Measuring, measuring_begin, measuring_few, measuring_again, measuring_end}
 use Rattle.listing_write.proofs.rows_length.Statement.{statement}
 use Rattle.listing_write.proofs.rows_length.Tie as tie
@@ -27,6 +27,6 @@ rows_length_spec =
     (λ c. omega (arith, place_next c.before.loop.invariant.place c.loop-test.true))
     (λ c. omega (arith, place_next c.before.loop.invariant.place c.loop-test.true))
     (λ c κs. simp (length-take, length-drop) (omega (arith, c.before.before.before.before.requires.0))) add_total
-    (λ c. search needs) (λ c. search needs)
+    (λ c. search rules) (λ c. search rules)
     (λ c. measuring_again c.before.before.before.loop.invariant c.before.before.loop-test.true c.row-length.ensures)
-    (λ c. measuring_end c.before.loop.invariant (search needs)))
+    (λ c. measuring_end c.before.loop.invariant (search rules)))

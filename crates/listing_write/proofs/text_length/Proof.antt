@@ -1,5 +1,5 @@
 -- `listing_write::text_length` meets its contract. Assumes nothing.
-use Rattle.listing_write.proofs.Prelude.{arith, needs}
+use Rattle.listing_write.proofs.Prelude.{arith, rules}
 use Rattle.listing_write.proofs.Steps.{text_bytes, text_few}
 use Rattle.listing_write.proofs.text_length.Statement.{statement}
 use Rattle.listing_write.proofs.text_length.Tie as tie
@@ -11,5 +11,5 @@ pub text_length_spec : {M : Type 1} → statement M
 text_length_spec =
     tie.close
     (tie.spec
-    (λ c κs. search needs) (λ c. search needs) (λ c κs. search needs) add_result
+    (λ c κs. search rules) (λ c. search rules) (λ c κs. search rules) add_result
     (λ c. text_bytes _ _ _ c.before.before.head_length.ensures c.rows_length.ensures))

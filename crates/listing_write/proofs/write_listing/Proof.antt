@@ -1,5 +1,5 @@
 -- `listing_write::write_listing` meets its contract. Assumes nothing.
-use Rattle.listing_write.proofs.Prelude.{sym, ◌∙◌, arith, needs}
+use Rattle.listing_write.proofs.Prelude.{sym, ◌∙◌, arith, rules}
 use Rattle.listing_write.specs.Laws.Lines.{checked_rows_stored}
 use Rattle.listing_write.proofs.Steps.{refused_outside, refused_rows, refused_output, written_all}
 use Rattle.listing_write.proofs.write_listing.Statement.{statement}
@@ -35,6 +35,6 @@ pub write_listing_spec : {M : Type 1} → statement M
 write_listing_spec =
     tie.close
     (tie.spec
-    (λ c κs. search needs) (λ c. refused_outside _ _ _ _ (sym c.before.is-outside.ensures ∙ c.if1.true))
+    (λ c κs. search rules) (λ c. refused_outside _ _ _ _ (sym c.before.is-outside.ensures ∙ c.if1.true))
     (λ c κs. sym c.before.is-outside.ensures ∙ c.if1.false) returns_2 text_length_requires returns_3 put_text_requires
-    (λ c. search needs) returns_4)
+    (λ c. search rules) returns_4)

@@ -1,5 +1,5 @@
 -- `merge_insert::first_place` meets its contract. Assumes nothing.
-use Rattle.merge_insert.proofs.Prelude.{arith, needs}
+use Rattle.merge_insert.proofs.Prelude.{arith, rules}
 use Rattle.merge_insert.proofs.PassInserts.{first_here, first_later}
 use Rattle.merge_insert.proofs.first_place.Statement.{statement}
 use Rattle.merge_insert.proofs.first_place.Tie as tie
@@ -15,4 +15,4 @@ returns_3 c = first_later c.before.before.before.before.record-length.ensures c.
 pub first_place_spec : {M : Type 1} → statement M
 first_place_spec =
     tie.close
-    (tie.spec (λ c κs. search needs) (λ c. first_here) shared_slice_read_if2 (λ c. first_here) (λ c κs. search needs) returns_3)
+    (tie.spec (λ c κs. search rules) (λ c. first_here) shared_slice_read_if2 (λ c. first_here) (λ c κs. search rules) returns_3)

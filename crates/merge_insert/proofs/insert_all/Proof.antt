@@ -1,6 +1,6 @@
 -- `merge_insert::insert_all` meets its contract. The loop's invariant: the result of all inserts is that of the remaining records
 -- from here. Assumes nothing.
-use Rattle.merge_insert.proofs.Prelude.{◌-◌, arith, needs}
+use Rattle.merge_insert.proofs.Prelude.{◌-◌, arith, rules}
 use Rattle.merge_insert.proofs.PassInserts.{Filling, filling_begin, filling_long, filling_inside, filling_requires, filling_again, filling_stop, filling_end}
 use Rattle.merge_insert.proofs.insert_all.Statement.{statement}
 use Rattle.merge_insert.proofs.insert_all.Tie as tie
@@ -58,7 +58,7 @@ loop_again c =
     let l = c.before.before.before.before.before.before.before.before.before.before.before.before.before in
     let p = l.before.before.before.before.before.before.before.before.requires in
     let v = l.before.loop.invariant in
-    filling_again p v l.loop-test.true c.before.before.before.before.before.before.before.before.before.insert-next.ensures c.before.if1.false c.record-length2.ensures (search needs) (search needs) (search needs)
+    filling_again p v l.loop-test.true c.before.before.before.before.before.before.before.before.before.insert-next.ensures c.before.if1.false c.record-length2.ensures (search rules) (search rules) (search rules)
 
 same_length_4 : tie.Need-same-length-4 invariant_loop decreases_loop
 same_length_4 c = c.before.loop.invariant.rows_same
@@ -76,6 +76,6 @@ pub insert_all_spec : {M : Type 1} → statement M
 insert_all_spec =
     tie.close
     (tie.spec
-    invariant_loop decreases_loop first_place_requires record_length_requires loop_holds insert_next_requires (λ c. search needs)
-    (λ c. search needs) (λ c. search needs) returns add_at record_length_requires_2 loop_less loop_again same_length_4
+    invariant_loop decreases_loop first_place_requires record_length_requires loop_holds insert_next_requires (λ c. search rules)
+    (λ c. search rules) (λ c. search rules) returns add_at record_length_requires_2 loop_less loop_again same_length_4
     same_length_5 same_length_6 returns_2)

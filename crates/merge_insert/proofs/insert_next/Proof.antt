@@ -1,5 +1,5 @@
 -- `merge_insert::insert_next` meets its contract. Assumes nothing.
-use Rattle.merge_insert.proofs.Prelude.{arith, needs}
+use Rattle.merge_insert.proofs.Prelude.{arith, rules}
 use Rattle.merge_insert.proofs.PassInserts.{inserted_other, inserted_kept, inserted_appended, inserted_stopped}
 use Rattle.merge_insert.proofs.insert_next.Statement.{statement}
 use Rattle.merge_insert.proofs.insert_next.Tie as tie
@@ -35,8 +35,8 @@ pub insert_next_spec : {M : Type 1} → statement M
 insert_next_spec =
     tie.close
     (tie.spec
-    (λ c. search needs) (λ c. search needs) (λ c. inserted_other c.before.before.before.before.before.before.requires c.if1.true) (λ c. search needs) (λ c. search needs) shared_slice_read_hash
-    add_insert_row insert_row_requires (λ c. search needs) (λ c. search needs) (λ c. search needs) add_r_2
-    (λ c. search needs) (λ c. search needs) (λ c. search needs) (λ c. search needs) returns_2 (λ c. search needs)
-    (λ c. search needs) (λ c. search needs) returns_3 (λ c. search needs) (λ c. search needs) (λ c. search needs)
+    (λ c. search rules) (λ c. search rules) (λ c. inserted_other c.before.before.before.before.before.before.requires c.if1.true) (λ c. search rules) (λ c. search rules) shared_slice_read_hash
+    add_insert_row insert_row_requires (λ c. search rules) (λ c. search rules) (λ c. search rules) add_r_2
+    (λ c. search rules) (λ c. search rules) (λ c. search rules) (λ c. search rules) returns_2 (λ c. search rules)
+    (λ c. search rules) (λ c. search rules) returns_3 (λ c. search rules) (λ c. search rules) (λ c. search rules)
     returns_4)

@@ -60,11 +60,11 @@ AdmissionIs h sorts value sorts' (Entries n) = Entered h sorts value n sorts'
 abbrev pub header_after_append : Header → ℕ → ℕ → ℕ → Header
 header_after_append h dead entries value = with_counts h (h.rows + 1) dead entries (Value value)
 
--- one more row needs more slots in the key store
+-- one more row rules more slots in the key store
 unfoldable pub needs_more_slots : Header → Bool
 needs_more_slots h = not (eqb (size_class_for h.capacity (h.rows + 1)) (size_class_for h.capacity h.rows))
 
--- The key store after an append: rebuilt over all rows if the row needs more slots, otherwise as `Entry` states.
+-- The key store after an append: rebuilt over all rows if the row rules more slots, otherwise as `Entry` states.
 pub record KeysAfterAppend (h h' : Header) (rows' keys : List ℕ) (Entry : Type 0) (keys' : List ℕ) : Type 0 where
   pub more : needs_more_slots h ≡ true → KeysSound (index_shape_of h') rows' keys'
   pub stepped : needs_more_slots h ≡ false → Entry

@@ -1,5 +1,5 @@
 -- `merge_remove::kill` meets its contract. Assumes nothing.
-use Rattle.merge_remove.proofs.Prelude.{needs}
+use Rattle.merge_remove.proofs.Prelude.{rules}
 use Rattle.merge_remove.proofs.RemovalSteps.{first_cell, killed}
 use Rattle.merge_remove.proofs.kill.Statement.{statement}
 use Rattle.merge_remove.proofs.kill.Tie as tie
@@ -17,4 +17,4 @@ returns c =
 pub kill_spec : {M : Type 1} → statement M
 kill_spec =
     tie.close
-    (tie.spec (λ c κs. search needs) (λ c κs. search needs) set_stale_requires (λ c. search needs) (λ c. search needs) returns)
+    (tie.spec (λ c κs. search rules) (λ c κs. search rules) set_stale_requires (λ c. search rules) (λ c. search rules) returns)

@@ -1,6 +1,6 @@
 -- `merge_remove::remove_all` meets its contract. The loop's invariant: the removals so far and those of the records still to
 -- come are the removals of all records. Assumes nothing.
-use Rattle.merge_remove.proofs.Prelude.{◌-◌, arith, needs}
+use Rattle.merge_remove.proofs.Prelude.{◌-◌, arith, rules}
 use Rattle.merge_remove.proofs.PassRemovals.{Removing, removing_begin, removing_long, removing_inside, removing_requires, removing_passes, removing_again, removing_end}
 use Rattle.merge_remove.proofs.remove_all.Statement.{statement}
 use Rattle.merge_remove.proofs.remove_all.Tie as tie
@@ -57,7 +57,7 @@ loop_again c =
     let l = c.before.before.before.before.before.before.before.before.before in
     let p = l.before.before.before.before.before.before.requires in
     let v = l.before.loop.invariant in
-    removing_again p v l.loop-test.true c.before.before.before.before.before.before.remove-next.ensures c.before.next-record.ensures c.record-length2.ensures (search needs) (search needs)
+    removing_again p v l.loop-test.true c.before.before.before.before.before.before.remove-next.ensures c.before.next-record.ensures c.record-length2.ensures (search rules) (search rules)
 
 same_length : tie.Need-same-length invariant_loop decreases_loop
 same_length c = c.before.loop.invariant.rows_same

@@ -1,5 +1,5 @@
 -- `merge_remove::remove_next` meets its contract. Assumes nothing.
-use Rattle.merge_remove.proofs.Prelude.{sym, ap, needs}
+use Rattle.merge_remove.proofs.Prelude.{sym, ap, rules}
 use Rattle.merge_remove.specs.inner.Removals.{died}
 use Rattle.merge_remove.proofs.PassRemovals.{removed_other, removed_kind}
 use Rattle.merge_remove.proofs.remove_next.Statement.{statement}
@@ -20,5 +20,5 @@ pub remove_next_spec : {M : Type 1} → statement M
 remove_next_spec =
     tie.close
     (tie.spec
-    (λ c. search needs) (λ c. search needs) (λ c. removed_other c.if1.true) remove_record_requires (λ c. search needs) (λ c. search needs)
-    returns_2 (λ c. search needs) (λ c. search needs) returns_3)
+    (λ c. search rules) (λ c. search rules) (λ c. removed_other c.if1.true) remove_record_requires (λ c. search rules) (λ c. search rules)
+    returns_2 (λ c. search rules) (λ c. search rules) returns_3)

@@ -1,5 +1,5 @@
 -- `merge_remove::remove_one` meets its contract. Assumes nothing.
-use Rattle.merge_remove.proofs.Prelude.{sym, ◌∙◌, arith, needs}
+use Rattle.merge_remove.proofs.Prelude.{sym, ◌∙◌, arith, rules}
 use Rattle.merge_remove.proofs.RemovalSteps.{find_fits, kill_fits, absent, left_alone, dead_one}
 use Rattle.merge_remove.proofs.remove_one.Statement.{statement}
 use Rattle.merge_remove.proofs.remove_one.Tie as tie
@@ -34,6 +34,6 @@ pub remove_one_spec : {M : Type 1} → statement M
 remove_one_spec =
     tie.close
     (tie.spec
-    (λ c κs. search needs) find_windowed_requires (λ c. search needs) (λ c. search needs) (λ c κs. search needs)
-    (λ c. search needs) (λ c. search needs) returns kill_requires (λ c. search needs) (λ c. search needs) returns_2
-    (λ c. search needs) (λ c. search needs) returns_3)
+    (λ c κs. search rules) find_windowed_requires (λ c. search rules) (λ c. search rules) (λ c κs. search rules)
+    (λ c. search rules) (λ c. search rules) returns kill_requires (λ c. search rules) (λ c. search rules) returns_2
+    (λ c. search rules) (λ c. search rules) returns_3)

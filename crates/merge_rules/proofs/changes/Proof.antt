@@ -1,6 +1,6 @@
 -- `merge_rules::changes` meets its contract. The loop's invariant: whether a cell changes from the start on is whether one
 -- does from column i on. It begins behind the keys. Assumes nothing.
-use Rattle.merge_rules.proofs.Prelude.{◌-◌, ◌≡◌, sym, ◌∙◌, needs, length, drop, changes_from, changes_behind}
+use Rattle.merge_rules.proofs.Prelude.{◌-◌, ◌≡◌, sym, ◌∙◌, rules, length, drop, changes_from, changes_behind}
 use Rattle.merge_rules.proofs.Laws.{old_ended, new_ended, changed, unchanged}
 use Rattle.merge_rules.proofs.changes.Statement.{statement}
 use Rattle.merge_rules.proofs.changes.Tie as tie
@@ -35,5 +35,5 @@ pub changes_spec : {M : Type 1} → statement M
 changes_spec =
     tie.close
     (tie.spec
-    invariant_loop decreases_loop loop_holds returns (λ c. search needs) (λ c. search needs) (λ c. search needs) (λ c. search needs)
-    (λ c κs. search needs) returns_2 (λ c. search needs) (λ c. search needs) loop_again returns_3)
+    invariant_loop decreases_loop loop_holds returns (λ c. search rules) (λ c. search rules) (λ c. search rules) (λ c. search rules)
+    (λ c κs. search rules) returns_2 (λ c. search rules) (λ c. search rules) loop_again returns_3)

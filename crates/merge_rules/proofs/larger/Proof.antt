@@ -1,5 +1,5 @@
 -- `merge_rules::larger` meets its contract. Assumes nothing.
-use Rattle.merge_rules.proofs.Prelude.{needs, sym, ◌∙◌}
+use Rattle.merge_rules.proofs.Prelude.{rules, sym, ◌∙◌}
 use Rattle.merge_rules.specs.Rules.{larger}
 use Rattle.merge_rules.proofs.larger.Statement.{statement}
 use Rattle.merge_rules.proofs.larger.Tie as tie
@@ -13,4 +13,4 @@ unfolding larger
 returns_2 c = simp (sym c.before.signed-less.ensures ∙ c.if1.false)
 
 pub larger_spec : {M : Type 1} → statement M
-larger_spec = tie.close (tie.spec (λ c κs. search needs) returns returns_2)
+larger_spec = tie.close (tie.spec (λ c κs. search rules) returns returns_2)

@@ -1,5 +1,5 @@
 -- `merge_rules::made_cell` meets its contract. Assumes nothing.
-use Rattle.merge_rules.proofs.Prelude.{needs, sym, ◌∙◌}
+use Rattle.merge_rules.proofs.Prelude.{rules, sym, ◌∙◌}
 use Rattle.merge_rules.proofs.Laws.{cell_ruled, cell_new, cell_old}
 use Rattle.merge_rules.proofs.made_cell.Statement.{statement}
 use Rattle.merge_rules.proofs.made_cell.Tie as tie
@@ -20,4 +20,4 @@ returns_3 c =
 pub made_cell_spec : {M : Type 1} → statement M
 made_cell_spec =
     tie.close
-    (tie.spec (λ c κs. search needs) (λ c κs. search needs) returns returns_2 returns_3)
+    (tie.spec (λ c κs. search rules) (λ c κs. search rules) returns returns_2 returns_3)

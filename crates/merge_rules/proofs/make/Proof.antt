@@ -1,6 +1,6 @@
 -- `merge_rules::make` meets its contract. The loop's invariant: the first i cells are those of the row made, the others as
 -- they were. Assumes nothing.
-use Rattle.merge_rules.proofs.Prelude.{◌-◌, ◌≤◌, ◌≡◌, refl, ◌∙◌, ◌++◌, needs, arith, length, take, drop, length-set, made_from}
+use Rattle.merge_rules.proofs.Prelude.{◌-◌, ◌≤◌, ◌≡◌, refl, ◌∙◌, ◌++◌, rules, arith, length, take, drop, length-set, made_from}
 use Rattle.merge_rules.proofs.Laws.{make_step, make_end}
 use Rattle.merge_rules.proofs.make.Statement.{statement}
 use Rattle.merge_rules.proofs.make.Tie as tie
@@ -13,13 +13,13 @@ abbrev decreases_loop : tie.decreases_loop
 decreases_loop rule keys sort old new out₀ i₀ out i = length old - i
 
 loop_holds : tie.Need-loop-init invariant_loop decreases_loop
-loop_holds c = (search needs, refl, refl)
+loop_holds c = (search rules, refl, refl)
 
 loop_again : tie.Need-loop-preserved invariant_loop decreases_loop
 loop_again c =
     let s = c.before.before.before.before.before.before.before.before in
     let l = c.before.before.before.before.loop in
-    (search needs, simp length-set l.invariant.1, make_step _ _ _ _ _ _ s.requires.0 _ l.i _ (omega arith) (omega arith) l.invariant.2 c.made-cell.ensures)
+    (search rules, simp length-set l.invariant.1, make_step _ _ _ _ _ _ s.requires.0 _ l.i _ (omega arith) (omega arith) l.invariant.2 c.made-cell.ensures)
 
 returns : tie.Need-returns invariant_loop decreases_loop
 returns c =
@@ -31,6 +31,6 @@ pub make_spec : {M : Type 1} → statement M
 make_spec =
     tie.close
     (tie.spec
-    invariant_loop decreases_loop loop_holds (λ c. search needs) (λ c. search needs) (λ c. search needs) (λ c. search needs)
-    (λ c κs. search needs) (λ c. search needs) (λ c. search needs) (λ c. search needs) (λ c. search needs) loop_again
-    (λ c. search needs) returns)
+    invariant_loop decreases_loop loop_holds (λ c. search rules) (λ c. search rules) (λ c. search rules) (λ c. search rules)
+    (λ c κs. search rules) (λ c. search rules) (λ c. search rules) (λ c. search rules) (λ c. search rules) loop_again
+    (λ c. search rules) returns)

@@ -1,5 +1,5 @@
 -- `merge_rules::smaller` meets its contract. Assumes nothing.
-use Rattle.merge_rules.proofs.Prelude.{needs, sym, ◌∙◌}
+use Rattle.merge_rules.proofs.Prelude.{rules, sym, ◌∙◌}
 use Rattle.merge_rules.specs.Rules.{smaller}
 use Rattle.merge_rules.proofs.smaller.Statement.{statement}
 use Rattle.merge_rules.proofs.smaller.Tie as tie
@@ -13,4 +13,4 @@ unfolding smaller
 returns_2 c = simp (sym c.before.signed-less.ensures ∙ c.if1.false)
 
 pub smaller_spec : {M : Type 1} → statement M
-smaller_spec = tie.close (tie.spec (λ c κs. search needs) returns returns_2)
+smaller_spec = tie.close (tie.spec (λ c κs. search rules) returns returns_2)

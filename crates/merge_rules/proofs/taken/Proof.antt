@@ -1,5 +1,5 @@
 -- `merge_rules::taken` meets its contract. Each return rewrites by the tests that led there. Assumes nothing.
-use Rattle.merge_rules.proofs.Prelude.{needs, eq-eqb, ne_eqb}
+use Rattle.merge_rules.proofs.Prelude.{rules, eq-eqb, ne_eqb}
 use Rattle.merge_rules.specs.Rules.{taken}
 use Rattle.merge_rules.proofs.taken.Statement.{statement}
 use Rattle.merge_rules.proofs.taken.Tie as tie
@@ -23,4 +23,4 @@ returns_4 c = simp (ne_eqb _ _ c.before.before.if1.false, ne_eqb _ _ c.before.if
 pub taken_spec : {M : Type 1} → statement M
 taken_spec =
     tie.close
-    (tie.spec returns (λ c κs. search needs) returns_2 (λ c κs. search needs) returns_3 returns_4)
+    (tie.spec returns (λ c κs. search rules) returns_2 (λ c κs. search rules) returns_3 returns_4)

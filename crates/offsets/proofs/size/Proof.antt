@@ -1,5 +1,5 @@
 -- `offsets::size` meets its contract. Assumes nothing.
-use Rattle.offsets.proofs.Prelude.{◌-◌, ◌≡◌, ◌∙◌, arith, needs}
+use Rattle.offsets.proofs.Prelude.{◌-◌, ◌≡◌, ◌∙◌, arith, rules}
 use Rattle.offsets.proofs.Forms.{size_range, size_list}
 use Rattle.offsets.proofs.size.Statement.{statement}
 use Rattle.offsets.proofs.size.Tie as tie
@@ -13,6 +13,6 @@ pub size_spec : {M : Type 1} → statement M
 size_spec =
     tie.close
     (tie.spec
-    returns (λ c. search needs)
+    returns (λ c. search rules)
     (λ c. size_range _ _ c.before.before.before.if1.true)
     (λ c. size_list _ _ c.if1.false))

@@ -1,5 +1,5 @@
 -- `offsets_intersect::are_similar` meets its contract. Assumes nothing.
-use Rattle.offsets_intersect.proofs.Prelude.{◌≡◌, ⊎_elim, ◌&&◌, leb, needs}
+use Rattle.offsets_intersect.proofs.Prelude.{◌≡◌, ⊎_elim, ◌&&◌, leb, rules}
 use Rattle.offsets_intersect.proofs.Similar.{half_yes, half_no, similar_short, similar_upper, similar_not}
 use Rattle.offsets_intersect.proofs.are_similar.Statement.{statement}
 use Rattle.offsets_intersect.proofs.are_similar.Tie as tie
@@ -12,7 +12,7 @@ pub are_similar_spec : {M : Type 1} → statement M
 are_similar_spec =
     tie.close
     (tie.spec
-    (λ c. search needs)
+    (λ c. search rules)
     (λ c. similar_short c.before.before.args.a c.before.before.args.b _ (half c.before) c.if2.true)
     (λ c. similar_upper c.before.before.before.args.a c.before.before.before.args.b _ (half c.before.before) c.before.if2.false c.if3.true)
     (λ c. similar_not c.before.before.before.args.a c.before.before.before.args.b _ (half c.before.before) c.before.if2.false c.if3.false))

@@ -1,5 +1,5 @@
 -- `offsets_intersect::gallop_along` meets its contract. Assumes nothing.
-use Rattle.offsets_intersect.proofs.Prelude.{◌-◌, arith, length, needs, scan_place}
+use Rattle.offsets_intersect.proofs.Prelude.{◌-◌, arith, length, rules, scan_place}
 use Rattle.offsets_intersect.proofs.Passing.{GallopInvariant, gallop_begin, scan_hit, scan_miss, merged_to_end, merged_to_others_end}
 use Rattle.offsets_intersect.proofs.gallop_along.Statement.{statement}
 use Rattle.offsets_intersect.proofs.gallop_along.Tie as tie
@@ -28,11 +28,11 @@ pub gallop_along_spec : {M : Type 1} → statement M
 gallop_along_spec =
     tie.close
     (tie.spec
-    invariant_loop decreases_loop (λ c. search needs) (λ c. search needs) (λ c. gallop_begin _ _ _) (λ c. search needs)
+    invariant_loop decreases_loop (λ c. search rules) (λ c. search rules) (λ c. gallop_begin _ _ _) (λ c. search rules)
     (λ c. c.before.before.loop.invariant.merged_to.same)
     (λ c. merged_to_others_end c.before.before.loop.invariant.merged_to c.before.before.before.before.before.before.requires.0.fits c.if1.true)
-    (λ c. search needs) (λ c. search needs) (λ c. search needs) (λ c. search needs) (λ c κs. search needs) (λ c. search needs) (λ c. search needs)
-    (λ c. search needs) (λ c. search needs) (λ c. search needs) add_o (λ c. search needs) loop_again (λ c. search needs) (λ c. search needs) loop_again_2
-    (λ c. search needs)
+    (λ c. search rules) (λ c. search rules) (λ c. search rules) (λ c. search rules) (λ c κs. search rules) (λ c. search rules) (λ c. search rules)
+    (λ c. search rules) (λ c. search rules) (λ c. search rules) add_o (λ c. search rules) loop_again (λ c. search rules) (λ c. search rules) loop_again_2
+    (λ c. search rules)
     (λ c. c.before.loop.invariant.merged_to.same)
     (λ c. merged_to_end c.before.loop.invariant.merged_to c.before.before.before.before.before.requires.0.fits c.loop-test.false))

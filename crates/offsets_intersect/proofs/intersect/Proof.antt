@@ -1,5 +1,5 @@
 -- `offsets_intersect::intersect` meets its contract. Assumes nothing.
-use Rattle.offsets_intersect.proofs.Prelude.{◌≡◌, sym, ◌∙◌, ◌&&◌, false, length, needs, subset_of, intersect_refusal}
+use Rattle.offsets_intersect.proofs.Prelude.{◌≡◌, sym, ◌∙◌, ◌&&◌, false, length, rules, subset_of, intersect_refusal}
 use Rattle.offsets_intersect.proofs.Answers.{answered_refused, one_list, can_range_list, can_list_range, can_lists, as_ranges, as_range_list, as_list_range, as_lists}
 use Rattle.offsets_intersect.proofs.intersect.Statement.{statement}
 use Rattle.offsets_intersect.proofs.intersect.Tie as tie
@@ -24,14 +24,14 @@ pub intersect_spec : {M : Type 1} → statement M
 intersect_spec =
     tie.close
     (tie.spec
-    (λ c κs. search needs)
+    (λ c κs. search rules)
     (λ c. as_ranges _ _ _ _ _ _ c.before.if1.true (c.intersect-ranges.ensures _))
-    (λ c κs. search needs)
+    (λ c κs. search rules)
     (λ c. answered_refused _ _ _ _ _ c.before.intersect-refusal.ensures c.if2.true)
-    intersect_range_list_requires (λ c. search needs) returns_3
+    intersect_range_list_requires (λ c. search rules) returns_3
     (λ c κs. can_list_range _ _ _ _ _ (none c.before.before.before) c.before.before.if3.false c.before.if4.true)
-    (λ c. search needs)
+    (λ c. search rules)
     (λ c. as_list_range _ _ _ _ _ (none c.before.before.before.before.before.before) _ _ c.before.before.before.before.before.if3.false c.before.before.before.before.if4.true c.before.before.intersect-list-range.ensures)
     (λ c κs. can_lists _ _ _ _ _ (none c.before.before.before) c.before.before.if3.false c.before.if4.false)
-    (λ c. search needs)
+    (λ c. search rules)
     (λ c. as_lists _ _ _ _ _ (none c.before.before.before.before.before.before) _ _ c.before.before.before.before.before.if3.false c.before.before.before.before.if4.false c.before.before.intersect-lists.ensures))

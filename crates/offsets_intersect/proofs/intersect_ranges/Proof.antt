@@ -1,5 +1,5 @@
 -- `offsets_intersect::intersect_ranges` meets its contract. Assumes nothing.
-use Rattle.offsets_intersect.proofs.Prelude.{◌∙◌, ap₂, max, needs, Range}
+use Rattle.offsets_intersect.proofs.Prelude.{◌∙◌, ap₂, max, rules, Range}
 use Rattle.offsets_intersect.proofs.Answers.{ranges_first, ranges_second, ranges_answered}
 use Rattle.offsets_intersect.proofs.intersect_ranges.Statement.{statement}
 use Rattle.offsets_intersect.proofs.intersect_ranges.Tie as tie
@@ -16,4 +16,4 @@ intersect_ranges_spec =
     (tie.spec
     (λ c output. ranges_first _ _ _ _ output c.if1.true)
     (λ c output. ranges_second _ _ _ _ output c.before.if1.false c.if2.true)
-    (λ c κs. search needs) (λ c κs. search needs) (λ c κs. search needs) returns_3)
+    (λ c κs. search rules) (λ c κs. search rules) (λ c κs. search rules) returns_3)

@@ -1,5 +1,5 @@
 -- `offsets_intersect::keep_common` meets its contract. Assumes nothing.
-use Rattle.offsets_intersect.proofs.Prelude.{sym, ◌∙◌, arith, needs}
+use Rattle.offsets_intersect.proofs.Prelude.{sym, ◌∙◌, arith, rules}
 use Rattle.offsets_intersect.proofs.Similar.{first_longer, second_longer}
 use Rattle.offsets_intersect.proofs.Common.{wrote_turned}
 use Rattle.offsets_intersect.proofs.keep_common.Statement.{statement}
@@ -15,9 +15,9 @@ pub keep_common_spec : {M : Type 1} → statement M
 keep_common_spec =
     tie.close
     (tie.spec
-    (λ c κs. search needs)
+    (λ c κs. search rules)
     (λ c κs. let p = c.before.before.before.before.before.before.requires in (p.0, p.1, sym c.before.before.are-similar.ensures ∙ c.before.if1.true))
-    (λ c. search needs) (λ c. search needs) gallop_along_requires (λ c. search needs)
+    (λ c. search rules) (λ c. search rules) gallop_along_requires (λ c. search rules)
     (λ c. wrote_turned _ _ _ _ _ c.before.before.before.before.before.before.before.before.before.before.requires.0.up c.before.before.before.before.before.before.before.before.before.before.requires.1.up c.before.before.gallop-along.ensures)
     (λ c κs. let p = c.before.before.before.before.before.before.before.requires in (p.0, p.1, second_longer _ _ (sym c.before.before.before.are-similar.ensures ∙ c.before.before.if1.false) c.before.if2.false))
-    (λ c. search needs) (λ c. search needs))
+    (λ c. search rules) (λ c. search rules))

@@ -1,5 +1,5 @@
 -- `offsets_intersect::keep_within` meets its contract. Assumes nothing.
-use Rattle.offsets_intersect.proofs.Prelude.{arith, needs, not_below_mono}
+use Rattle.offsets_intersect.proofs.Prelude.{arith, rules, not_below_mono}
 use Rattle.offsets_intersect.proofs.Common.{wrote_within}
 use Rattle.offsets_intersect.proofs.keep_within.Statement.{statement}
 use Rattle.offsets_intersect.proofs.keep_within.Tie as tie
@@ -15,5 +15,5 @@ pub keep_within_spec : {M : Type 1} → statement M
 keep_within_spec =
     tie.close
     (tie.spec
-    (λ c κs. search needs) (λ c κs. search needs) (λ c. search needs) (λ c. search needs) (λ c. search needs) (λ c. search needs) (λ c. search needs)
-    (λ c. search needs) (λ c κs. search needs) (λ c. search needs) (λ c. search needs) returns)
+    (λ c κs. search rules) (λ c κs. search rules) (λ c. search rules) (λ c. search rules) (λ c. search rules) (λ c. search rules) (λ c. search rules)
+    (λ c. search rules) (λ c κs. search rules) (λ c. search rules) (λ c. search rules) returns)

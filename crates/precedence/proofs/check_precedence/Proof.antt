@@ -1,5 +1,5 @@
 -- `precedence::check_precedence` meets its contract. The loop's invariant: the rows from here on give what all give. Assumes nothing.
-use Rattle.precedence.proofs.Prelude.{◌-◌, ◌≤◌, ◌≡◌, refl, sym, ◌∙◌, arith, length, needs, OnTable}
+use Rattle.precedence.proofs.Prelude.{◌-◌, ◌≤◌, ◌≡◌, refl, sym, ◌∙◌, arith, length, rules, OnTable}
 use Rattle.precedence.proofs.Checks.{Accepted, passed_accepted, check_refused, check_met, check_fails}
 use Rattle.precedence.proofs.Steps.{from_row, rows_begin, row_fails, row_meets_lem, rows_end}
 use Rattle.precedence.proofs.check_precedence.Statement.{statement}
@@ -28,7 +28,7 @@ pub check_precedence_spec : {M : Type 1} → statement M
 check_precedence_spec =
     tie.close
     (tie.spec
-    invariant_loop decreases_loop (λ c κs. search needs)
+    invariant_loop decreases_loop (λ c κs. search rules)
     (λ c. check_refused _ _ _ _ _ _ c.before.precedence-refusal.ensures c.if1.true)
     (λ c. (omega arith, λ sound differ. refl))
     (λ c κs. let a = accepts c.before.before.before in (a.tested, a.column_key, c.if2.true))

@@ -1,5 +1,5 @@
 -- `precedence::failing_pair` meets its contract. The loop's invariant: the pairs from here on give what all give. Assumes nothing.
-use Rattle.precedence.proofs.Prelude.{◌/◌, ◌-◌, ◌≤◌, ◌≡◌, refl, sym, ◌∙◌, arith, needs, length, not-true, not-false, OnTable}
+use Rattle.precedence.proofs.Prelude.{◌/◌, ◌-◌, ◌≤◌, ◌≡◌, refl, sym, ◌∙◌, arith, rules, length, not-true, not-false, OnTable}
 use Rattle.precedence.proofs.Steps.{RowInStore, row_in_store, from_pair, pair_fails, pair_met, pairs_end, dead_row_lem, place_fails, place_meets}
 use Rattle.precedence.proofs.failing_pair.Statement.{statement}
 use Rattle.precedence.proofs.failing_pair.Tie as tie
@@ -33,7 +33,7 @@ pub failing_pair_spec : {M : Type 1} → statement M
 failing_pair_spec =
     tie.close
     (tie.spec
-    invariant_loop decreases_loop (λ c κs. search needs)
+    invariant_loop decreases_loop (λ c κs. search rules)
     (λ c κs. omega (arith, lies c.before.before.before.before)) returns (λ c. (omega arith, λ sound differ. refl))
     (λ c. omega arith) (λ c. omega arith) (λ c. omega arith) (λ c. omega arith) (λ c. omega arith) (λ c. omega arith)
     (λ c. omega arith) (λ c κs. c.before.before.before.before.before.before.before.before.before.before.requires)

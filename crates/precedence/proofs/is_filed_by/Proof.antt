@@ -1,5 +1,5 @@
 -- `precedence::is_filed_by` meets its contract. Assumes nothing.
-use Rattle.precedence.proofs.Prelude.{arith, needs}
+use Rattle.precedence.proofs.Prelude.{arith, rules}
 use Rattle.precedence.proofs.Steps.{RowInStore, lookup_pre, found_in_store, found_none, found_at}
 use Rattle.precedence.proofs.is_filed_by.Statement.{statement}
 use Rattle.precedence.proofs.is_filed_by.Tie as tie
@@ -24,6 +24,6 @@ pub is_filed_by_spec : {M : Type 1} → statement M
 is_filed_by_spec =
     tie.close
     (tie.spec
-    (λ c κs. search needs) (λ c κs. search needs) look_up_requires (λ c. search needs) (λ c. search needs)
-    (λ c κs. search needs) (λ c. search needs) (λ c. omega (arith, lies c.before))
+    (λ c κs. search rules) (λ c κs. search rules) look_up_requires (λ c. search rules) (λ c. search rules)
+    (λ c κs. search rules) (λ c. search rules) (λ c. omega (arith, lies c.before))
     (λ c. omega (arith, lies c.before)) (λ c. omega (arith, lies c.before.before)) returns returns_2)

@@ -1,5 +1,5 @@
 -- `precedence::is_row_filed` meets its contract. Assumes nothing.
-use Rattle.precedence.proofs.Prelude.{refl, arith, needs}
+use Rattle.precedence.proofs.Prelude.{refl, arith, rules}
 use Rattle.precedence.proofs.Steps.{RowInStore, row_in_store, key_fits, key_made, filed_row}
 use Rattle.precedence.proofs.is_row_filed.Statement.{statement}
 use Rattle.precedence.proofs.is_row_filed.Tie as tie
@@ -20,12 +20,12 @@ pub is_row_filed_spec : {M : Type 1} → statement M
 is_row_filed_spec =
     tie.close
     (tie.spec
-    (λ c κs. search needs)
-    (λ c. search needs) (λ c. search needs) (λ c. omega (arith, lies c.before.before.before.before.before))
-    (λ c. omega (arith, lies c.before.before.before.before.before)) (λ c. search needs) (λ c. search needs)
-    (λ c. omega (arith, lies c.before.before.before.before.before)) (λ c κs. search needs) (λ c. search needs)
-    (λ c. search needs) (λ c. search needs)
+    (λ c κs. search rules)
+    (λ c. search rules) (λ c. search rules) (λ c. omega (arith, lies c.before.before.before.before.before))
+    (λ c. omega (arith, lies c.before.before.before.before.before)) (λ c. search rules) (λ c. search rules)
+    (λ c. omega (arith, lies c.before.before.before.before.before)) (λ c κs. search rules) (λ c. search rules)
+    (λ c. search rules) (λ c. search rules)
     (λ c. omega (arith, lies c.before.before.before.before.before.before.before.before.before))
     (λ c. omega (arith, lies c.before.before.before.before.before.before.before.before.before))
     (λ c. omega (arith, lies c.before.before.before.before.before.before.before.before.before.before))
-    (λ c. search needs) (λ c. search needs) part_is_filed_by_end (λ c κs. search needs) returns)
+    (λ c. search rules) (λ c. search rules) part_is_filed_by_end (λ c κs. search rules) returns)

@@ -1,5 +1,5 @@
 -- `precedence::meets_pair` meets its contract. Assumes nothing.
-use Rattle.precedence.proofs.Prelude.{◌∙◌, arith, needs}
+use Rattle.precedence.proofs.Prelude.{◌∙◌, arith, rules}
 use Rattle.precedence.proofs.Steps.{RowInStore, row_in_store, not_named, named}
 use Rattle.precedence.proofs.meets_pair.Statement.{statement}
 use Rattle.precedence.proofs.meets_pair.Tie as tie
@@ -17,8 +17,8 @@ pub meets_pair_spec : {M : Type 1} → statement M
 meets_pair_spec =
     tie.close
     (tie.spec
-    (λ c κs. search needs)
+    (λ c κs. search rules)
     (λ c. omega (arith, lies c.before.before.before, c.before.before.before.requires.1))
     (λ c. omega (arith, lies c.before.before.before, c.before.before.before.requires.1))
     (λ c. omega (arith, lies c.before.before.before.before, c.before.before.before.before.requires.1)) returns
-    (λ c κs. search needs) returns_2)
+    (λ c κs. search rules) returns_2)

@@ -1,5 +1,5 @@
 -- `precedence::precedence_refusal` meets its contract. Assumes nothing.
-use Rattle.precedence.proofs.Prelude.{sym, ◌∙◌, needs}
+use Rattle.precedence.proofs.Prelude.{sym, ◌∙◌, rules}
 use Rattle.precedence.proofs.Checks.{lookup_refused, no_key_column, odd_words, no_pairs, many_pairs, none_refused}
 use Rattle.precedence.proofs.precedence_refusal.Statement.{statement}
 use Rattle.precedence.proofs.precedence_refusal.Tie as tie
@@ -20,7 +20,7 @@ pub precedence_refusal_spec : {M : Type 1} → statement M
 precedence_refusal_spec =
     tie.close
     (tie.spec
-    (λ c. search needs) (λ c κs. search needs)
+    (λ c. search rules) (λ c κs. search rules)
     (λ c. let e = c.before.lookup-refusal.ensures in e ∙ lookup_refused _ _ _ _ _ (λ z. c.if1.true (e ∙ z)))
     (λ c. no_key_column _ _ _ _ _ (sym c.before.before.before.lookup-refusal.ensures ∙ c.before.before.if1.false) c.if2.true)
     returns_3 returns_4 returns_5 returns_6)

@@ -1,5 +1,5 @@
 -- `query_scan::can_pass` meets its contract. Assumes nothing.
-use Rattle.query_scan.proofs.Prelude.{needs, starts}
+use Rattle.query_scan.proofs.Prelude.{rules, starts}
 use Rattle.query_scan.proofs.can_pass.Statement.{statement}
 use Rattle.query_scan.proofs.can_pass.Tie as tie
 
@@ -15,6 +15,6 @@ pub can_pass_spec : {M : Type 1} → statement M
 can_pass_spec =
     tie.close
     (tie.spec
-    (λ c. search needs) (λ c. search needs)
+    (λ c. search rules) (λ c. search rules)
     (λ c κs. rw c.before.test.given.1 at c.before.before.before.before.requires)
     returns returns_2)

@@ -1,5 +1,5 @@
 -- `query_scan::passes_test` meets its contract. Assumes nothing.
-use Rattle.query_scan.proofs.Prelude.{needs, passes}
+use Rattle.query_scan.proofs.Prelude.{rules, passes}
 use Rattle.query_scan.proofs.passes_test.Statement.{statement}
 use Rattle.query_scan.proofs.passes_test.Tie as tie
 
@@ -15,6 +15,6 @@ pub passes_test_spec : {M : Type 1} → statement M
 passes_test_spec =
     tie.close
     (tie.spec
-    (λ c. search needs) (λ c κs. search needs) (λ c. search needs)
+    (λ c. search rules) (λ c κs. search rules) (λ c. search rules)
     (λ c κs. rw c.before.test.given.1 at c.before.before.before.before.requires)
     returns returns_2)

@@ -1,5 +1,5 @@
 -- `refresh::is_overfull_for_all_rows` meets its contract. Assumes nothing.
-use Rattle.refresh.proofs.Prelude.{arith, needs}
+use Rattle.refresh.proofs.Prelude.{arith, rules}
 use Rattle.refresh.proofs.RefreshSteps.{all_words_few}
 use Rattle.refresh.proofs.is_overfull_for_all_rows.Statement.{statement}
 use Rattle.refresh.proofs.is_overfull_for_all_rows.Tie as tie
@@ -12,4 +12,4 @@ is_overfull_for_all_rows_spec =
     (λ c. omega (arith, all_words_few _ c.before.before.requires))
     (λ c. omega (arith, all_words_few _ c.before.before.before.requires))
     (λ c. omega (arith, all_words_few _ c.before.before.before.before.requires))
-    (λ c κs. search needs) (λ c. search needs))
+    (λ c κs. search rules) (λ c. search rules))

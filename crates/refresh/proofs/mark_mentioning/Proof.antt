@@ -1,5 +1,5 @@
 -- `refresh::mark_mentioning` meets its contract. Assumes nothing.
-use Rattle.refresh.proofs.Prelude.{◌≡◌, sym, ◌∙◌, true, arith, not-false, usable, usable_is, needs}
+use Rattle.refresh.proofs.Prelude.{◌≡◌, sym, ◌∙◌, true, arith, not-false, usable, usable_is, rules}
 use Rattle.refresh_spec.specs.Index.{rows_seen}
 use Rattle.refresh.proofs.FindSteps.{scannable, listed_long, found_restarted, found_both, both_few}
 use Rattle.refresh.proofs.mark_mentioning.Statement.{statement}
@@ -25,9 +25,9 @@ mark_mentioning_spec =
     tie.close
     (tie.spec
     (λ c κs. let s = c.before.before.before.before.before.before.before in scannable _ _ _ _ s.args.values.now s.requires.0 (omega arith) s.requires.2.long)
-    (λ c. search needs)
+    (λ c. search rules)
     (λ c. found_restarted _ _ _ _ _ c.before.before.mark-unlisted.ensures)
     (λ c. omega (arith, c.before.before.before.before.before.before.before.requires.0.index_long))
     (λ c κs. let s = c.before.before.before.before.before.before.before.before in (s.requires.0, used c.before.before, s.requires.2.long))
-    mark_unlisted_requires_2 add_result (λ c. search needs)
+    mark_unlisted_requires_2 add_result (λ c. search rules)
     returns_2)

@@ -1,5 +1,5 @@
 -- `refresh::refresh_by_index` meets its contract. Assumes nothing.
-use Rattle.refresh.proofs.Prelude.{length, bitmap_none, Lendable, needs}
+use Rattle.refresh.proofs.Prelude.{length, bitmap_none, Lendable, rules}
 use Rattle.refresh.proofs.TestSteps.{Passed, passed, lendable}
 use Rattle.refresh.proofs.FindSteps.{found_caught, lendable_caught}
 use Rattle.refresh.proofs.RefreshSteps.{found_fit, stageable, done}
@@ -42,5 +42,5 @@ refresh_by_index_spec =
     tie.close
     (tie.spec
     (λ c κs. let s = c.before.before.before.before.before.before in (lent s, s.requires.0.continues))
-    (λ c. search needs) mark_listed_requires (λ c. search needs) stage_marked_requires (λ c. search needs) (λ c. search needs)
+    (λ c. search rules) mark_listed_requires (λ c. search rules) stage_marked_requires (λ c. search rules) (λ c. search rules)
     returns)

@@ -1,5 +1,5 @@
 -- `refresh::refresh_by_scan` meets its contract. Assumes nothing.
-use Rattle.refresh.proofs.Prelude.{sym, ◌∙◌, arith, length, bitmap_none, Lendable, needs}
+use Rattle.refresh.proofs.Prelude.{sym, ◌∙◌, arith, length, bitmap_none, Lendable, rules}
 use Rattle.refresh.proofs.TestSteps.{Passed, passed, lendable}
 use Rattle.refresh.proofs.RefreshSteps.{WordsFew, words_few, refused_full, stageable, done}
 use Rattle.refresh.proofs.refresh_by_scan.Statement.{statement}
@@ -40,11 +40,11 @@ pub refresh_by_scan_spec : {M : Type 1} → statement M
 refresh_by_scan_spec =
     tie.close
     (tie.spec
-    (λ c. search needs)
+    (λ c. search rules)
     (λ c κs. let s = c.before.before.before.before.before.before.before in (lent s, s.requires.continues, bitmap_none))
     (λ c. omega (arith, fits c.before)) (λ c. omega (arith, fits c.before))
     (λ c. omega (arith, fits c.before.before)) (λ c. omega (arith, fits c.before.before))
-    (λ c κs. search needs) (λ c. search needs) returns
+    (λ c κs. search rules) (λ c. search rules) returns
     (λ c κs. let s = c.before.before.before.before.before.before.before.before.before.before.before.before.before.before in (lent s, s.requires.continues))
-    (λ c. search needs) stage_marked_requires (λ c. search needs) (λ c. search needs)
+    (λ c. search rules) stage_marked_requires (λ c. search rules) (λ c. search rules)
     returns_2)

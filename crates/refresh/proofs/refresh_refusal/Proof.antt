@@ -1,5 +1,5 @@
 -- `refresh::refresh_refusal` meets its contract. Assumes nothing.
-use Rattle.refresh.proofs.Prelude.{◌≡◌, sym, ◌∙◌, true, false, ltb, length, lt-ltb, le-ltb, not-true, not-false, all, or_no_left, index_short, opening_of, needs}
+use Rattle.refresh.proofs.Prelude.{◌≡◌, sym, ◌∙◌, true, false, ltb, length, lt-ltb, le-ltb, not-true, not-false, all, or_no_left, index_short, opening_of, rules}
 use Rattle.refusals.specs.Refusals.{first_refusal}
 use Rattle.table.specs.Refusing.{outside, pending_outside, rows_short}
 use Rattle.refresh.specs.inner.Testing.{early_refusal}
@@ -64,9 +64,9 @@ pub refresh_refusal_spec : {M : Type 1} → statement M
 refresh_refusal_spec =
     tie.close
     (tie.spec
-    (λ c κs. search needs) returns
+    (λ c κs. search rules) returns
     (λ c κs. within c)
-    returns_2 returns_3 (λ c κs. search needs) returns_4
+    returns_2 returns_3 (λ c κs. search rules) returns_4
     (λ c κs. (within c.before.before.before.before.before, c.before.before.if3.false))
-    returns_5 (λ c κs. search needs) returns_6
+    returns_5 (λ c κs. search rules) returns_6
     returns_7)

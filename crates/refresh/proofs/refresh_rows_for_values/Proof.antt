@@ -1,5 +1,5 @@
 -- `refresh::refresh_rows_for_values` meets its contract. Assumes nothing.
-use Rattle.refresh.proofs.Prelude.{sym, ◌∙◌, length, Lendable, needs}
+use Rattle.refresh.proofs.Prelude.{sym, ◌∙◌, length, Lendable, rules}
 use Rattle.refresh.proofs.TestSteps.{Passed, passed, lendable}
 use Rattle.refresh.proofs.RefreshSteps.{refused_early}
 use Rattle.refresh.proofs.refresh_rows_for_values.Statement.{statement}
@@ -25,9 +25,9 @@ pub refresh_rows_for_values_spec : {M : Type 1} → statement M
 refresh_rows_for_values_spec =
     tie.close
     (tie.spec
-    (λ c κs. search needs)
+    (λ c κs. search rules)
     (λ c. refused_early _ _ _ _ _ _ c.before.refresh-refusal.ensures c.if1.true)
     (λ c κs. let l = lent c.before in (l.inside, l.columns_few, l.index_long))
     (λ c κs. (lent c.before.before).inside)
-    (λ c κs. search needs) (λ c. search needs) (λ c. search needs) (λ c. search needs) refresh_by_index_requires
-    (λ c. search needs) (λ c. search needs) (λ c. search needs))
+    (λ c κs. search rules) (λ c. search rules) (λ c. search rules) (λ c. search rules) refresh_by_index_requires
+    (λ c. search rules) (λ c. search rules) (λ c. search rules))

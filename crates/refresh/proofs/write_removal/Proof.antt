@@ -1,5 +1,5 @@
 -- `refresh::write_removal` meets its contract. Assumes nothing.
-use Rattle.refresh.proofs.Prelude.{ℕ, ap, ◌∙◌, List, arith, splice, needs}
+use Rattle.refresh.proofs.Prelude.{ℕ, ap, ◌∙◌, List, arith, splice, rules}
 use Rattle.refresh.proofs.WriteSteps.{within, removal_words}
 use Rattle.refresh.proofs.write_removal.Statement.{statement}
 use Rattle.refresh.proofs.write_removal.Tie as tie
@@ -14,10 +14,10 @@ pub write_removal_spec : {M : Type 1} → statement M
 write_removal_spec =
     tie.close
     (tie.spec
-    (λ c κs. search needs) (λ c. search needs)
+    (λ c κs. search rules) (λ c. search rules)
     (λ c. omega (arith, within c.before.before.before.before.requires.0))
     (λ c. omega (arith, within c.before.before.before.before.requires.0))
-    (λ c. search needs) (λ c. search needs)
+    (λ c. search rules) (λ c. search rules)
     (λ c. omega (arith, within c.before.before.before.before.requires.0))
-    (λ c κs. search needs) (λ c κs. search needs) (λ c. search needs)
+    (λ c κs. search rules) (λ c κs. search rules) (λ c. search rules)
     returns)

@@ -1,5 +1,5 @@
 -- `refresh::write_row` meets its contract. Assumes nothing.
-use Rattle.refresh.proofs.Prelude.{ℕ, ◌+◌, ap, ◌∙◌, List, arith, set, splice, row_at, insert, record_words, needs}
+use Rattle.refresh.proofs.Prelude.{ℕ, ◌+◌, ap, ◌∙◌, List, arith, set, splice, row_at, insert, record_words, rules}
 use Rattle.refresh.proofs.WriteSteps.{within, both_words}
 use Rattle.refresh.proofs.write_row.Statement.{statement}
 use Rattle.refresh.proofs.write_row.Tie as tie
@@ -16,7 +16,7 @@ pub write_row_spec : {M : Type 1} → statement M
 write_row_spec =
     tie.close
     (tie.spec
-    (λ c κs. search needs)
+    (λ c κs. search rules)
     (λ c. omega (arith, within c.before.before.before.before.before.before.before.before.requires.0))
-    (λ c. search needs) (λ c. search needs) (λ c κs. search needs) (λ c. search needs)
+    (λ c. search rules) (λ c. search rules) (λ c κs. search rules) (λ c. search rules)
     returns)

@@ -1,5 +1,5 @@
 -- `refresh_index::catch_up` meets its contract. Assumes nothing.
-use Rattle.refresh_index.proofs.Prelude.{◌≡◌, sym, ◌∙◌, true, arith, length, needs, usable}
+use Rattle.refresh_index.proofs.Prelude.{◌≡◌, sym, ◌∙◌, true, arith, length, rules, usable}
 use Rattle.refresh_index.proofs.Sizes.{Small, small, fillable_same}
 use Rattle.refresh_index.proofs.Catches.{goes_on, caught_on, fresh_room, caught_restarted}
 use Rattle.refresh_index.proofs.catch_up.Statement.{statement}
@@ -35,7 +35,7 @@ pub catch_up_spec : {M : Type 1} → statement M
 catch_up_spec =
     tie.close
     (tie.spec
-    (λ c. search needs) (λ c. search needs) fill_requires (λ c. search needs) returns (λ c. search needs)
+    (λ c. search rules) (λ c. search rules) fill_requires (λ c. search rules) returns (λ c. search rules)
     (λ c. omega (arith, sizes c.before.before.before.before.before)) (λ c. omega (arith, sizes c.before.before.before.before.before))
     (λ c κs. (c.before.before.before.before.before.before.requires.0.inside, c.before.before.before.before.before.before.requires.0.columns_few)) empty_buckets_requires fill_requires_2
-    (λ c. search needs) returns_2)
+    (λ c. search rules) returns_2)

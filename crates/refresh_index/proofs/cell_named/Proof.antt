@@ -1,5 +1,5 @@
 -- `refresh_index::cell_named` meets its contract. Assumes nothing.
-use Rattle.refresh_index.proofs.Prelude.{◌<◌, sym, arith, get_or, needs, get_d_row_at, Inside}
+use Rattle.refresh_index.proofs.Prelude.{◌<◌, sym, arith, get_or, rules, get_d_row_at, Inside}
 use Rattle.refresh_index.specs.inner.Entries.{cell_named}
 use Rattle.refresh_index.proofs.Sizes.{cell_in}
 use Rattle.refresh_index.proofs.cell_named.Statement.{statement}
@@ -16,6 +16,6 @@ pub cell_named_spec : {M : Type 1} → statement M
 cell_named_spec =
     tie.close
     (tie.spec
-    (λ c κs. search needs) (λ c. search needs) (λ c. search needs) (λ c. omega (arith, lies c.before.before.before.before))
+    (λ c κs. search rules) (λ c. search rules) (λ c. search rules) (λ c. omega (arith, lies c.before.before.before.before))
     (λ c. omega (arith, lies c.before.before.before.before)) (λ c. omega (arith, lies c.before.before.before.before))
     (λ c. omega (arith, lies c.before.before.before.before.before)) returns)

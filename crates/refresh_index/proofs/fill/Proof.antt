@@ -1,5 +1,5 @@
 -- `refresh_index::fill` meets its contract. The loop's invariant: the rows passed are pushed. Assumes nothing.
-use Rattle.refresh_index.proofs.Prelude.{◌*◌, ◌-◌, ◌≤◌, ◌≡◌, refl, ◌∙◌, suc-mul, add-one, arith, length, needs, Pushed}
+use Rattle.refresh_index.proofs.Prelude.{◌*◌, ◌-◌, ◌≤◌, ◌≡◌, refl, ◌∙◌, suc-mul, add-one, arith, length, rules, Pushed}
 use Rattle.refresh_index.proofs.Sizes.{fillable_same}
 use Rattle.refresh_index.proofs.Fills.{push_none, push_then}
 use Rattle.refresh_index.proofs.Fronts.{filled}
@@ -45,5 +45,5 @@ pub fill_spec : {M : Type 1} → statement M
 fill_spec =
     tie.close
     (tie.spec
-    invariant_loop decreases_loop loop_holds push_live_requires (λ c. search needs) (λ c. search needs) loop_again
+    invariant_loop decreases_loop loop_holds push_live_requires (λ c. search rules) (λ c. search rules) loop_again
     write_front_requires same_length returns)

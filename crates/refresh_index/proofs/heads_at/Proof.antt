@@ -1,5 +1,5 @@
 -- `refresh_index::heads_at` meets its contract. Assumes nothing.
-use Rattle.refresh_index.proofs.Prelude.{arith, needs}
+use Rattle.refresh_index.proofs.Prelude.{arith, rules}
 use Rattle.refresh_index.proofs.Sizes.{Small, small}
 use Rattle.refresh_index.proofs.heads_at.Statement.{statement}
 use Rattle.refresh_index.proofs.heads_at.Tie as tie
@@ -11,4 +11,4 @@ pub heads_at_spec : {M : Type 1} → statement M
 heads_at_spec =
     tie.close
     (tie.spec
-    (λ c. search needs) (λ c. omega (arith, sizes c.before)) (λ c. omega (arith, sizes c.before)) (λ c. search needs))
+    (λ c. search rules) (λ c. omega (arith, sizes c.before)) (λ c. omega (arith, sizes c.before)) (λ c. search rules))

@@ -1,5 +1,5 @@
 -- `refresh_index::is_repeated` meets its contract. Assumes nothing.
-use Rattle.refresh_index.proofs.Prelude.{refl, needs}
+use Rattle.refresh_index.proofs.Prelude.{refl, rules}
 use Rattle.refresh_index.proofs.is_repeated.Statement.{statement}
 use Rattle.refresh_index.proofs.is_repeated.Tie as tie
 
@@ -7,5 +7,5 @@ pub is_repeated_spec : {M : Type 1} → statement M
 is_repeated_spec =
     tie.close
     (tie.spec
-    (λ c. search needs) (λ c κs. search needs) (λ c. search needs) (λ c. search needs) (λ c. search needs) (λ c. search needs)
-    (λ c. search needs) (λ c. rw c.before.bucket-of.ensures.0 (refl, refl)))
+    (λ c. search rules) (λ c κs. search rules) (λ c. search rules) (λ c. search rules) (λ c. search rules) (λ c. search rules)
+    (λ c. search rules) (λ c. rw c.before.bucket-of.ensures.0 (refl, refl)))

@@ -1,5 +1,5 @@
 -- `refresh_index::is_usable` meets its contract. Assumes nothing.
-use Rattle.refresh_index.proofs.Prelude.{sym, ◌∙◌, arith, length, needs, le-leb, lt-leb, eq-eqb, ne_eqb, not-true, not-false}
+use Rattle.refresh_index.proofs.Prelude.{sym, ◌∙◌, arith, length, rules, le-leb, lt-leb, eq-eqb, ne_eqb, not-true, not-false}
 use Rattle.refresh_spec.specs.Index.{generation_seen, rows_seen, columns_named}
 use Rattle.refresh_spec.specs.inner.Finding.{usable}
 use Rattle.refresh_index.proofs.Sizes.{Small, small}
@@ -56,7 +56,7 @@ pub is_usable_spec : {M : Type 1} → statement M
 is_usable_spec =
     tie.close
     (tie.spec
-    (λ c. search needs) returns (λ c. search needs) returns_2 (λ c. search needs)
-    (λ c. omega (arith, c.shared-slice-known5.given 3)) returns_3 (λ c κs. search needs) returns_4 (λ c. search needs)
-    returns_5 (λ c. search needs) (λ c. omega (arith, c.shared-slice-known7.given 12)) (λ c. search needs)
-    mul_if6 returns_6 (λ c. search needs) mul_result mul_result_2 returns_7)
+    (λ c. search rules) returns (λ c. search rules) returns_2 (λ c. search rules)
+    (λ c. omega (arith, c.shared-slice-known5.given 3)) returns_3 (λ c κs. search rules) returns_4 (λ c. search rules)
+    returns_5 (λ c. search rules) (λ c. omega (arith, c.shared-slice-known7.given 12)) (λ c. search rules)
+    mul_if6 returns_6 (λ c. search rules) mul_result mul_result_2 returns_7)

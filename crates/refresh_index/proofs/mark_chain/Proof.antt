@@ -1,6 +1,6 @@
 -- `refresh_index::mark_chain` meets its contract. The loop's invariant: of the rows that the value leads to, those of the entries that
 -- the link leads to are yet to be marked. Assumes nothing.
-use Rattle.refresh_index.proofs.Prelude.{◌*◌, ◌≤◌, ◌≡◌, refl, ◌∙◌, [], arith, length, get_or, needs, leb-true, leb-false, chain_none, chain_above}
+use Rattle.refresh_index.proofs.Prelude.{◌*◌, ◌≤◌, ◌≡◌, refl, ◌∙◌, [], arith, length, get_or, rules, leb-true, leb-false, chain_none, chain_above}
 use Rattle.refresh_spec.specs.Index.{chain, entries_under}
 use Rattle.refresh_spec.specs.inner.Finding.{leads}
 use Rattle.refresh_index.proofs.Sizes.{readable}
@@ -71,10 +71,10 @@ pub mark_chain_spec : {M : Type 1} → statement M
 mark_chain_spec =
     tie.close
     (tie.spec
-    invariant_loop decreases_loop (λ c. omega (arith, sizes c.before.before.before.before.before)) (λ c. search needs) (λ c. omega (arith, sizes c.before.before.before.before.before))
+    invariant_loop decreases_loop (λ c. omega (arith, sizes c.before.before.before.before.before)) (λ c. search rules) (λ c. omega (arith, sizes c.before.before.before.before.before))
     returns (λ c κs. (c.before.before.before.before.before.before.requires.0.inside, c.before.before.before.before.before.before.requires.0.columns_few)) (λ c. omega (arith, sizes c.before.before.before.before.before.before.before.before))
     (λ c κs. omega (arith, sizes c.before.before.before.before.before.before.before.before, c.before.before.if1.false)) (λ c. omega (arith, sizes c.before.before.before.before.before.before.before.before.before)) (λ c. omega (arith, sizes c.before.before.before.before.before.before.before.before.before))
-    (λ c. omega (arith, sizes c.before.before.before.before.before.before.before.before.before.before)) loop_holds (λ c. search needs) mark_entry_requires add_marked
+    (λ c. omega (arith, sizes c.before.before.before.before.before.before.before.before.before.before)) loop_holds (λ c. search rules) mark_entry_requires add_marked
     (λ c. omega (arith, sizes c.before.before.before.before.before.before.before.before.before.before.before.before.before.before.before.before.before, leb-true)) (λ c. omega (arith, sizes c.before.before.before.before.before.before.before.before.before.before.before.before.before.before.before.before.before, leb-true))
     (λ c. omega (arith, sizes c.before.before.before.before.before.before.before.before.before.before.before.before.before.before.before.before.before, leb-true)) (λ c. omega (arith, sizes c.before.before.before.before.before.before.before.before.before.before.before.before.before.before.before.before.before.before, leb-true))
-    (λ c. omega (arith, leb-true)) loop_again (λ c. search needs) returns_2 (λ c. search needs) returns_3)
+    (λ c. omega (arith, leb-true)) loop_again (λ c. search rules) returns_2 (λ c. search rules) returns_3)

@@ -1,5 +1,5 @@
 -- `refresh_index::mark_entry` meets its contract. Assumes nothing.
-use Rattle.refresh_index.proofs.Prelude.{sym, ap, ◌∙◌, not, arith, length, needs, Inside, EntryInRange, entry_in_range}
+use Rattle.refresh_index.proofs.Prelude.{sym, ap, ◌∙◌, not, arith, length, rules, Inside, EntryInRange, entry_in_range}
 use Rattle.refresh_index.specs.inner.Entries.{entry_row, entry_value}
 use Rattle.refresh_index.proofs.Sizes.{Small, small, cell_in}
 use Rattle.refresh_index.proofs.Leads.{live_by, dead_led, other_led, row_led}
@@ -37,8 +37,8 @@ pub mark_entry_spec : {M : Type 1} → statement M
 mark_entry_spec =
     tie.close
     (tie.spec
-    (λ c. search needs) (λ c. omega (arith, lies c.before.before.before)) (λ c. omega (arith, lies c.before.before.before))
+    (λ c. search rules) (λ c. omega (arith, lies c.before.before.before)) (λ c. omega (arith, lies c.before.before.before))
     (λ c. omega (arith, lies c.before.before.before))
-    (λ c κs. search needs) (λ c κs. omega (arith, cell c.before.before.before.before, sizes c.before.before.before.before))
+    (λ c κs. search rules) (λ c κs. omega (arith, cell c.before.before.before.before, sizes c.before.before.before.before))
     returns (λ c κs. (c.before.before.before.before.before.before.requires.0, (lies c.before.before.before.before.before.before).row_there, (lies c.before.before.before.before.before.before).place_there)) returns_2
-    (λ c κs. (c.before.before.before.before.before.before.before.before.before.requires.2, omega (arith, sizes c.before.before.before.before.before.before.before.before.before, lies c.before.before.before.before.before.before.before.before.before))) (λ c. search needs) returns_3)
+    (λ c κs. (c.before.before.before.before.before.before.before.before.before.requires.2, omega (arith, sizes c.before.before.before.before.before.before.before.before.before, lies c.before.before.before.before.before.before.before.before.before))) (λ c. search rules) returns_3)

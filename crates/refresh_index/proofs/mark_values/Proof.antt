@@ -1,6 +1,6 @@
 -- `refresh_index::mark_values` meets its contract. The loop's invariant: the rows that the store leads to from the values before this one
 -- are marked, and a value in its slot of the recent values is one of those. Assumes nothing.
-use Rattle.refresh_index.proofs.Prelude.{◌-◌, ◌≤◌, ◌≡◌, refl, sym, ◌∙◌, arith, length, needs, not-false, Noted}
+use Rattle.refresh_index.proofs.Prelude.{◌-◌, ◌≤◌, ◌≡◌, refl, sym, ◌∙◌, arith, length, rules, not-false, Noted}
 use Rattle.refresh_index.proofs.Goings.{marks_few}
 use Rattle.refresh_index.proofs.ValueSteps.{Listing, listing_begin, value_new, value_repeated, values_end, noted_on, noted_before}
 use Rattle.refresh_index.proofs.mark_values.Statement.{statement}
@@ -60,6 +60,6 @@ pub mark_values_spec : {M : Type 1} → statement M
 mark_values_spec =
     tie.close
     (tie.spec
-    invariant_loop decreases_loop loop_holds (λ c. search needs) (λ c. search needs) (λ c. search needs) (λ c κs. c.before.before.before.loop.invariant.2.long) mark_chain_requires
+    invariant_loop decreases_loop loop_holds (λ c. search rules) (λ c. search rules) (λ c. search rules) (λ c κs. c.before.before.before.loop.invariant.2.long) mark_chain_requires
     add_marked (λ c. omega (arith, c.before.before.before.before.before.before.before.before.before.before.loop-test.true)) loop_again (λ c. omega (arith, c.before.before.before.before.before.before.loop-test.true)) loop_again_2
     (λ c. c.before.loop.invariant.2.long ∙ sym c.before.before.before.before.before.before.before.before.requires.3.long) (λ c. c.before.loop.invariant.1) returns)

@@ -1,5 +1,5 @@
 -- `refresh_index::push_live` meets its contract. Assumes nothing.
-use Rattle.refresh_index.proofs.Prelude.{sym, ap, ◌∙◌, not, arith, length, needs, live_first, Inside}
+use Rattle.refresh_index.proofs.Prelude.{sym, ap, ◌∙◌, not, arith, length, rules, live_first, Inside}
 use Rattle.refresh_index.proofs.Sizes.{Small, small, readable, row_inside}
 use Rattle.refresh_index.proofs.Fills.{push_dead}
 use Rattle.refresh_index.proofs.push_live.Statement.{statement}
@@ -20,6 +20,6 @@ pub push_live_spec : {M : Type 1} → statement M
 push_live_spec =
     tie.close
     (tie.spec
-    (λ c κs. search needs)
+    (λ c κs. search rules)
     (λ c κs. omega (arith, cell c.before.before.before.before, sizes c.before.before.before.before))
-    returns (λ c κs. search needs) (λ c. search needs) (λ c. search needs))
+    returns (λ c κs. search rules) (λ c. search rules) (λ c. search rules))

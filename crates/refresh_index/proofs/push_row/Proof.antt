@@ -1,5 +1,5 @@
 -- `refresh_index::push_row` meets its contract. The loop's invariant: the entries of the places passed are pushed. Assumes nothing.
-use Rattle.refresh_index.proofs.Prelude.{◌+◌, ◌*◌, ◌-◌, ◌≤◌, ◌≡◌, refl, ◌∙◌, add-zero, arith, length, needs, row_in, Pushed}
+use Rattle.refresh_index.proofs.Prelude.{◌+◌, ◌*◌, ◌-◌, ◌≤◌, ◌≡◌, refl, ◌∙◌, add-zero, arith, length, rules, row_in, Pushed}
 use Rattle.refresh_index.proofs.Sizes.{small, readable}
 use Rattle.refresh_index.proofs.Fills.{push_none, push_then, push_one, Pushable, pushable}
 use Rattle.refresh_index.proofs.push_row.Statement.{statement}
@@ -54,6 +54,6 @@ pub push_row_spec : {M : Type 1} → statement M
 push_row_spec =
     tie.close
     (tie.spec
-    invariant_loop decreases_loop (λ c κs. (c.before.before.before.requires.0.lendable.inside, c.before.before.before.requires.0.lendable.columns_few)) (λ c. search needs) mul_first loop_holds
-    cell_named_requires (λ c. search needs) (λ c. omega (arith, fits c)) push_entry_requires (λ c. search needs)
-    (λ c. search needs) loop_again (λ c. search needs) returns)
+    invariant_loop decreases_loop (λ c κs. (c.before.before.before.requires.0.lendable.inside, c.before.before.before.requires.0.lendable.columns_few)) (λ c. search rules) mul_first loop_holds
+    cell_named_requires (λ c. search rules) (λ c. omega (arith, fits c)) push_entry_requires (λ c. search rules)
+    (λ c. search rules) loop_again (λ c. search rules) returns)

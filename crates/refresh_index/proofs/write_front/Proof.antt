@@ -1,5 +1,5 @@
 -- `refresh_index::write_front` meets its contract. Assumes nothing.
-use Rattle.refresh_index.proofs.Prelude.{◌∙◌, ap, List, ℕ, set, length-set, needs, splice}
+use Rattle.refresh_index.proofs.Prelude.{◌∙◌, ap, List, ℕ, set, length-set, rules, splice}
 use Rattle.refresh_index.specs.inner.Entries.{fronted}
 use Rattle.refresh_index.proofs.write_front.Statement.{statement}
 use Rattle.refresh_index.proofs.write_front.Tie as tie
@@ -14,5 +14,5 @@ pub write_front_spec : {M : Type 1} → statement M
 write_front_spec =
     tie.close
     (tie.spec
-    (λ c. search needs) (λ c. search needs) (λ c κs. search needs) (λ c κs. search needs) (λ c. search needs)
+    (λ c. search rules) (λ c. search rules) (λ c κs. search rules) (λ c κs. search rules) (λ c. search rules)
     (λ c. simp length-set (c.before.index2.given ∙ c.before.before.before.before.before.index.given)) returns)

@@ -1,5 +1,5 @@
 -- `refresh_scan::is_among` meets its contract. Assumes nothing.
-use Rattle.refresh_scan.proofs.Prelude.{◌-◌, needs, arith}
+use Rattle.refresh_scan.proofs.Prelude.{◌-◌, rules, arith}
 use Rattle.refresh_scan.proofs.Links.{LinkScan, link_scan_begin, link_scan_end, link_scan_found, link_scan_less, link_scan_on}
 use Rattle.refresh_scan.proofs.is_among.Statement.{statement}
 use Rattle.refresh_scan.proofs.is_among.Tie as tie
@@ -43,6 +43,6 @@ is_among_spec =
     (tie.spec
     invariant_loop
     decreases_loop
-    (λ c κs. search needs) (λ c. search needs) (λ c. search needs) cast_link loop_holds (λ c. search needs) (λ c. search needs)
-    (λ c. search needs) returns (λ c. search needs) (λ c. search needs) cast_link_2 loop_less loop_again
+    (λ c κs. search rules) (λ c. search rules) (λ c. search rules) cast_link loop_holds (λ c. search rules) (λ c. search rules)
+    (λ c. search rules) returns (λ c. search rules) (λ c. search rules) cast_link_2 loop_less loop_again
     returns_2)

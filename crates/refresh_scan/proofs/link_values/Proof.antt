@@ -1,5 +1,5 @@
 -- `refresh_scan::link_values` meets its contract. Assumes nothing.
-use Rattle.refresh_scan.proofs.Prelude.{◌-◌, ◌≤◌, ◌≡◌, needs, arith, length, Linked}
+use Rattle.refresh_scan.proofs.Prelude.{◌-◌, ◌≤◌, ◌≡◌, rules, arith, length, Linked}
 use Rattle.refresh_scan.proofs.Links.{linked_on}
 use Rattle.refresh_scan.proofs.link_values.Statement.{statement}
 use Rattle.refresh_scan.proofs.link_values.Tie as tie
@@ -13,7 +13,7 @@ decreases_loop values links₀ place₀ links place = length values - place
 loop_again : tie.Need-loop-preserved invariant_loop decreases_loop
 loop_again c =
     let l = c.before.before.before.before in
-    (search needs, linked_on _ _ _ l.loop.invariant.1 c.before.before.before.loop-test.true _ c.before.bucket-place.ensures.0)
+    (search rules, linked_on _ _ _ l.loop.invariant.1 c.before.before.before.loop-test.true _ c.before.bucket-place.ensures.0)
 
 returns : tie.Need-returns invariant_loop decreases_loop
 returns c =
@@ -26,7 +26,7 @@ link_values_spec =
     (tie.spec
     invariant_loop
     decreases_loop
-    (λ c. search needs) (λ c. search needs) (λ c. search needs) (λ c κs. search needs) (λ c. search needs) (λ c. search needs)
-    (λ c. search needs) (λ c. search needs) (λ c. search needs) (λ c. search needs) (λ c. search needs) (λ c. search needs)
-    (λ c. search needs) loop_again (λ c. search needs)
+    (λ c. search rules) (λ c. search rules) (λ c. search rules) (λ c κs. search rules) (λ c. search rules) (λ c. search rules)
+    (λ c. search rules) (λ c. search rules) (λ c. search rules) (λ c. search rules) (λ c. search rules) (λ c. search rules)
+    (λ c. search rules) loop_again (λ c. search rules)
     returns)

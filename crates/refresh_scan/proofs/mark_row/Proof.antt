@@ -1,5 +1,5 @@
 -- `refresh_scan::mark_row` meets its contract. Assumes nothing.
-use Rattle.refresh_scan.proofs.Prelude.{◌∙◌, needs, not-true, not-false, arith}
+use Rattle.refresh_scan.proofs.Prelude.{◌∙◌, rules, not-true, not-false, arith}
 use Rattle.refresh_scan.proofs.BitmapSteps.{RowInStore, row_in_store, columns_in_lem, dead_mentions, live_mentions, row_passed, row_marked}
 use Rattle.refresh_scan.proofs.mark_row.Statement.{statement}
 use Rattle.refresh_scan.proofs.mark_row.Tie as tie
@@ -26,7 +26,7 @@ returns_2 c =
     ∙ not-true _ c.if2.true)
 
 mark_requires : tie.Need-mark-requires
-mark_requires c κs = (search needs, (lies c.before.before.before.before.before.before.before.before.before.before.before.before.before).below)
+mark_requires c κs = (search rules, (lies c.before.before.before.before.before.before.before.before.before.before.before.before.before).below)
 
 returns_3 : tie.Need-returns-3
 returns_3 c =
@@ -43,12 +43,12 @@ pub mark_row_spec : {M : Type 1} → statement M
 mark_row_spec =
     tie.close
     (tie.spec
-    (λ c. search needs) (λ c κs. search needs)
+    (λ c. search rules) (λ c κs. search rules)
     (λ c κs. omega (arith, lies c.before.before.before.before.before.before.before))
     returns
     (λ c. omega (arith, lies c.before.before.before.before.before.before.before.before.before))
     (λ c. omega (arith, lies c.before.before.before.before.before.before.before.before.before))
-    (λ c. search needs) (λ c. search needs)
+    (λ c. search rules) (λ c. search rules)
     (λ c. omega (arith, lies c.before.before.before.before.before.before.before.before.before))
-    mentions_one_requires returns_2 mark_requires (λ c. search needs)
+    mentions_one_requires returns_2 mark_requires (λ c. search rules)
     returns_3)

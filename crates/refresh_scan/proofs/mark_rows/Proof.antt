@@ -1,5 +1,5 @@
 -- `refresh_scan::mark_rows` meets its contract. The loop's invariant: the rows wanted below this one are marked. Assumes nothing.
-use Rattle.refresh_scan.proofs.Prelude.{◌-◌, ◌≤◌, sym, ◌∙◌, needs, arith, Marked, bitmap_of, marked_few, mentions_from}
+use Rattle.refresh_scan.proofs.Prelude.{◌-◌, ◌≤◌, sym, ◌∙◌, rules, arith, Marked, bitmap_of, marked_few, mentions_from}
 use Rattle.refresh_scan.proofs.BitmapSteps.{scan_on, up_to, rows_begin, rows_on, rows_end}
 use Rattle.refresh_scan.proofs.mark_rows.Statement.{statement}
 use Rattle.refresh_scan.proofs.mark_rows.Tie as tie
@@ -12,7 +12,7 @@ abbrev decreases_loop : tie.decreases_loop
 decreases_loop h rows from columns values links words₀ marked₀ row₀ words marked row = h.rows - row
 
 loop_holds : tie.Need-loop-init invariant_loop decreases_loop
-loop_holds c = (search needs, search needs, rows_begin _ _ _ _ _)
+loop_holds c = (search rules, search rules, rows_begin _ _ _ _ _)
 
 mark_row_requires : tie.Need-mark-row-requires invariant_loop decreases_loop
 mark_row_requires c κs =
@@ -29,7 +29,7 @@ add_marked c =
 loop_again : tie.Need-loop-preserved invariant_loop decreases_loop
 loop_again c =
     let l = c.before.before.before.before.before.before in
-    (search needs, search needs, rows_on _ _ _ _ _ _ l.loop.invariant.0 l.loop.invariant.2 c.before.before.mark-row.ensures)
+    (search rules, search rules, rows_on _ _ _ _ _ _ l.loop.invariant.0 l.loop.invariant.2 c.before.before.mark-row.ensures)
 
 same_length : tie.Need-same-length invariant_loop decreases_loop
 same_length c =
@@ -46,5 +46,5 @@ mark_rows_spec =
     (tie.spec
     invariant_loop
     decreases_loop
-    loop_holds mark_row_requires add_marked (λ c. search needs) (λ c. search needs) loop_again same_length
+    loop_holds mark_row_requires add_marked (λ c. search rules) (λ c. search rules) loop_again same_length
     returns)

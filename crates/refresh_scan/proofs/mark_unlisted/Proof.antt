@@ -1,6 +1,6 @@
 -- `refresh_scan::mark_unlisted` meets its contract. The loop's invariant: the rows wanted by the values of the parts taken are marked.
 -- Assumes nothing.
-use Rattle.refresh_scan.proofs.Prelude.{◌-◌, ◌≤◌, sym, ◌∙◌, needs, arith, length, take, Marked, bitmap_of, marked_few, mentions_from}
+use Rattle.refresh_scan.proofs.Prelude.{◌-◌, ◌≤◌, sym, ◌∙◌, rules, arith, length, take, Marked, bitmap_of, marked_few, mentions_from}
 use Rattle.refresh_scan.proofs.BitmapSteps.{scan_on, no_rows, part_few, parts_begin, parts_on, parts_end}
 use Rattle.refresh_scan.proofs.mark_unlisted.Statement.{statement}
 use Rattle.refresh_scan.proofs.mark_unlisted.Tie as tie
@@ -16,7 +16,7 @@ returns : tie.Need-returns invariant_loop decreases_loop
 returns c = no_rows _ _ _ _ _ c.if1.true
 
 loop_holds : tie.Need-loop-init invariant_loop decreases_loop
-loop_holds c = (search needs, parts_begin _ _ _ _ _)
+loop_holds c = (search rules, parts_begin _ _ _ _ _)
 
 mark_part_requires : tie.Need-mark-part-requires invariant_loop decreases_loop
 mark_part_requires c κs =
@@ -35,7 +35,7 @@ add_marked c =
 loop_again : tie.Need-loop-preserved invariant_loop decreases_loop
 loop_again c =
     let l = c.before.before.before.before.before.before.before in
-    (search needs, parts_on _ _ _ _ _ _ _ c.before.before.before.before.before.part-end.ensures l.loop.invariant.0 l.loop.invariant.1 c.before.before.mark-part.ensures)
+    (search rules, parts_on _ _ _ _ _ _ _ c.before.before.before.before.before.part-end.ensures l.loop.invariant.0 l.loop.invariant.1 c.before.before.mark-part.ensures)
 
 same_length : tie.Need-same-length invariant_loop decreases_loop
 same_length c =
@@ -52,6 +52,6 @@ mark_unlisted_spec =
     (tie.spec
     invariant_loop
     decreases_loop
-    returns loop_holds (λ c κs. search needs) (λ c. search needs) (λ c. search needs) (λ c. search needs) (λ c. search needs)
-    mark_part_requires add_marked (λ c. search needs) loop_again same_length
+    returns loop_holds (λ c κs. search rules) (λ c. search rules) (λ c. search rules) (λ c. search rules) (λ c. search rules)
+    mark_part_requires add_marked (λ c. search rules) loop_again same_length
     returns_2)

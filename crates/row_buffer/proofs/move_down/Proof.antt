@@ -1,5 +1,5 @@
 -- `row_buffer::move_down` meets its contract: the effect of the copier on its part, stated for the whole store. Assumes nothing.
-use Rattle.row_buffer.proofs.Prelude.{◌-◌, ap, ◌∙◌, length, put_mid, needs}
+use Rattle.row_buffer.proofs.Prelude.{◌-◌, ap, ◌∙◌, length, put_mid, rules}
 use Rattle.row_buffer.proofs.Laws.{moved_part, moved_nowhere}
 use Rattle.row_buffer.proofs.move_down.Statement.{statement}
 use Rattle.row_buffer.proofs.move_down.Tie as tie
@@ -15,5 +15,5 @@ pub move_down_spec : {M : Type 1} → statement M
 move_down_spec =
     tie.close
     (tie.spec
-    (λ c. moved_nowhere _ _ _ _ c.if1.true c.before.before.requires.1) (λ c. search needs) (λ c. search needs) (λ c. search needs) (λ c. search needs) (λ c. search needs)
-    (λ c κs. search needs) (λ c. search needs) returns_2)
+    (λ c. moved_nowhere _ _ _ _ c.if1.true c.before.before.requires.1) (λ c. search rules) (λ c. search rules) (λ c. search rules) (λ c. search rules) (λ c. search rules)
+    (λ c κs. search rules) (λ c. search rules) returns_2)

@@ -1,5 +1,5 @@
 -- `row_buffer::same_key` meets its contract. Assumes nothing.
-use Rattle.row_buffer.proofs.Prelude.{ℕ, ap, ◌∙◌, length, List, same, part_width, needs}
+use Rattle.row_buffer.proofs.Prelude.{ℕ, ap, ◌∙◌, length, List, same, part_width, rules}
 use Rattle.row_buffer.proofs.same_key.Statement.{statement}
 use Rattle.row_buffer.proofs.same_key.Tie as tie
 
@@ -12,5 +12,5 @@ pub same_key_spec : {M : Type 1} → statement M
 same_key_spec =
     tie.close
     (tie.spec
-    (λ c. search needs) (λ c. search needs) (λ c. search needs) (λ c. search needs) (λ c. search needs)
-    (λ c κs. search needs) returns)
+    (λ c. search rules) (λ c. search rules) (λ c. search rules) (λ c. search rules) (λ c. search rules)
+    (λ c κs. search rules) returns)

@@ -1,5 +1,5 @@
 -- `row_buffer::write_row` meets its contract: the effect of the copier on its part, stated for the whole store. Assumes nothing.
-use Rattle.row_buffer.proofs.Prelude.{◌-◌, ap, ◌∙◌, length, put_mid, put_part, needs}
+use Rattle.row_buffer.proofs.Prelude.{◌-◌, ap, ◌∙◌, length, put_mid, put_part, rules}
 use Rattle.row_buffer.proofs.write_row.Statement.{statement}
 use Rattle.row_buffer.proofs.write_row.Tie as tie
 
@@ -13,5 +13,5 @@ pub write_row_spec : {M : Type 1} → statement M
 write_row_spec =
     tie.close
     (tie.spec
-    (λ c. search needs) (λ c. search needs) (λ c. search needs) (λ c. search needs) (λ c κs. search needs)
-    (λ c. search needs) returns)
+    (λ c. search rules) (λ c. search rules) (λ c. search rules) (λ c. search rules) (λ c κs. search rules)
+    (λ c. search rules) returns)

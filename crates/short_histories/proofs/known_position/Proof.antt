@@ -1,5 +1,5 @@
 -- `short_histories::known_position` meets its contract. Assumes nothing.
-use Rattle.short_histories.proofs.Prelude.{◌+◌, ◌-◌, ◌≤◌, ◌≡◌, sym, ◌∙◌, arith, length, take, needs, position_of, position_below, position_nothing}
+use Rattle.short_histories.proofs.Prelude.{◌+◌, ◌-◌, ◌≤◌, ◌≡◌, sym, ◌∙◌, arith, length, take, rules, position_of, position_below, position_nothing}
 use Rattle.short_histories.proofs.LoopSteps.{position_on, position_end, prefix_below}
 use Rattle.short_histories.proofs.known_position.Statement.{statement}
 use Rattle.short_histories.proofs.known_position.Tie as tie
@@ -28,5 +28,5 @@ known_position_spec =
     (tie.spec
     invariant_loop decreases_loop (λ c. (omega arith, sym position_nothing))
     (λ c. omega (arith, c.before.loop.invariant.1, prefix_below _ c.before.before.requires c.before.loop.i))
-    (λ c. search needs) (λ c. c.before.loop-test.true) add_position add_position_2 (λ c. search needs)
+    (λ c. search rules) (λ c. c.before.loop-test.true) add_position add_position_2 (λ c. search rules)
     (λ c. omega (arith, c.before.loop-test.true)) loop_again returns)

@@ -1,5 +1,5 @@
 -- `short_histories::next_sequence` meets its contract. Assumes nothing.
-use Rattle.short_histories.proofs.Prelude.{sym, ◌∙◌, not-true, needs, next_unknown}
+use Rattle.short_histories.proofs.Prelude.{sym, ◌∙◌, not-true, rules, next_unknown}
 use Rattle.short_histories.proofs.RaisingSteps.{to_raise, raised_none, raised_no_room, raised_written}
 use Rattle.short_histories.proofs.next_sequence.Statement.{statement}
 use Rattle.short_histories.proofs.next_sequence.Tie as tie
@@ -25,6 +25,6 @@ pub next_sequence_spec : {M : Type 1} → statement M
 next_sequence_spec =
     tie.close
     (tie.spec
-    (λ c κs. search needs) (λ c. next_unknown _ _ (sym c.before.is_known.ensures ∙ not-true _ c.if1.true))
-    (λ c κs. search needs) (λ c κs. to_raise c.before.before.is_known.ensures c.before.if1.false c.raised-end.ensures) returns_2 returns_3 write_raised_requires (λ c. search needs)
-    (λ c. search needs) returns_4)
+    (λ c κs. search rules) (λ c. next_unknown _ _ (sym c.before.is_known.ensures ∙ not-true _ c.if1.true))
+    (λ c κs. search rules) (λ c κs. to_raise c.before.before.is_known.ensures c.before.if1.false c.raised-end.ensures) returns_2 returns_3 write_raised_requires (λ c. search rules)
+    (λ c. search rules) returns_4)

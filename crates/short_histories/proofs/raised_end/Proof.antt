@@ -1,5 +1,5 @@
 -- `short_histories::raised_end` meets its contract. The loop's invariant: all steps from `end` on are 6. Assumes nothing.
-use Rattle.short_histories.proofs.Prelude.{◌-◌, ◌≤◌, ◌≡◌, arith, length, drop, replicate, needs}
+use Rattle.short_histories.proofs.Prelude.{◌-◌, ◌≤◌, ◌≡◌, arith, length, drop, replicate, rules}
 use Rattle.short_histories.proofs.RaisingSteps.{sixes_none, sixes_more}
 use Rattle.short_histories.proofs.raised_end.Statement.{statement}
 use Rattle.short_histories.proofs.raised_end.Tie as tie
@@ -25,5 +25,5 @@ pub raised_end_spec : {M : Type 1} → statement M
 raised_end_spec =
     tie.close
     (tie.spec
-    invariant_loop decreases_loop (λ c. (omega arith, sixes_none c.args.sequence.now)) (λ c. search needs) (λ c. search needs) (λ c. search needs) returns
-    (λ c. search needs) (λ c. search needs) loop_again returns_2)
+    invariant_loop decreases_loop (λ c. (omega arith, sixes_none c.args.sequence.now)) (λ c. search rules) (λ c. search rules) (λ c. search rules) returns
+    (λ c. search rules) (λ c. search rules) loop_again returns_2)

@@ -1,5 +1,5 @@
 -- `short_histories::write_raised` meets its contract. The loop's invariant: the first `at` steps are written. Assumes nothing.
-use Rattle.short_histories.proofs.Prelude.{ℕ, ◌-◌, ◌≤◌, ◌≡◌, refl, ap, ◌∙◌, List, ◌++◌, arith, length, take, drop, set, length-set, needs}
+use Rattle.short_histories.proofs.Prelude.{ℕ, ◌-◌, ◌≤◌, ◌≡◌, refl, ap, ◌∙◌, List, ◌++◌, arith, length, take, drop, set, length-set, rules}
 use Rattle.short_histories.specs.inner.Raised.{raised}
 use Rattle.short_histories.proofs.RaisingSteps.{written_more, written_all}
 use Rattle.short_histories.proofs.write_raised.Statement.{statement}
@@ -16,7 +16,7 @@ loop_again : tie.Need-loop-preserved invariant_loop decreases_loop
 loop_again c =
     let l = c.before.before.loop in
     let s = c.before.before.before.before.before in (
-      search needs,
+      search rules,
       simp length-set l.invariant.1,
       ap (λ (o : List ℕ). set o l.at c.raised-step.result) l.invariant.2 ∙ written_more (raised s.args.sequence.now s.args.end) s.args.output.now l.at _ (omega (arith, c.before.loop-test.true, s.requires.1)) (omega (arith, s.requires.1, s.requires.2)) c.raised-step.ensures,
     )
@@ -31,6 +31,6 @@ pub write_raised_spec : {M : Type 1} → statement M
 write_raised_spec =
     tie.close
     (tie.spec
-    invariant_loop decreases_loop (λ c. (search needs, refl, refl)) (λ c κs. c.before.before.before.before.requires.0)
+    invariant_loop decreases_loop (λ c. (search rules, refl, refl)) (λ c κs. c.before.before.before.before.requires.0)
     (λ c. omega (arith, c.before.before.loop.invariant.1, c.before.before.before.before.before.requires.2))
-    (λ c. search needs) (λ c. search needs) (λ c. search needs) loop_again (λ c. search needs) returns)
+    (λ c. search rules) (λ c. search rules) (λ c. search rules) loop_again (λ c. search rules) returns)

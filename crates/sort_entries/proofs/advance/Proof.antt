@@ -1,6 +1,6 @@
 -- `sort_entries::advance` meets its contract. Loop invariant: the entries that later rows need. Measure: the number of remaining
 -- entries. Assumes nothing.
-use Rattle.sort_entries.proofs.Prelude.{◌-◌, needs}
+use Rattle.sort_entries.proofs.Prelude.{◌-◌, rules}
 use Rattle.sort_entries.proofs.LawsCheck.{Advancing, begins, stops, steps, ends}
 use Rattle.sort_entries.proofs.advance.Tie as tie
 use Rattle.sort_entries.proofs.advance.Statement.{statement}
@@ -27,5 +27,5 @@ pub advance_spec : {M : Type 1} → statement M
 advance_spec =
     tie.close
     (tie.spec
-    invariant_loop decreases_loop loop_holds (λ c. search needs) (λ c. search needs) (λ c. search needs) (λ c. search needs)
-    (λ c. search needs) (λ c. search needs) returns (λ c. search needs) (λ c. search needs) loop_again returns_2)
+    invariant_loop decreases_loop loop_holds (λ c. search rules) (λ c. search rules) (λ c. search rules) (λ c. search rules)
+    (λ c. search rules) (λ c. search rules) returns (λ c. search rules) (λ c. search rules) loop_again returns_2)

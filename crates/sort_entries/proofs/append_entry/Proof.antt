@@ -1,5 +1,5 @@
 -- `sort_entries::append_entry` meets its contract. Assumes nothing.
-use Rattle.sort_entries.proofs.Prelude.{⊎_elim, arith, length-set, needs, append_same, append_new, rises, rises_none}
+use Rattle.sort_entries.proofs.Prelude.{⊎_elim, arith, length-set, rules, append_same, append_new, rises, rises_none}
 use Rattle.sort_entries.proofs.append_entry.Tie as tie
 use Rattle.sort_entries.proofs.append_entry.Statement.{statement}
 
@@ -10,6 +10,6 @@ pub append_entry_spec : {M : Type 1} → statement M
 append_entry_spec =
     tie.close
     (tie.spec
-    (λ c. search needs) (λ c. search needs) (λ c. search needs) (λ c. search needs) (λ c. search needs) (λ c. append_same _ _ _ _ c.before.before.if1.true c.if2.true)
-    (λ c. search needs) (λ c. search needs) (λ c. search needs) (λ c. search needs)
-    (λ c. simp length-set (omega arith)) (λ c. search needs) (λ c. search needs) returns_2)
+    (λ c. search rules) (λ c. search rules) (λ c. search rules) (λ c. search rules) (λ c. search rules) (λ c. append_same _ _ _ _ c.before.before.if1.true c.if2.true)
+    (λ c. search rules) (λ c. search rules) (λ c. search rules) (λ c. search rules)
+    (λ c. simp length-set (omega arith)) (λ c. search rules) (λ c. search rules) returns_2)

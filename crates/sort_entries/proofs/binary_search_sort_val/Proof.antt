@@ -1,5 +1,5 @@
 -- `sort_entries::binary_search_sort_val` meets its contract. Assumes nothing.
-use Rattle.sort_entries.proofs.Prelude.{arith, needs}
+use Rattle.sort_entries.proofs.Prelude.{arith, rules}
 use Rattle.sort_entries.proofs.LawsSearch.{search_found, search_absent}
 use Rattle.sort_entries.proofs.binary_search_sort_val.Tie as tie
 use Rattle.sort_entries.proofs.binary_search_sort_val.Statement.{statement}
@@ -18,5 +18,5 @@ pub binary_search_sort_val_spec : {M : Type 1} → statement M
 binary_search_sort_val_spec =
     tie.close
     (tie.spec
-    (λ c κs. (record { inside = λ i h. omega (arith, c.before.requires.words) }, omega arith)) (λ c κs. search needs) (λ c. search needs) (λ c. search needs) (λ c. search needs)
-    (λ c. search needs) (λ c. search needs) (λ c κs. search needs) returns returns_2 returns_3)
+    (λ c κs. (record { inside = λ i h. omega (arith, c.before.requires.words) }, omega arith)) (λ c κs. search rules) (λ c. search rules) (λ c. search rules) (λ c. search rules)
+    (λ c. search rules) (λ c. search rules) (λ c κs. search rules) returns returns_2 returns_3)

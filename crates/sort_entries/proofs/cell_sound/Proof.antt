@@ -1,5 +1,5 @@
 -- `sort_entries::cell_sound` meets its contract. Assumes nothing.
-use Rattle.sort_entries.proofs.Prelude.{◌+◌, ◌*◌, ◌≤◌, ◌<◌, sym, ◌∙◌, mul-le-mul, arith, length, needs, row_in}
+use Rattle.sort_entries.proofs.Prelude.{◌+◌, ◌*◌, ◌≤◌, ◌<◌, sym, ◌∙◌, mul-le-mul, arith, length, rules, row_in}
 use Rattle.sort_entries.proofs.LawsCheck.{dead_row_lem, live_row_lem}
 use Rattle.sort_entries.proofs.cell_sound.Tie as tie
 use Rattle.sort_entries.proofs.cell_sound.Statement.{statement}
@@ -24,5 +24,5 @@ pub cell_sound_spec : {M : Type 1} → statement M
 cell_sound_spec =
     tie.close
     (tie.spec
-    (λ c κs. search needs) (λ c. omega (arith, inside c.before.before)) (λ c. omega (arith, inside c.before.before.before)) (λ c κs. search needs) returns (λ c. omega (arith, inside c.before.before.before.before.before)) (λ c. omega (arith, inside c.before.before.before.before.before))
+    (λ c κs. search rules) (λ c. omega (arith, inside c.before.before)) (λ c. omega (arith, inside c.before.before.before)) (λ c κs. search rules) returns (λ c. omega (arith, inside c.before.before.before.before.before)) (λ c. omega (arith, inside c.before.before.before.before.before))
     (λ c. omega (arith, inside c.before.before.before.before.before.before)) returns_2)

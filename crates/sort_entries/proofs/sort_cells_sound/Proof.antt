@@ -1,6 +1,6 @@
 -- `sort_entries::sort_cells_sound` meets its contract. Loop invariant: the check that the remaining rows must pass. Measure: their
 -- number. Assumes nothing.
-use Rattle.sort_entries.proofs.Prelude.{◌-◌, sym, ◌∙◌, needs, not-true, not-false}
+use Rattle.sort_entries.proofs.Prelude.{◌-◌, sym, ◌∙◌, rules, not-true, not-false}
 use Rattle.sort_entries.proofs.LawsCheck.{Rest, rest_begins, rest_breaks, rest_steps, rest_ends}
 use Rattle.sort_entries.proofs.sort_cells_sound.Tie as tie
 use Rattle.sort_entries.proofs.sort_cells_sound.Statement.{statement}
@@ -27,5 +27,5 @@ pub sort_cells_sound_spec : {M : Type 1} → statement M
 sort_cells_sound_spec =
     tie.close
     (tie.spec
-    invariant_loop decreases_loop loop_holds (λ c κs. search needs) (λ c κs. search needs) (λ c κs. search needs) returns
-    (λ c. search needs) (λ c. search needs) loop_again returns_2)
+    invariant_loop decreases_loop loop_holds (λ c κs. search rules) (λ c κs. search rules) (λ c κs. search rules) returns
+    (λ c. search rules) (λ c. search rules) loop_again returns_2)

@@ -1,5 +1,5 @@
 -- `table_check::dead_rows` meets its contract. Assumes nothing.
-use Rattle.table_check.proofs.Prelude.{ℕ, ◌+◌, ◌-◌, ◌≤◌, ◌<◌, ◌≡◌, refl, sym, ap, ◌∙◌, arith, needs, Inside, inside}
+use Rattle.table_check.proofs.Prelude.{ℕ, ◌+◌, ◌-◌, ◌≤◌, ◌<◌, ◌≡◌, refl, sym, ap, ◌∙◌, arith, rules, Inside, inside}
 use Rattle.lists.specs.Lists.{count, rows_of}
 use Rattle.table_check.proofs.CheckingSteps.{dead_among, dead_more, dead_same, dead_few}
 use Rattle.table_check.proofs.dead_rows.Statement.{statement}
@@ -48,5 +48,5 @@ pub dead_rows_spec : {M : Type 1} → statement M
 dead_rows_spec =
     tie.close
     (tie.spec
-    invariant_loop decreases_loop loop_holds (λ c κs. search needs) is_dead_requires (λ c. omega arith) add_dead (λ c. omega arith)
+    invariant_loop decreases_loop loop_holds (λ c κs. search rules) is_dead_requires (λ c. omega arith) add_dead (λ c. omega arith)
     loop_again (λ c. omega arith) loop_again_2 returns)

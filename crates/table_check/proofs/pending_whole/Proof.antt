@@ -1,5 +1,5 @@
 -- `table_check::pending_whole` meets its contract. The loop's invariant: records fill the words from `at` on exactly if they fill all. Assumes nothing.
-use Rattle.table_check.proofs.Prelude.{◌+◌, ◌-◌, ◌≤◌, arith, needs, opening_of}
+use Rattle.table_check.proofs.Prelude.{◌+◌, ◌-◌, ◌≤◌, arith, rules, opening_of}
 use Rattle.table_check.proofs.CheckingSteps.{Reached, reach_start, reach_on, reach_broken, reach_end}
 use Rattle.table_check.proofs.pending_whole.Statement.{statement}
 use Rattle.table_check.proofs.pending_whole.Tie as tie
@@ -35,4 +35,4 @@ returns_2 c = reach_end _ _ _ c.before.before.loop.invariant c.if1.false
 pub pending_whole_spec : {M : Type 1} → statement M
 pending_whole_spec =
     tie.close
-    (tie.spec invariant_loop decreases_loop loop_holds (λ c κs. search needs) returns add_at loop_less loop_again returns_2)
+    (tie.spec invariant_loop decreases_loop loop_holds (λ c κs. search rules) returns add_at loop_less loop_again returns_2)

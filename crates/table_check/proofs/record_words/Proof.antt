@@ -1,5 +1,5 @@
 -- `table_check::record_words` meets its contract. Assumes nothing.
-use Rattle.table_check.proofs.Prelude.{arith, get_or, needs, opening_of}
+use Rattle.table_check.proofs.Prelude.{arith, get_or, rules, opening_of}
 use Rattle.table_check.proofs.CheckingSteps.{KeyInside, key_inside, read_no_kind, read_short, read_other_hash, read_whole}
 use Rattle.table_check.proofs.record_words.Statement.{statement}
 use Rattle.table_check.proofs.record_words.Tie as tie
@@ -30,7 +30,7 @@ pub record_words_spec : {M : Type 1} → statement M
 record_words_spec =
     tie.close
     (tie.spec
-    (λ c. search needs) (λ c. search needs) (λ c. read_no_kind _ _ _ _ c.if1.true) (λ c κs. search needs) (λ c. search needs) (λ c. read_short _ _ _ _ _ c.before.before.kind-words.ensures c.if2.true)
-    (λ c κs. search needs) (λ c. search needs) (λ c. search needs) (λ c. search needs) (λ c. search needs)
-    (λ c. search needs) (λ c. search needs) shared_slice_read_if3 (λ c. search needs) (λ c. search needs)
-    (λ c. search needs) part_compact_hash_end (λ c κs. search needs) returns_3 returns_4)
+    (λ c. search rules) (λ c. search rules) (λ c. read_no_kind _ _ _ _ c.if1.true) (λ c κs. search rules) (λ c. search rules) (λ c. read_short _ _ _ _ _ c.before.before.kind-words.ensures c.if2.true)
+    (λ c κs. search rules) (λ c. search rules) (λ c. search rules) (λ c. search rules) (λ c. search rules)
+    (λ c. search rules) (λ c. search rules) shared_slice_read_if3 (λ c. search rules) (λ c. search rules)
+    (λ c. search rules) part_compact_hash_end (λ c κs. search rules) returns_3 returns_4)

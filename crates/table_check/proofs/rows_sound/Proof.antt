@@ -1,5 +1,5 @@
 -- `table_check::rows_sound` meets its contract. Assumes nothing.
-use Rattle.table_check.proofs.Prelude.{sym, ◌∙◌, needs, not-true, not-false}
+use Rattle.table_check.proofs.Prelude.{sym, ◌∙◌, rules, not-true, not-false}
 use Rattle.table_check.proofs.CheckingSteps.{rows_miscounted, rows_unsorted, rows_exceeding, rows_decided}
 use Rattle.table_check.proofs.rows_sound.Statement.{statement}
 use Rattle.table_check.proofs.rows_sound.Tie as tie
@@ -17,5 +17,5 @@ pub rows_sound_spec : {M : Type 1} → statement M
 rows_sound_spec =
     tie.close
     (tie.spec
-    (λ c κs. search needs) (λ c. rows_miscounted _ _ _ (λ e. c.if1.true (e ∙ sym c.before.before.dead-rows.ensures))) (λ c κs. search needs) (λ c. rows_unsorted _ _ _ (sym (not-true _ c.if2.true) ∙ c.before.entries_sound_lem.ensures)) (λ c κs. search needs) returns_3
-    (λ c κs. search needs) returns_4)
+    (λ c κs. search rules) (λ c. rows_miscounted _ _ _ (λ e. c.if1.true (e ∙ sym c.before.before.dead-rows.ensures))) (λ c κs. search rules) (λ c. rows_unsorted _ _ _ (sym (not-true _ c.if2.true) ∙ c.before.entries_sound_lem.ensures)) (λ c κs. search rules) returns_3
+    (λ c κs. search rules) returns_4)

@@ -1,5 +1,5 @@
 -- `table_check::stores_sound` meets its contract. Assumes nothing.
-use Rattle.table_check.proofs.Prelude.{needs, not-true, not-false, sound_fits, sound_cells, sound_held, sound_pending}
+use Rattle.table_check.proofs.Prelude.{rules, not-true, not-false, sound_fits, sound_cells, sound_held, sound_pending}
 use Rattle.table_check.proofs.CheckingSteps.{stores_rows, stores_index, stores_decided}
 use Rattle.table_check.proofs.stores_sound.Statement.{statement}
 use Rattle.table_check.proofs.stores_sound.Tie as tie
@@ -31,4 +31,4 @@ pub stores_sound_spec : {M : Type 1} → statement M
 stores_sound_spec =
     tie.close
     (tie.spec
-    rows_sound_requires (λ c. stores_rows _ _ _ _ _ (c.before.rows-sound.ensures.no (not-true _ c.if1.true))) (λ c κs. search needs) key_store_sound_requires returns_2 pending_whole_requires returns_3)
+    rows_sound_requires (λ c. stores_rows _ _ _ _ _ (c.before.rows-sound.ensures.no (not-true _ c.if1.true))) (λ c κs. search rules) key_store_sound_requires returns_2 pending_whole_requires returns_3)

@@ -1,5 +1,5 @@
 -- `table_compact::close_up` meets its contract. Assumes nothing.
-use Rattle.table_compact.proofs.Prelude.{◌-◌, arith, needs}
+use Rattle.table_compact.proofs.Prelude.{◌-◌, arith, rules}
 use Rattle.table_compact.proofs.CompactionSteps.{Iteration, iteration_begin, words_in, spaced, the_block, iteration_on, close_end}
 use Rattle.table_compact.proofs.close_up.Statement.{statement}
 use Rattle.table_compact.proofs.close_up.Tie as tie
@@ -63,6 +63,6 @@ pub close_up_spec : {M : Type 1} → statement M
 close_up_spec =
     tie.close
     (tie.spec
-    invariant_loop decreases_loop loop_holds sub_block (λ c κs. search needs) add_next (λ c κs. search needs) (λ c. search needs)
-    bits_of_different_cells_requires (λ c. search needs) (λ c. search needs) slice_write_live (λ c. search needs) slice_write_base
+    invariant_loop decreases_loop loop_holds sub_block (λ c κs. search rules) add_next (λ c κs. search rules) (λ c. search rules)
+    bits_of_different_cells_requires (λ c. search rules) (λ c. search rules) slice_write_live (λ c. search rules) slice_write_base
     keep_block_requires loop_less loop_again same_length same_length_2 same_length_3 same_length_4 returns)

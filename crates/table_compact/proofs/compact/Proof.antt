@@ -1,5 +1,5 @@
 -- `table_compact::compact` meets its contract. Assumes nothing.
-use Rattle.table_compact.proofs.Prelude.{arith, needs}
+use Rattle.table_compact.proofs.Prelude.{arith, rules}
 use Rattle.table_compact.proofs.CompactionSteps.{compact_next, compact_refused, compact_lendable, compact_none, compact_done}
 use Rattle.table_compact.proofs.compact.Statement.{statement}
 use Rattle.table_compact.proofs.compact.Tie as tie
@@ -26,5 +26,5 @@ pub compact_spec : {M : Type 1} → statement M
 compact_spec =
     tie.close
     (tie.spec
-    (λ c κs. search needs) (λ c. compact_refused _ _ _ _ _ _ _ c.before.compact-refusal.ensures c.if1.true) next_generation_requires returns_2 compact_rows_requires (λ c. search needs) (λ c. search needs) (λ c. search needs)
-    (λ c. search needs) (λ c. search needs) returns_3)
+    (λ c κs. search rules) (λ c. compact_refused _ _ _ _ _ _ _ c.before.compact-refusal.ensures c.if1.true) next_generation_requires returns_2 compact_rows_requires (λ c. search rules) (λ c. search rules) (λ c. search rules)
+    (λ c. search rules) (λ c. search rules) returns_3)

@@ -1,5 +1,5 @@
 -- `table_compact::compact_rows` meets its contract. Assumes nothing.
-use Rattle.table_compact.proofs.Prelude.{arith, refl, needs}
+use Rattle.table_compact.proofs.Prelude.{arith, refl, rules}
 use Rattle.table_compact.proofs.CompactionSteps.{closable, can_lead, compact_end}
 use Rattle.table_compact.proofs.compact_rows.Statement.{statement}
 use Rattle.table_compact.proofs.compact_rows.Tie as tie
@@ -25,5 +25,5 @@ pub compact_rows_spec : {M : Type 1} → statement M
 compact_rows_spec =
     tie.close
     (tie.spec
-    (λ c κs. closable c.before.before.before.before.before.before.before.before.before.requires.0) add_n update_keys_requires (λ c. search needs) (λ c. search needs) (λ c. search needs)
-    (λ c. search needs) (λ c. search needs) returns)
+    (λ c κs. closable c.before.before.before.before.before.before.before.before.before.requires.0) add_n update_keys_requires (λ c. search rules) (λ c. search rules) (λ c. search rules)
+    (λ c. search rules) (λ c. search rules) returns)

@@ -1,5 +1,5 @@
 -- `table_compact::keep_row` meets its contract. Assumes nothing.
-use Rattle.table_compact.proofs.Prelude.{arith, needs}
+use Rattle.table_compact.proofs.Prelude.{arith, rules}
 use Rattle.table_compact.proofs.CompactionSteps.{from_place, to_place, row_kept}
 use Rattle.table_compact.proofs.keep_row.Statement.{statement}
 use Rattle.table_compact.proofs.keep_row.Tie as tie
@@ -27,5 +27,5 @@ pub keep_row_spec : {M : Type 1} → statement M
 keep_row_spec =
     tie.close
     (tie.spec
-    (λ c κs. search needs) (λ c κs. search needs) (λ c. search needs) move_down_requires (λ c. search needs) add_cell
-    mul_append_entry slice_read_append_entry (λ c κs. search needs) (λ c. search needs) (λ c. search needs) returns)
+    (λ c κs. search rules) (λ c κs. search rules) (λ c. search rules) move_down_requires (λ c. search rules) add_cell
+    mul_append_entry slice_read_append_entry (λ c κs. search rules) (λ c. search rules) (λ c. search rules) returns)

@@ -1,5 +1,5 @@
 -- `table_stage::is_overfull` meets its contract. Assumes nothing.
-use Rattle.table_stage.proofs.Prelude.{◌+◌, arith, lt-ltb, le-ltb, needs}
+use Rattle.table_stage.proofs.Prelude.{◌+◌, arith, lt-ltb, le-ltb, rules}
 use Rattle.plain_table.specs.Refusing.{overfull}
 use Rattle.table_stage.proofs.is_overfull.Statement.{statement}
 use Rattle.table_stage.proofs.is_overfull.Tie as tie
@@ -13,4 +13,4 @@ unfolding overfull
 returns_2 c = let a = c.before.args in rw (le-ltb a.pending (a.used + (a.width + a.more)) (omega arith))
 
 pub is_overfull_spec : {M : Type 1} → statement M
-is_overfull_spec = tie.close (tie.spec (λ c. search needs) (λ c. search needs) returns returns_2)
+is_overfull_spec = tie.close (tie.spec (λ c. search rules) (λ c. search rules) returns returns_2)

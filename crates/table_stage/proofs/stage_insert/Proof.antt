@@ -1,5 +1,5 @@
 -- `table_stage::stage_insert` meets its contract. Assumes nothing.
-use Rattle.table_stage.proofs.Prelude.{ℕ, sym, ap, ◌∙◌, ◌∷◌, arith, length, length-take-le, splice, insert_refusal, Free, refusal_free, staging_refused, staging_written, needs}
+use Rattle.table_stage.proofs.Prelude.{ℕ, sym, ap, ◌∙◌, ◌∷◌, arith, length, length-take-le, splice, insert_refusal, Free, refusal_free, staging_refused, staging_written, rules}
 use Rattle.plain_table.specs.Staged.{insert, words_of}
 use Rattle.table.specs.Stores.{record_words}
 use Rattle.table_stage.proofs.stage_insert.Statement.{statement}
@@ -14,15 +14,15 @@ unfolding record_words words_of
 stage_insert_spec =
     tie.close
     (tie.spec
-    (λ c κs. search needs)
+    (λ c κs. search rules)
     (λ c. let a = c.before.before.before.before.args in staging_refused a.h a.pending.now (insert a.cells.now) _ (c.before.stage-refusal.ensures ∙ insert_refusal _ _ _) c.if1.true)
-    (λ c. search needs)
+    (λ c. search rules)
     (λ c. sym (length-take-le _ _ (omega (arith, free c.before.before))))
-    (λ c κs. search needs) (λ c. search needs)
+    (λ c κs. search rules) (λ c. search rules)
     (λ c κs. omega (arith, free c.before.before.before.before.before))
     (λ c. omega (arith, free c.before.before.before.before.before.before.before.before.before))
     (λ c. omega (arith, free c.before.before.before.before.before.before.before.before.before.before))
-    (λ c. search needs)
+    (λ c. search rules)
     (λ c.
     let e = c.before.before.before.before.before.before.before.before.before.before in let a = e.before.before.before.before.args in
     staging_written a.h a.pending.now (insert a.cells.now) _ (sym (insert_refusal _ _ _) ∙ sym e.before.stage-refusal.ensures ∙ e.if1.false)

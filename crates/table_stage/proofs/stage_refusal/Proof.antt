@@ -1,5 +1,5 @@
 -- `table_stage::stage_refusal` meets its contract. Assumes nothing.
-use Rattle.table_stage.proofs.Prelude.{sym, ◌∙◌, eq-eqb, ne_eqb, needs}
+use Rattle.table_stage.proofs.Prelude.{sym, ◌∙◌, eq-eqb, ne_eqb, rules}
 use Rattle.refusals.specs.Refusals.{first_refusal}
 use Rattle.table_stage.specs.inner.Staging.{record_refusal}
 use Rattle.table_stage.proofs.stage_refusal.Statement.{statement}
@@ -29,5 +29,5 @@ pub stage_refusal_spec : {M : Type 1} → statement M
 stage_refusal_spec =
     tie.close
     (tie.spec
-    (λ c κs. search needs) returns returns_2 returns_3 (λ c κs. search needs) returns_4
+    (λ c κs. search rules) returns returns_2 returns_3 (λ c κs. search rules) returns_4
     returns_5)

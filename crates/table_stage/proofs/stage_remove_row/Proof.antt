@@ -1,5 +1,5 @@
 -- `table_stage::stage_remove_row` meets its contract. Assumes nothing.
-use Rattle.table_stage.proofs.Prelude.{ℕ, sym, ap, ◌∙◌, ◌∷◌, arith, length, splice, row_refusal, Free, refusal_free, staging_refused, staging_written, needs}
+use Rattle.table_stage.proofs.Prelude.{ℕ, sym, ap, ◌∙◌, ◌∷◌, arith, length, splice, row_refusal, Free, refusal_free, staging_refused, staging_written, rules}
 use Rattle.plain_table.specs.Staged.{remove_row, words_of}
 use Rattle.table.specs.Stores.{record_words}
 use Rattle.table_stage.proofs.stage_remove_row.Statement.{statement}
@@ -14,13 +14,13 @@ unfolding record_words words_of
 stage_remove_row_spec =
     tie.close
     (tie.spec
-    (λ c κs. search needs)
+    (λ c κs. search rules)
     (λ c. let a = c.before.before.before.before.before.args in staging_refused a.h a.pending.now (remove_row a.row a.key.now) _ (c.before.stage-refusal.ensures ∙ row_refusal _ _ _ _) c.if1.true)
-    (λ c κs. search needs) (λ c. search needs)
+    (λ c κs. search rules) (λ c. search rules)
     (λ c κs. omega (arith, free c.before.before.before))
     (λ c. omega (arith, free c.before.before.before.before.before.before.before))
     (λ c. omega (arith, free c.before.before.before.before.before.before.before.before))
-    (λ c. search needs)
+    (λ c. search rules)
     (λ c.
     let e = c.before.before.before.before.before.before.before.before in let a = e.before.before.before.before.before.args in
     staging_written a.h a.pending.now (remove_row a.row a.key.now) _ (sym (row_refusal _ _ _ _) ∙ sym e.before.stage-refusal.ensures ∙ e.if1.false)

@@ -1,5 +1,5 @@
 -- `table_stage::write_record` meets its contract: the cells behind the head. Assumes nothing.
-use Rattle.table_stage.proofs.Prelude.{ℕ, ◌+◌, ap, ◌∙◌, List, [], ◌∷◌, arith, splice, splice_then, needs}
+use Rattle.table_stage.proofs.Prelude.{ℕ, ◌+◌, ap, ◌∙◌, List, [], ◌∷◌, arith, splice, splice_then, rules}
 use Rattle.table_stage.proofs.write_record.Statement.{statement}
 use Rattle.table_stage.proofs.write_record.Tie as tie
 
@@ -13,4 +13,4 @@ returns c =
 
 pub write_record_spec : {M : Type 1} → statement M
 write_record_spec =
-    tie.close (tie.spec (λ c κs. search needs) (λ c. search needs) (λ c κs. search needs) (λ c. search needs) returns)
+    tie.close (tie.spec (λ c κs. search rules) (λ c. search rules) (λ c κs. search rules) (λ c. search rules) returns)

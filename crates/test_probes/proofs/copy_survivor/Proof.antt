@@ -1,5 +1,5 @@
 -- `test_probes::copy_survivor` meets its contract. Assumes nothing.
-use Rattle.test_probes.proofs.Prelude.{ℕ, ◌+◌, ◌≤◌, ◌≡◌, sym, ap, ◌∙◌, List, needs, arith, length, take, drop, length-take, length-drop, survivor, survivor_length}
+use Rattle.test_probes.proofs.Prelude.{ℕ, ◌+◌, ◌≤◌, ◌≡◌, sym, ap, ◌∙◌, List, rules, arith, length, take, drop, length-take, length-drop, survivor, survivor_length}
 use Rattle.test_probes.proofs.copy_survivor.Statement.{statement}
 use Rattle.test_probes.proofs.copy_survivor.Tie as tie
 
@@ -23,5 +23,5 @@ pub copy_survivor_spec : {M : Type 1} → statement M
 copy_survivor_spec =
     tie.close
     (tie.spec
-    (λ c κs. search needs) write_row_requires (λ c. search needs)
+    (λ c κs. search rules) write_row_requires (λ c. search rules)
     (λ c. rw (← c.before.before.before.before.surviving-row.ensures) c.before.before.write-row.ensures))

@@ -1,5 +1,5 @@
 -- `test_probes::fits` meets its contract. Assumes nothing.
-use Rattle.test_probes.proofs.Prelude.{ℕ, ◌*◌, ◌≤◌, false≢true, mul-le-mul, arith, needs}
+use Rattle.test_probes.proofs.Prelude.{ℕ, ◌*◌, ◌≤◌, false≢true, mul-le-mul, arith, rules}
 use Rattle.test_probes.proofs.fits.Statement.{statement}
 use Rattle.test_probes.proofs.fits.Tie as tie
 
@@ -25,5 +25,5 @@ fits_spec =
     (tie.spec
     (λ c. λ e. absurd (false≢true e)) (λ c. λ e. absurd (false≢true e)) (λ c. λ e. absurd (false≢true e))
     (λ c. λ e. absurd (false≢true e)) (λ c. λ e. absurd (false≢true e)) (λ c. λ e. absurd (false≢true e))
-    (λ c. λ e. absurd (false≢true e)) mul_if8 cast_if8 (λ c. λ e. absurd (false≢true e)) (λ c. search needs)
-    (λ c. search needs) (λ c. λ e. absurd (false≢true e)) (λ c. search needs))
+    (λ c. λ e. absurd (false≢true e)) mul_if8 cast_if8 (λ c. λ e. absurd (false≢true e)) (λ c. search rules)
+    (λ c. search rules) (λ c. λ e. absurd (false≢true e)) (λ c. search rules))

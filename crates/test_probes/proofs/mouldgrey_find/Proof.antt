@@ -1,5 +1,5 @@
 -- `test_probes::mouldgrey_find` meets its contract. Assumes nothing.
-use Rattle.test_probes.proofs.Prelude.{arith, needs, not-false}
+use Rattle.test_probes.proofs.Prelude.{arith, rules, not-false}
 use Rattle.test_probes.proofs.mouldgrey_find.Statement.{statement}
 use Rattle.test_probes.proofs.mouldgrey_find.Tie as tie
 
@@ -7,7 +7,7 @@ pub mouldgrey_find_spec : {M : Type 1} → statement M
 mouldgrey_find_spec =
     tie.close
     (tie.spec
-    (λ c κs. search needs) (λ c. search needs) (λ c. search needs) (λ c κs. search needs)
+    (λ c κs. search rules) (λ c. search rules) (λ c. search rules) (λ c κs. search rules)
     (λ c κs. let z = c.before.before.before.fits2.ensures (not-false _ c.before.before.if1.false) in omega arith)
-    (λ c. search needs) (λ c. search needs) (λ c. search needs) (λ c. search needs) (λ c. search needs) (λ c. search needs)
-    (λ c. search needs) (λ c. search needs))
+    (λ c. search rules) (λ c. search rules) (λ c. search rules) (λ c. search rules) (λ c. search rules) (λ c. search rules)
+    (λ c. search rules) (λ c. search rules))

@@ -1,5 +1,5 @@
 -- `test_probes::mouldgrey_make` meets its contract. Assumes nothing.
-use Rattle.test_probes.proofs.Prelude.{needs, arith, made_nothing, made_done}
+use Rattle.test_probes.proofs.Prelude.{rules, arith, made_nothing, made_done}
 use Rattle.test_probes.proofs.mouldgrey_make.Statement.{statement}
 use Rattle.test_probes.proofs.mouldgrey_make.Tie as tie
 
@@ -14,4 +14,4 @@ mouldgrey_make_spec =
     tie.close
     (tie.spec
     (λ c. made_nothing _ _ _ _ _ _ (λ f. c.if1.true f.0))
-    (λ c. made_nothing _ _ _ _ _ _ (λ f. let h = f.1 in omega arith)) (λ c κs. search needs) (λ c. search needs) returns_3)
+    (λ c. made_nothing _ _ _ _ _ _ (λ f. let h = f.1 in omega arith)) (λ c κs. search rules) (λ c. search rules) returns_3)

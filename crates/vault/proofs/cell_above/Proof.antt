@@ -1,5 +1,5 @@
 -- `vault::cell_above` meets its contract. Assumes nothing.
-use Rattle.vault.proofs.Prelude.{arith, needs}
+use Rattle.vault.proofs.Prelude.{arith, rules}
 use Rattle.vault.proofs.Filling.{above_none, above_some, above_inside}
 use Rattle.vault.proofs.cell_above.Statement.{statement}
 use Rattle.vault.proofs.cell_above.Tie as tie
@@ -17,5 +17,5 @@ pub cell_above_spec : {M : Type 1} → statement M
 cell_above_spec =
     tie.close
     (tie.spec
-    (λ c. above_none _ _ _ _ c.if1.true) (λ c. search needs) add_at sub_result (λ c. search needs)
+    (λ c. above_none _ _ _ _ c.if1.true) (λ c. search rules) add_at sub_result (λ c. search rules)
     shared_slice_read_result (λ c. above_some _ _ _ _ c.before.if1.false))

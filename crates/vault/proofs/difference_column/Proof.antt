@@ -1,5 +1,5 @@
 -- `vault::difference_column` meets its contract. Assumes nothing.
-use Rattle.vault.proofs.Prelude.{◌-◌, arith, needs}
+use Rattle.vault.proofs.Prelude.{◌-◌, arith, rules}
 use Rattle.vault.proofs.Filling.{Differencing, column_scan_begin, column_scan_end, difference_more, to_inside, from_inside, columns_inside, rows_inside}
 use Rattle.vault.proofs.difference_column.Statement.{statement}
 use Rattle.vault.proofs.difference_column.Tie as tie
@@ -34,6 +34,6 @@ difference_column_spec =
     (λ c. let p = c.before.before.before.before.before.requires in omega (arith, from_inside p.0 p.1 c.loop-test.true p.2))
     (λ c. let p = c.before.before.before.before.before.requires in omega (arith, from_inside p.0 p.1 c.loop-test.true p.2))
     (λ c. let p = c.before.before.before.before.before.before.requires in from_inside p.0 p.1 c.before.loop-test.true p.2)
-    (λ c κs. search needs) add_output mul_output slice_write_output (λ c. omega (arith, c.before.before.loop-test.true))
+    (λ c κs. search rules) add_output mul_output slice_write_output (λ c. omega (arith, c.before.before.loop-test.true))
     (λ c. omega (arith, c.before.before.loop-test.true)) loop_again (λ c. c.before.loop.invariant.filled.same)
     (λ c. column_scan_end c.before.loop.invariant c.loop-test.false))

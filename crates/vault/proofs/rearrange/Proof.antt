@@ -1,5 +1,5 @@
 -- `vault::rearrange` meets its contract. Assumes nothing.
-use Rattle.vault.proofs.Prelude.{sym, ◌∙◌, arith, needs}
+use Rattle.vault.proofs.Prelude.{sym, ◌∙◌, arith, rules}
 use Rattle.vault.proofs.Answers.{rearranged_refused, shaped, all_written}
 use Rattle.vault.proofs.rearrange.Statement.{statement}
 use Rattle.vault.proofs.rearrange.Tie as tie
@@ -14,6 +14,6 @@ pub rearrange_spec : {M : Type 1} → statement M
 rearrange_spec =
     tie.close
     (tie.spec
-    (λ c κs. search needs) (λ c. rearranged_refused _ _ _ _ _ c.before.columns-refusal.ensures c.if1.true) div_rows
+    (λ c κs. search rules) (λ c. rearranged_refused _ _ _ _ _ c.before.columns-refusal.ensures c.if1.true) div_rows
     (λ c κs. shaped _ _ _ (sym c.before.before.columns-refusal.ensures ∙ c.before.if1.false))
     (λ c. c.before.before.rearrange-rows.ensures.same) returns_2)

@@ -1,5 +1,5 @@
 -- `vault::rearrange_column` meets its contract. Assumes nothing.
-use Rattle.vault.proofs.Prelude.{true, false, needs}
+use Rattle.vault.proofs.Prelude.{true, false, rules}
 use Rattle.vault.proofs.Filling.{direction_begun, direction_filled}
 use Rattle.vault.proofs.rearrange_column.Statement.{statement}
 use Rattle.vault.proofs.rearrange_column.Tie as tie
@@ -17,5 +17,5 @@ pub rearrange_column_spec : {M : Type 1} → statement M
 rearrange_column_spec =
     tie.close
     (tie.spec
-    sum_column_requires (λ c κs. search needs) (λ c. c.before.before.sum-column.ensures.same) returns
+    sum_column_requires (λ c κs. search rules) (λ c. c.before.before.sum-column.ensures.same) returns
     (λ c. c.before.before.difference-column.ensures.same) returns_2)

@@ -1,5 +1,5 @@
 -- `vault::sum_column` meets its contract. Assumes nothing.
-use Rattle.vault.proofs.Prelude.{◌-◌, ◌∙◌, arith, needs}
+use Rattle.vault.proofs.Prelude.{◌-◌, ◌∙◌, arith, rules}
 use Rattle.vault.proofs.Filling.{Summing, column_scan_begin, column_scan_end, sum_more, above_summed, to_inside, from_inside, columns_inside, rows_fit}
 use Rattle.vault.proofs.sum_column.Statement.{statement}
 use Rattle.vault.proofs.sum_column.Tie as tie
@@ -41,6 +41,6 @@ sum_column_spec =
     loop_holds
     (λ c. let p = c.before.before.before.before.before.before.requires in omega (arith, to_inside p.0 p.1 c.loop-test.true p.2))
     (λ c. let p = c.before.before.before.before.before.before.requires in omega (arith, to_inside p.0 p.1 c.loop-test.true p.2))
-    shared_slice_read_wrapping_add_u32 (λ c κs. search needs) mul_output add_output mul_output_2 slice_write_output
+    shared_slice_read_wrapping_add_u32 (λ c κs. search rules) mul_output add_output mul_output_2 slice_write_output
     (λ c. omega (arith, c.before.before.loop-test.true)) (λ c. omega (arith, c.before.before.loop-test.true))
     loop_again (λ c. c.before.loop.invariant.filled.same) (λ c. column_scan_end c.before.loop.invariant c.loop-test.false))

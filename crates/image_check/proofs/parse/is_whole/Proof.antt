@@ -1,5 +1,5 @@
 -- `image_check::parse::is_whole` meets its contract. Assumes nothing.
-use Rattle.image_check.proofs.Prelude.{arith, needs, not-true, not-false}
+use Rattle.image_check.proofs.Prelude.{arith, rules, not-true, not-false}
 use Rattle.image_check.proofs.ParsingSteps.{whole_other_count, whole_unfilled, whole_measured, whole_part, whole_checked}
 use Rattle.image_check.proofs.parse.is_whole.Statement.{statement}
 use Rattle.image_check.proofs.parse.is_whole.Tie as tie
@@ -24,6 +24,6 @@ pub is_whole_spec : {M : Type 1} → statement M
 is_whole_spec =
     tie.close
     (tie.spec
-    (λ c. search needs) (λ c. let s = c.before.before in whole_other_count _ _ s.requires.0 s.requires.1 c.if1.true)
-    is_filled_requires returns_2 slice_aggregate_crc_words (λ c κs. search needs) (λ c. search needs) (λ c. search needs)
+    (λ c. search rules) (λ c. let s = c.before.before in whole_other_count _ _ s.requires.0 s.requires.1 c.if1.true)
+    is_filled_requires returns_2 slice_aggregate_crc_words (λ c κs. search rules) (λ c. search rules) (λ c. search rules)
     returns_3)

@@ -1,5 +1,5 @@
 -- `image_check::parse::parse` meets its contract. Assumes nothing.
-use Rattle.image_check.proofs.Prelude.{sym, ◌∙◌, arith, needs, not-true, not-false, placed_of}
+use Rattle.image_check.proofs.Prelude.{sym, ◌∙◌, arith, rules, not-true, not-false, placed_of}
 use Rattle.image_check.proofs.ParsingSteps.{parsed_none, parsed_outside, parsed_broken, parsed_whole}
 use Rattle.image_check.proofs.parse.parse.Statement.{statement}
 use Rattle.image_check.proofs.parse.parse.Tie as tie
@@ -24,10 +24,10 @@ pub parse_spec : {M : Type 1} → statement M
 parse_spec =
     tie.close
     (tie.spec
-    (λ c. parsed_none _ (λ t. omega (arith, t.long, c.if1.true))) (λ c κs. search needs)
+    (λ c. parsed_none _ (λ t. omega (arith, t.long, c.if1.true))) (λ c κs. search rules)
     (λ c. parsed_none _ (λ t. c.before.is-marked.ensures.no (not-true _ c.if2.true) t.marked))
-    (λ c κs. search needs) (λ c κs. search needs)
+    (λ c κs. search rules) (λ c κs. search rules)
     (λ c. parsed_outside _ _ c.before.before.header-in.ensures (sym c.before.is-outside.ensures ∙ c.if3.true))
-    (λ c. search needs) (λ c. parsed_none _ (λ t. omega (arith, t.few, c.if4.true)))
+    (λ c. search rules) (λ c. parsed_none _ (λ t. omega (arith, t.few, c.if4.true)))
     (λ c κs. (sym c.before.before.before.is-outside.ensures ∙ c.before.before.if3.false, c.if4.false))
     is_whole_requires returns_5 returns_6)

@@ -1,5 +1,5 @@
 -- `image_write::parts::text_word` meets its contract. Assumes nothing.
-use Rattle.image_write.proofs.Prelude.{sym, needs, get_d_packed}
+use Rattle.image_write.proofs.Prelude.{sym, rules, get_d_packed}
 use Rattle.image_write.proofs.parts.text_word.Statement.{statement}
 use Rattle.image_write.proofs.parts.text_word.Tie as tie
 
@@ -13,7 +13,7 @@ pub text_word_spec : {M : Type 1} → statement M
 text_word_spec =
     tie.close
     (tie.spec
-    (λ c. search needs) (λ c κs. search needs) (λ c. search needs) (λ c. search needs) (λ c κs. search needs)
-    (λ c. search needs) (λ c. search needs) (λ c κs. search needs) (λ c. search needs) (λ c. search needs)
-    (λ c κs. search needs) (λ c. search needs) (λ c. search needs) (λ c. search needs) (λ c. search needs)
-    (λ c. search needs) (λ c. search needs) (λ c. search needs) returns)
+    (λ c. search rules) (λ c κs. search rules) (λ c. search rules) (λ c. search rules) (λ c κs. search rules)
+    (λ c. search rules) (λ c. search rules) (λ c κs. search rules) (λ c. search rules) (λ c. search rules)
+    (λ c κs. search rules) (λ c. search rules) (λ c. search rules) (λ c. search rules) (λ c. search rules)
+    (λ c. search rules) (λ c. search rules) (λ c. search rules) returns)

@@ -1,5 +1,5 @@
 -- `image_write::parts::write_body` meets its contract. Assumes nothing.
-use Rattle.image_write.proofs.Prelude.{body_written, needs}
+use Rattle.image_write.proofs.Prelude.{body_written, rules}
 use Rattle.image_write.proofs.parts.write_body.Statement.{statement}
 use Rattle.image_write.proofs.parts.write_body.Tie as tie
 
@@ -18,5 +18,5 @@ pub write_body_spec : {M : Type 1} → statement M
 write_body_spec =
     tie.close
     (tie.spec
-    (λ c κs. search needs) (λ c κs. search needs) (λ c κs. search needs) (λ c. search needs) (λ c κs. search needs)
-    (λ c. search needs) returns)
+    (λ c κs. search rules) (λ c κs. search rules) (λ c κs. search rules) (λ c. search rules) (λ c κs. search rules)
+    (λ c. search rules) returns)

@@ -1,5 +1,5 @@
 -- `image_write::parts::write_head` meets its contract. Assumes nothing.
-use Rattle.image_write.proofs.Prelude.{ℕ, ◌≡◌, ap, ◌∙◌, List, arith, length, set, length-set, needs, splice, length_header, head_written}
+use Rattle.image_write.proofs.Prelude.{ℕ, ◌≡◌, ap, ◌∙◌, List, arith, length, set, length-set, rules, splice, length_header, head_written}
 use Rattle.image_write.proofs.parts.write_head.Statement.{statement}
 use Rattle.image_write.proofs.parts.write_head.Tie as tie
 
@@ -22,6 +22,6 @@ pub write_head_spec : {M : Type 1} → statement M
 write_head_spec =
     tie.close
     (tie.spec
-    (λ c κs. search needs) (λ c. search needs) (λ c. simp length-set (omega arith)) (λ c. search needs) write_row_requires
-    (λ c. search needs) (λ c. search needs) (λ c. simp length-set (c.before.before.write-row.auto.0 ∙ simp length-set))
+    (λ c κs. search rules) (λ c. search rules) (λ c. simp length-set (omega arith)) (λ c. search rules) write_row_requires
+    (λ c. search rules) (λ c. search rules) (λ c. simp length-set (c.before.before.write-row.auto.0 ∙ simp length-set))
     returns)

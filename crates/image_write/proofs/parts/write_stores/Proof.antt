@@ -1,5 +1,5 @@
 -- `image_write::parts::write_stores` meets its contract. Assumes nothing.
-use Rattle.image_write.proofs.Prelude.{arith, needs, stores_written}
+use Rattle.image_write.proofs.Prelude.{arith, rules, stores_written}
 use Rattle.image_write.proofs.parts.write_stores.Statement.{statement}
 use Rattle.image_write.proofs.parts.write_stores.Tie as tie
 
@@ -23,7 +23,7 @@ pub write_stores_spec : {M : Type 1} → statement M
 write_stores_spec =
     tie.close
     (tie.spec
-    (λ c. search needs) (λ c. search needs) (λ c. search needs) (λ c. search needs) (λ c. search needs) (λ c κs. search needs)
+    (λ c. search rules) (λ c. search rules) (λ c. search rules) (λ c. search rules) (λ c. search rules) (λ c κs. search rules)
     (λ c. omega (arith, c.before.before.before.before.before.before.before.before.before.before.before.before))
-    (λ c κs. search needs) (λ c. search needs) add_write_words_2 add_write_words_3 (λ c κs. search needs) (λ c. search needs)
+    (λ c κs. search rules) (λ c. search rules) add_write_words_2 add_write_words_3 (λ c κs. search rules) (λ c. search rules)
     returns)

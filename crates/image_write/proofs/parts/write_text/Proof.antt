@@ -1,6 +1,6 @@
 -- `image_write::parts::write_text` meets its contract. The loop's invariant: the first i words of the text are in the output, which is
 -- otherwise as it was. Assumes nothing.
-use Rattle.image_write.proofs.Prelude.{ℕ, ◌+◌, ◌-◌, ◌≤◌, ◌≡◌, refl, sym, ap₂, ◌∙◌, List, arith, length, take, set, length-set, needs, take-length, splice, splice_nil, packed, length_packed, write_step}
+use Rattle.image_write.proofs.Prelude.{ℕ, ◌+◌, ◌-◌, ◌≤◌, ◌≡◌, refl, sym, ap₂, ◌∙◌, List, arith, length, take, set, length-set, rules, take-length, splice, splice_nil, packed, length_packed, write_step}
 use Rattle.image_write.proofs.parts.write_text.Statement.{statement}
 use Rattle.image_write.proofs.parts.write_text.Tie as tie
 
@@ -15,7 +15,7 @@ loop_again c =
     let l = c.before.before in
     let a = l.before.before.before.before.args in
     let n : length (packed a.text.now) ≡ l.before.packed-length.result = length_packed a.text.now ∙ sym l.before.packed-length.ensures in (
-      search needs,
+      search rules,
       simp length-set l.loop.invariant.1,
       ap₂ (λ (x : List ℕ) (v : ℕ). set x (a.at + l.loop.i) v) l.loop.invariant.2 c.text-word.ensures
           ∙ write_step a.output.now (packed a.text.now) a.at l.loop.i (omega arith) (omega arith),
@@ -32,6 +32,6 @@ pub write_text_spec : {M : Type 1} → statement M
 write_text_spec =
     tie.close
     (tie.spec
-    invariant_loop decreases_loop (λ c κs. search needs) (λ c. (search needs, refl, sym (splice_nil _ _))) (λ c κs. search needs)
-    (λ c. search needs) (λ c. search needs) (λ c. search needs) (λ c. search needs) (λ c. search needs) loop_again
-    (λ c. search needs) returns)
+    invariant_loop decreases_loop (λ c κs. search rules) (λ c. (search rules, refl, sym (splice_nil _ _))) (λ c κs. search rules)
+    (λ c. search rules) (λ c. search rules) (λ c. search rules) (λ c. search rules) (λ c. search rules) loop_again
+    (λ c. search rules) returns)

@@ -1,5 +1,5 @@
 -- `image_write::parts::write_words` meets its contract. Assumes nothing.
-use Rattle.image_write.proofs.Prelude.{◌≡◌, sym, arith, length, take, needs, length-take-le}
+use Rattle.image_write.proofs.Prelude.{◌≡◌, sym, arith, length, take, rules, length-take-le}
 use Rattle.image_write.proofs.parts.write_words.Statement.{statement}
 use Rattle.image_write.proofs.parts.write_words.Tie as tie
 
@@ -13,4 +13,4 @@ pub write_words_spec : {M : Type 1} → statement M
 write_words_spec =
     tie.close
     (tie.spec
-    (λ c. sym (length-take-le _ _ (omega arith))) write_row_requires (λ c. search needs) (λ c. search needs))
+    (λ c. sym (length-take-le _ _ (omega arith))) write_row_requires (λ c. search rules) (λ c. search rules))

@@ -1,5 +1,5 @@
 -- `key_index::remove::close_hole` meets its contract. Assumes nothing.
-use Rattle.key_index.proofs.Prelude.{sym, ◌∙◌, arith, needs, not-true, not-false, rows_in_lem}
+use Rattle.key_index.proofs.Prelude.{sym, ◌∙◌, arith, rules, not-true, not-false, rows_in_lem}
 use Rattle.key_index.proofs.ShiftSteps.{ShiftInvariant, begin, finish, stop, turn}
 use Rattle.key_index.proofs.remove.close_hole.Statement.{statement}
 use Rattle.key_index.proofs.remove.close_hole.Tie as tie
@@ -35,8 +35,8 @@ close_hole_spec =
     (tie.spec
     invariant_loop decreases_loop (λ c. omega arith) (λ c. omega arith) (λ c. omega arith)
     (λ c. begin _ _ _ _ c.before.before.before.before.requires.1) (λ c κs. c.before.loop.invariant.at_in)
-    (λ c. search needs) (λ c. omega arith) (λ c. omega arith) (λ c κs. tt)
+    (λ c. search rules) (λ c. omega arith) (λ c. omega arith) (λ c κs. tt)
     (λ c. c.before.before.before.before.before.loop.invariant.same) returns (λ c. omega arith) (λ c. omega arith)
-    distance_from_home_requires (λ c κs. tt) (λ c. search needs) (λ c. omega arith) (λ c. omega arith) (λ c κs. tt) (λ c κs. tt)
+    distance_from_home_requires (λ c κs. tt) (λ c. search rules) (λ c. omega arith) (λ c. omega arith) (λ c κs. tt) (λ c κs. tt)
     (λ c. omega arith) loop_again (λ c. c.before.loop.invariant.same)
     (λ c. finish _ _ _ _ _ _ _ _ _ _ c.before.loop.invariant (omega (arith, c.loop-test.false))))

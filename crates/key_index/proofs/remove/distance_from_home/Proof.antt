@@ -1,5 +1,5 @@
 -- `key_index::remove::distance_from_home` meets its contract. Assumes nothing.
-use Rattle.key_index.proofs.Prelude.{ℕ, ap, ◌∙◌, arith, needs, slots, cyclic_distance, names_number}
+use Rattle.key_index.proofs.Prelude.{ℕ, ap, ◌∙◌, arith, rules, slots, cyclic_distance, names_number}
 use Rattle.key_index.proofs.ShiftSteps.{home_hash}
 use Rattle.key_index.proofs.remove.distance_from_home.Statement.{statement}
 use Rattle.key_index.proofs.remove.distance_from_home.Tie as tie
@@ -15,5 +15,5 @@ distance_from_home_spec =
     tie.close
     (tie.spec
     (λ c. omega (arith, names_number _ _ c.before.requires.1))
-    (λ c κs. (c.before.requires.0, omega (arith, names_number _ _ c.before.requires.1))) (λ c. search needs)
-    (λ c κs. search needs) (λ c κs. search needs) returns)
+    (λ c κs. (c.before.requires.0, omega (arith, names_number _ _ c.before.requires.1))) (λ c. search rules)
+    (λ c κs. search rules) (λ c κs. search rules) returns)

@@ -1,5 +1,5 @@
 -- `key_rebuild::renumber::half_bits` meets its contract. Assumes nothing.
-use Rattle.key_rebuild.proofs.Prelude.{◌-◌, refl, arith, needs}
+use Rattle.key_rebuild.proofs.Prelude.{◌-◌, refl, arith, rules}
 use Rattle.key_rebuild.proofs.RenumberSteps.{Half, half_begin, half_free, half_taken, half_fits, half_end}
 use Rattle.key_rebuild.proofs.renumber.half_bits.Statement.{statement}
 use Rattle.key_rebuild.proofs.renumber.half_bits.Tie as tie
@@ -29,5 +29,5 @@ pub half_bits_spec : {M : Type 1} → statement M
 half_bits_spec =
     tie.close
     (tie.spec
-    invariant_loop decreases_loop loop_holds (λ c. omega arith) (λ c. search needs) (λ c. search needs) (λ c. search needs) (λ c. search needs)
+    invariant_loop decreases_loop loop_holds (λ c. omega arith) (λ c. search rules) (λ c. search rules) (λ c. search rules) (λ c. search rules)
     (λ c. omega arith) add_word (λ c. omega arith) loop_again (λ c. omega arith) loop_again_2 returns)

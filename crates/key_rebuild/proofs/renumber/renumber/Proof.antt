@@ -1,5 +1,5 @@
 -- `key_rebuild::renumber::renumber` meets its contract. Assumes nothing.
-use Rattle.key_rebuild.proofs.Prelude.{◌-◌, arith, needs, slots}
+use Rattle.key_rebuild.proofs.Prelude.{◌-◌, arith, rules, slots}
 use Rattle.key_rebuild.proofs.RenumberSteps.{Pass, pass_begin, pass_block, pass_step, pass_end}
 use Rattle.key_rebuild.proofs.renumber.renumber.Statement.{statement}
 use Rattle.key_rebuild.proofs.renumber.renumber.Tie as tie
@@ -39,5 +39,5 @@ pub renumber_spec : {M : Type 1} → statement M
 renumber_spec =
     tie.close
     (tie.spec
-    invariant_loop decreases_loop (λ c. omega arith) loop_holds sub_block (λ c κs. search needs) renumber_block_requires add_at
+    invariant_loop decreases_loop (λ c. omega arith) loop_holds sub_block (λ c κs. search rules) renumber_block_requires add_at
     loop_less loop_again same_length returns)

@@ -1,5 +1,5 @@
 -- `key_rebuild::renumber::renumber_word` meets its contract. Assumes nothing.
-use Rattle.key_rebuild.proofs.Prelude.{◌-◌, ◌/◌, ◌%◌, ◌^◌, ◌≤◌, ◌<◌, ◌≡◌, sym, ◌∙◌, true, arith, length, get_or, needs, not-true, not-false, set_below_le, names_row}
+use Rattle.key_rebuild.proofs.Prelude.{◌-◌, ◌/◌, ◌%◌, ◌^◌, ◌≤◌, ◌<◌, ◌≡◌, sym, ◌∙◌, true, arith, length, get_or, rules, not-true, not-false, set_below_le, names_row}
 use Rattle.key_rebuild.proofs.RenumberSteps.{stays, too_large, has_new, in_words}
 use Rattle.key_rebuild.proofs.renumber.renumber_word.Statement.{statement}
 use Rattle.key_rebuild.proofs.renumber.renumber_word.Tie as tie
@@ -25,6 +25,6 @@ pub renumber_word_spec : {M : Type 1} → statement M
 renumber_word_spec =
     tie.close
     (tie.spec
-    (λ c κs. search needs) (λ c. stays _ _ _ _ (sym c.before.names-row.ensures ∙ not-true _ c.if1.true)) (λ c. omega (arith, inside c)) (λ c. search needs) (λ c. search needs) (λ c. omega (arith, inside c.before)) (λ c. too_large _ _ _ _ (names c.before.before) c.if2.true)
-    (λ c. search needs) (λ c. search needs) (λ c. omega (arith, inside c.before.before.before)) (λ c κs. search needs) (λ c. omega (arith, few c)) (λ c. omega (arith, few c))
+    (λ c κs. search rules) (λ c. stays _ _ _ _ (sym c.before.names-row.ensures ∙ not-true _ c.if1.true)) (λ c. omega (arith, inside c)) (λ c. search rules) (λ c. search rules) (λ c. omega (arith, inside c.before)) (λ c. too_large _ _ _ _ (names c.before.before) c.if2.true)
+    (λ c. search rules) (λ c. search rules) (λ c. omega (arith, inside c.before.before.before)) (λ c κs. search rules) (λ c. omega (arith, few c)) (λ c. omega (arith, few c))
     returns_3)

@@ -1,5 +1,5 @@
 -- `key_rebuild::renumber::taken_bits` meets its contract. Assumes nothing.
-use Rattle.key_rebuild.proofs.Prelude.{◌≡◌, sym, ap, ◌∙◌, arith, needs, bitmap_word, other_at}
+use Rattle.key_rebuild.proofs.Prelude.{◌≡◌, sym, ap, ◌∙◌, arith, rules, bitmap_word, other_at}
 use Rattle.key_rebuild.proofs.RenumberSteps.{word_halves}
 use Rattle.key_rebuild.proofs.renumber.taken_bits.Statement.{statement}
 use Rattle.key_rebuild.proofs.renumber.taken_bits.Tie as tie
@@ -14,5 +14,5 @@ pub taken_bits_spec : {M : Type 1} → statement M
 taken_bits_spec =
     tie.close
     (tie.spec
-    (λ c. search needs) (λ c κs. search needs) (λ c. search needs) (λ c κs. omega (arith, c.before.before.requires.inside, c.if1.false)) (λ c. omega arith) (λ c. omega arith)
+    (λ c. search rules) (λ c κs. search rules) (λ c. search rules) (λ c κs. omega (arith, c.before.before.requires.inside, c.if1.false)) (λ c. omega arith) (λ c. omega arith)
     (λ c. let p = c.before.before.before.requires in omega (arith, p.inside, c.before.if1.false)) (λ c κs. let p = c.before.before.before.requires in omega (arith, p.inside, c.before.if1.false)) (λ c. omega arith) (λ c. omega arith) (λ c. omega arith) returns_2)

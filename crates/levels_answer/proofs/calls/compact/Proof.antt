@@ -1,5 +1,5 @@
 -- `levels_answer::calls::compact` meets its contract. Assumes nothing.
-use Rattle.levels_answer.proofs.Prelude.{refl, compact_served, needs}
+use Rattle.levels_answer.proofs.Prelude.{refl, compact_served, rules}
 use Rattle.levels_answer.proofs.calls.compact.Statement.{statement}
 use Rattle.levels_answer.proofs.calls.compact.Tie as tie
 
@@ -10,5 +10,5 @@ pub compact_spec : {M : Type 1} → statement M
 compact_spec =
     tie.close
     (tie.spec
-    (λ c. search needs) (λ c. search needs) (λ c κs. search needs) (λ c κs. search needs) (λ c. search needs)
-    (λ c. search needs) (λ c. search needs) returns)
+    (λ c. search rules) (λ c. search rules) (λ c κs. search rules) (λ c κs. search rules) (λ c. search rules)
+    (λ c. search rules) (λ c. search rules) returns)

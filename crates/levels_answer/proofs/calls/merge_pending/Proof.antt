@@ -1,5 +1,5 @@
 -- `levels_answer::calls::merge_pending` meets its contract. Assumes nothing.
-use Rattle.levels_answer.proofs.Prelude.{refl, merge_served, needs}
+use Rattle.levels_answer.proofs.Prelude.{refl, merge_served, rules}
 use Rattle.levels_answer.proofs.calls.merge_pending.Statement.{statement}
 use Rattle.levels_answer.proofs.calls.merge_pending.Tie as tie
 
@@ -10,5 +10,5 @@ pub merge_pending_spec : {M : Type 1} → statement M
 merge_pending_spec =
     tie.close
     (tie.spec
-    (λ c. search needs) (λ c. search needs) (λ c κs. search needs) (λ c κs. search needs) (λ c. search needs)
-    (λ c. search needs) (λ c. search needs) returns)
+    (λ c. search rules) (λ c. search rules) (λ c κs. search rules) (λ c κs. search rules) (λ c. search rules)
+    (λ c. search rules) (λ c. search rules) returns)

@@ -1,5 +1,5 @@
 -- `levels_answer::calls::open_table` meets its contract. Assumes nothing.
-use Rattle.levels_answer.proofs.Prelude.{large_served, open_served, needs}
+use Rattle.levels_answer.proofs.Prelude.{large_served, open_served, rules}
 use Rattle.levels_answer.proofs.calls.open_table.Statement.{statement}
 use Rattle.levels_answer.proofs.calls.open_table.Tie as tie
 
@@ -10,5 +10,5 @@ pub open_table_spec : {M : Type 1} → statement M
 open_table_spec =
     tie.close
     (tie.spec
-    (λ c. search needs) (λ c. large_served _ _ c.if1.true) (λ c. search needs) (λ c. search needs) (λ c. search needs)
-    (λ c. search needs) (λ c. search needs) (λ c κs. search needs) (λ c κs. search needs) (λ c. search needs) returns_2)
+    (λ c. search rules) (λ c. large_served _ _ c.if1.true) (λ c. search rules) (λ c. search rules) (λ c. search rules)
+    (λ c. search rules) (λ c. search rules) (λ c κs. search rules) (λ c κs. search rules) (λ c. search rules) returns_2)

@@ -1,5 +1,5 @@
 -- `levels_answer::calls::stage` meets its contract. Assumes nothing.
-use Rattle.levels_answer.proofs.Prelude.{insert_served, by_key_served, row_letter, by_row_letter, needs}
+use Rattle.levels_answer.proofs.Prelude.{insert_served, by_key_served, row_letter, by_row_letter, rules}
 use Rattle.levels_answer.proofs.calls.stage.Statement.{statement}
 use Rattle.levels_answer.proofs.calls.stage.Tie as tie
 
@@ -16,5 +16,5 @@ pub stage_spec : {M : Type 1} → statement M
 stage_spec =
     tie.close
     (tie.spec
-    (λ c κs. search needs) (λ c κs. search needs) (λ c. search needs) returns (λ c κs. search needs)
-    (λ c κs. search needs) (λ c. search needs) returns_2 (λ c κs. search needs) (λ c. search needs) returns_3)
+    (λ c κs. search rules) (λ c κs. search rules) (λ c. search rules) returns (λ c κs. search rules)
+    (λ c κs. search rules) (λ c. search rules) returns_2 (λ c κs. search rules) (λ c. search rules) returns_3)

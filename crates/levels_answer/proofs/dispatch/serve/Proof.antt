@@ -1,5 +1,5 @@
 -- `levels_answer::dispatch::serve` meets its contract. Assumes nothing.
-use Rattle.levels_answer.proofs.Prelude.{refl, query_letters, staging_some, as_letter, needs}
+use Rattle.levels_answer.proofs.Prelude.{refl, query_letters, staging_some, as_letter, rules}
 use Rattle.levels_answer.proofs.dispatch.serve.Statement.{statement}
 use Rattle.levels_answer.proofs.dispatch.serve.Tie as tie
 
@@ -19,7 +19,7 @@ pub serve_spec : {M : Type 1} → statement M
 serve_spec =
     tie.close
     (tie.spec
-    stage_requires (λ c κs. search needs) serve_open_clear_compact_requires query_requires (λ c. c.before.pending.given)
+    stage_requires (λ c κs. search rules) serve_open_clear_compact_requires query_requires (λ c. c.before.pending.given)
     (λ c. c.before.before.stage.ensures.serving _ _ _) (λ c. c.before.before.before.before.before.rows.given)
     (λ c. c.before.before.before.keys.given) (λ c. c.before.sorts.given) (λ c. refl) returns_2
     (λ c. c.before.before.before.before.before.rows2.given) (λ c. c.before.before.before.keys2.given)

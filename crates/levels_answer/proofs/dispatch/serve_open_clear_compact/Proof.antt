@@ -1,5 +1,5 @@
 -- `levels_answer::dispatch::serve_open_clear_compact` meets its contract. Assumes nothing.
-use Rattle.levels_answer.proofs.Prelude.{refl, form_open, compact_letter, as_letter, needs}
+use Rattle.levels_answer.proofs.Prelude.{refl, form_open, compact_letter, as_letter, rules}
 use Rattle.levels_answer.proofs.dispatch.serve_open_clear_compact.Statement.{statement}
 use Rattle.levels_answer.proofs.dispatch.serve_open_clear_compact.Tie as tie
 
@@ -18,7 +18,7 @@ serve_open_clear_compact_spec =
     (tie.spec
     open_table_requires (λ c. refl) (λ c. c.before.keys.given) (λ c. refl)
     (λ c. as_letter c.before.before.before.before.before.before.if1.true c.before.before.open-table.ensures)
-    (λ c κs. search needs) (λ c. c.before.keys2.given)
+    (λ c κs. search rules) (λ c. c.before.keys2.given)
     (λ c. as_letter c.before.before.before.before.if2.true (c.before.before.clear.ensures.serving _ _ _ _))
-    (λ c κs. search needs) (λ c. c.before.before.before.before.before.rows.given)
+    (λ c κs. search rules) (λ c. c.before.before.before.before.before.rows.given)
     (λ c. c.before.before.before.keys3.given) (λ c. c.before.sorts.given) returns_3)

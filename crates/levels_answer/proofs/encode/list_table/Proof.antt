@@ -1,5 +1,5 @@
 -- `levels_answer::encode::list_table` meets its contract. Assumes nothing.
-use Rattle.levels_answer.proofs.Prelude.{listed_nothing, listed_all, needs}
+use Rattle.levels_answer.proofs.Prelude.{listed_nothing, listed_all, rules}
 use Rattle.levels_answer.proofs.encode.list_table.Statement.{statement}
 use Rattle.levels_answer.proofs.encode.list_table.Tie as tie
 
@@ -13,4 +13,4 @@ pub list_table_spec : {M : Type 1} → statement M
 list_table_spec =
     tie.close
     (tie.spec
-    (λ c κs. search needs) (λ c. search needs) (λ c. search needs) (λ c. search needs) returns (λ c. search needs) returns_2)
+    (λ c κs. search rules) (λ c. search rules) (λ c. search rules) (λ c. search rules) returns (λ c. search rules) returns_2)

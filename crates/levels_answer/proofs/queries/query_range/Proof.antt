@@ -1,5 +1,5 @@
 -- `levels_answer::queries::query_range` meets its contract. Assumes nothing.
-use Rattle.levels_answer.proofs.Prelude.{range_served, needs}
+use Rattle.levels_answer.proofs.Prelude.{range_served, rules}
 use Rattle.levels_answer.proofs.queries.query_range.Statement.{statement}
 use Rattle.levels_answer.proofs.queries.query_range.Tie as tie
 
@@ -7,5 +7,5 @@ pub query_range_spec : {M : Type 1} → statement M
 query_range_spec =
     tie.close
     (tie.spec
-    (λ c. search needs) (λ c. search needs) (λ c. search needs) (λ c κs. search needs) (λ c κs. search needs)
+    (λ c. search rules) (λ c. search rules) (λ c. search rules) (λ c κs. search rules) (λ c κs. search rules)
     (λ c. range_served _ c.respond-range.ensures c.before.fast-subset.ensures))

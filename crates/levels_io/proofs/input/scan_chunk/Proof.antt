@@ -1,5 +1,5 @@
 -- `levels_io::input::scan_chunk` meets its contract. The loop's invariant: the line from here on ends where it does from the start. Assumes nothing.
-use Rattle.levels_io.proofs.Prelude.{◌-◌, arith, left, Scanning, scanning_begin, scanning_again, scanning_newline, scanning_end, needs}
+use Rattle.levels_io.proofs.Prelude.{◌-◌, arith, left, Scanning, scanning_begin, scanning_again, scanning_newline, scanning_end, rules}
 use Rattle.levels_io.proofs.input.scan_chunk.Statement.{statement}
 use Rattle.levels_io.proofs.input.scan_chunk.Tie as tie
 
@@ -38,5 +38,5 @@ pub scan_chunk_spec : {M : Type 1} → statement M
 scan_chunk_spec =
     tie.close
     (tie.spec
-    invariant_loop decreases_loop loop_holds (λ c. search needs) (λ c. search needs) same_length returns push_requires
-    (λ c. search needs) loop_again same_length_2 returns_2)
+    invariant_loop decreases_loop loop_holds (λ c. search rules) (λ c. search rules) same_length returns push_requires
+    (λ c. search rules) loop_again same_length_2 returns_2)

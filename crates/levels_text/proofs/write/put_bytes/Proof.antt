@@ -1,5 +1,5 @@
 -- `levels_text::write::put_bytes` meets its contract. The loop's invariant: the bytes passed are put. Assumes nothing.
-use Rattle.levels_text.proofs.Prelude.{◌-◌, length, needs, Putting, putting_begin, putting_again, putting_end}
+use Rattle.levels_text.proofs.Prelude.{◌-◌, length, rules, Putting, putting_begin, putting_again, putting_end}
 use Rattle.levels_text.proofs.write.put_bytes.Statement.{statement}
 use Rattle.levels_text.proofs.write.put_bytes.Tie as tie
 
@@ -14,7 +14,7 @@ pub put_bytes_spec : {M : Type 1} → statement M
 put_bytes_spec =
     tie.close
     (tie.spec
-    invariant_loop decreases_loop (λ c. putting_begin _ _ _) (λ c. search needs) (λ c κs. search needs) (λ c. search needs)
-    (λ c. search needs)
-    (λ c. putting_again c.before.before.before.before.before.before.loop.invariant (search needs) (search needs) c.before.before.put.ensures)
-    (λ c. search needs) (λ c. putting_end c.before.loop.invariant (search needs)))
+    invariant_loop decreases_loop (λ c. putting_begin _ _ _) (λ c. search rules) (λ c κs. search rules) (λ c. search rules)
+    (λ c. search rules)
+    (λ c. putting_again c.before.before.before.before.before.before.loop.invariant (search rules) (search rules) c.before.before.put.ensures)
+    (λ c. search rules) (λ c. putting_end c.before.loop.invariant (search rules)))

@@ -1,5 +1,5 @@
 -- `levels_text::write::put_line` meets its contract. Assumes nothing.
-use Rattle.levels_text.proofs.Prelude.{arith, needs, length_line, appended_line}
+use Rattle.levels_text.proofs.Prelude.{arith, rules, length_line, appended_line}
 use Rattle.levels_text.proofs.write.put_line.Statement.{statement}
 use Rattle.levels_text.proofs.write.put_line.Tie as tie
 
@@ -19,4 +19,4 @@ returns : tie.Need-returns
 returns c = appended_line _ c.before.before.before.before.before.before.before.before.before.before.put.ensures c.before.before.before.before.before.before.put-numbers.ensures c.before.before.put2.ensures
 
 pub put_line_spec : {M : Type 1} → statement M
-put_line_spec = tie.close (tie.spec put_requires put_numbers_requires put_requires_2 (λ c. search needs) returns)
+put_line_spec = tie.close (tie.spec put_requires put_numbers_requires put_requires_2 (λ c. search rules) returns)

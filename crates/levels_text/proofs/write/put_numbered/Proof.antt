@@ -1,5 +1,5 @@
 -- `levels_text::write::put_numbered` meets its contract. Assumes nothing.
-use Rattle.levels_text.proofs.Prelude.{arith, needs, length_numbered, appended_numbered}
+use Rattle.levels_text.proofs.Prelude.{arith, rules, length_numbered, appended_numbered}
 use Rattle.levels_text.proofs.write.put_numbered.Statement.{statement}
 use Rattle.levels_text.proofs.write.put_numbered.Tie as tie
 
@@ -30,4 +30,4 @@ returns c = appended_numbered _ _ c.before.before.before.before.before.before.be
 pub put_numbered_spec : {M : Type 1} → statement M
 put_numbered_spec =
     tie.close
-    (tie.spec put_requires put_number_requires put_numbers_requires put_requires_2 (λ c. search needs) returns)
+    (tie.spec put_requires put_number_requires put_numbers_requires put_requires_2 (λ c. search rules) returns)

@@ -1,5 +1,5 @@
 -- `merge_insert::append::admit` meets its contract: a stop, or the entries with the next row's. Assumes nothing.
-use Rattle.merge_insert.proofs.Prelude.{needs, arith, refl, sym, ◌∙◌, stops_full, stops_old, admit_entered}
+use Rattle.merge_insert.proofs.Prelude.{rules, arith, refl, sym, ◌∙◌, stops_full, stops_old, admit_entered}
 use Rattle.merge_insert.proofs.append.admit.Statement.{statement}
 use Rattle.merge_insert.proofs.append.admit.Tie as tie
 
@@ -9,4 +9,4 @@ returns_3 c = admit_entered _ _ _ c.before.before.before.before.before.before.be
 pub admit_spec : {M : Type 1} → statement M
 admit_spec =
     tie.close
-    (tie.spec (λ c. (stops_full _ _ (omega arith), refl)) (λ c κs. search needs) (λ c. (stops_old _ _ c.before.before.if1.false (sym c.before.is-old.ensures ∙ c.if2.true), refl)) (λ c κs. search needs) (λ c. search needs) returns_3)
+    (tie.spec (λ c. (stops_full _ _ (omega arith), refl)) (λ c κs. search rules) (λ c. (stops_old _ _ c.before.before.if1.false (sym c.before.is-old.ensures ∙ c.if2.true), refl)) (λ c κs. search rules) (λ c. search rules) returns_3)

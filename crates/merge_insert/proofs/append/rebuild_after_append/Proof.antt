@@ -1,5 +1,5 @@
 -- `merge_insert::append::rebuild_after_append` meets its contract. Assumes nothing.
-use Rattle.merge_insert.proofs.Prelude.{ap, needs, Appended}
+use Rattle.merge_insert.proofs.Prelude.{ap, rules, Appended}
 use Rattle.merge_insert.proofs.AppendSteps.{rebuildable, rebuilt_after_append}
 use Rattle.merge_insert.proofs.append.rebuild_after_append.Statement.{statement}
 use Rattle.merge_insert.proofs.append.rebuild_after_append.Tie as tie
@@ -19,4 +19,4 @@ returns c =
 pub rebuild_after_append_spec : {M : Type 1} → statement M
 rebuild_after_append_spec =
     tie.close
-    (tie.spec (λ c κs. search needs) (λ c κs. search needs) rebuild_requires (λ c. search needs) returns)
+    (tie.spec (λ c κs. search rules) (λ c κs. search rules) rebuild_requires (λ c. search rules) returns)

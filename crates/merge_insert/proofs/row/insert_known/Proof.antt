@@ -1,5 +1,5 @@
 -- `merge_insert::row::insert_known` meets its contract. Assumes nothing.
-use Rattle.merge_insert.proofs.Prelude.{refl, needs, not-true, not-false}
+use Rattle.merge_insert.proofs.Prelude.{refl, rules, not-true, not-false}
 use Rattle.merge_insert.proofs.InsertSteps.{makeable, kept_old, known_of}
 use Rattle.merge_insert.proofs.row.insert_known.Statement.{statement}
 use Rattle.merge_insert.proofs.row.insert_known.Tie as tie
@@ -24,6 +24,6 @@ pub insert_known_spec : {M : Type 1} → statement M
 insert_known_spec =
     tie.close
     (tie.spec
-    (λ c. search needs) make_row_requires (λ c. search needs) returns (λ c. search needs) (λ c. search needs)
-    (λ c. search needs) (λ c. search needs) (λ c κs. search needs) (λ c. search needs) (λ c. search needs)
-    (λ c. search needs) returns_2)
+    (λ c. search rules) make_row_requires (λ c. search rules) returns (λ c. search rules) (λ c. search rules)
+    (λ c. search rules) (λ c. search rules) (λ c κs. search rules) (λ c. search rules) (λ c. search rules)
+    (λ c. search rules) returns_2)

@@ -1,5 +1,5 @@
 -- `merge_insert::row::insert_row` meets its contract. Assumes nothing.
-use Rattle.merge_insert.proofs.Prelude.{arith, needs}
+use Rattle.merge_insert.proofs.Prelude.{arith, rules}
 use Rattle.merge_insert.proofs.InsertSteps.{inserts_skipped, findable, can_append, found_row, found_slot, inserts_new, inserts_known}
 use Rattle.merge_insert.proofs.row.insert_row.Statement.{statement}
 use Rattle.merge_insert.proofs.row.insert_row.Tie as tie
@@ -56,9 +56,9 @@ pub insert_row_spec : {M : Type 1} → statement M
 insert_row_spec =
     tie.close
     (tie.spec
-    (λ c. search needs) (λ c. search needs) (λ c κs. search needs) returns (λ c. search needs) (λ c. search needs)
-    (λ c. search needs) (λ c. search needs) (λ c. search needs) (λ c. search needs) (λ c κs. search needs)
-    look_up_requires (λ c. search needs) (λ c. search needs) (λ c. search needs) (λ c. search needs)
-    (λ c. search needs) (λ c. search needs) part_insert_new_end insert_new_requires (λ c. search needs)
-    insert_known_requires (λ c. search needs) (λ c. search needs) (λ c. search needs) returns_2 (λ c. search needs)
-    (λ c. search needs) (λ c. search needs) returns_3)
+    (λ c. search rules) (λ c. search rules) (λ c κs. search rules) returns (λ c. search rules) (λ c. search rules)
+    (λ c. search rules) (λ c. search rules) (λ c. search rules) (λ c. search rules) (λ c κs. search rules)
+    look_up_requires (λ c. search rules) (λ c. search rules) (λ c. search rules) (λ c. search rules)
+    (λ c. search rules) (λ c. search rules) part_insert_new_end insert_new_requires (λ c. search rules)
+    insert_known_requires (λ c. search rules) (λ c. search rules) (λ c. search rules) returns_2 (λ c. search rules)
+    (λ c. search rules) (λ c. search rules) returns_3)

@@ -1,5 +1,5 @@
 -- `merge_insert::row::make_row` meets its contract. Assumes nothing.
-use Rattle.merge_insert.proofs.Prelude.{◌≤◌, arith, length, needs, not-true, not-false}
+use Rattle.merge_insert.proofs.Prelude.{◌≤◌, arith, length, rules, not-true, not-false}
 use Rattle.merge_insert.proofs.InsertSteps.{old_width, survivor_width, survivor_fits, survivor_kept, survivor_made, made_not, made_third}
 use Rattle.merge_insert.proofs.row.make_row.Statement.{statement}
 use Rattle.merge_insert.proofs.row.make_row.Tie as tie
@@ -44,9 +44,9 @@ pub make_row_spec : {M : Type 1} → statement M
 make_row_spec =
     tie.close
     (tie.spec
-    (λ c. search needs) (λ c κs. search needs) (λ c. search needs) (λ c. search needs) (λ c. search needs)
-    (λ c. search needs) (λ c. search needs) (λ c κs. search needs) (λ c. search needs) (λ c. search needs)
-    (λ c. survivor_keys c) (λ c. survivor_keys c) (λ c. search needs) (λ c. search needs) sub_same_cells_2
-    (λ c. sub_same_cells_2 c) (λ c. search needs) (λ c κs. search needs) returns write_row_requires
-    (λ c. search needs) returns_2 (λ c. search needs) (λ c. search needs) (λ c. search needs) (λ c. search needs)
-    (λ c. search needs) (λ c κs. search needs) returns_3 (λ c κs. search needs) (λ c. search needs) returns_4)
+    (λ c. search rules) (λ c κs. search rules) (λ c. search rules) (λ c. search rules) (λ c. search rules)
+    (λ c. search rules) (λ c. search rules) (λ c κs. search rules) (λ c. search rules) (λ c. search rules)
+    (λ c. survivor_keys c) (λ c. survivor_keys c) (λ c. search rules) (λ c. search rules) sub_same_cells_2
+    (λ c. sub_same_cells_2 c) (λ c. search rules) (λ c κs. search rules) returns write_row_requires
+    (λ c. search rules) returns_2 (λ c. search rules) (λ c. search rules) (λ c. search rules) (λ c. search rules)
+    (λ c. search rules) (λ c κs. search rules) returns_3 (λ c κs. search rules) (λ c. search rules) returns_4)

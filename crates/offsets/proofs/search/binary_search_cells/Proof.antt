@@ -1,5 +1,5 @@
 -- `offsets::search::binary_search_cells` meets its contract. Assumes nothing.
-use Rattle.offsets.proofs.Prelude.{◌+◌, ◌-◌, ◌*◌, ◌/◌, ◌<◌, length, arith, needs}
+use Rattle.offsets.proofs.Prelude.{◌+◌, ◌-◌, ◌*◌, ◌/◌, ◌<◌, length, arith, rules}
 use Rattle.offsets.specs.inner.Search.{Bracketed}
 use Rattle.offsets.proofs.SearchSteps.{bracket, bracket_up, bracket_down, bracket_end}
 use Rattle.offsets.proofs.search.binary_search_cells.Statement.{statement}
@@ -22,11 +22,11 @@ binary_search_cells_spec =
     (tie.spec
     invariant_loop decreases_loop
     (λ c. bracket _ _ _ _ _ c.requires.1)
-    (λ c. search needs) (λ c. search needs) (λ c. search needs)
+    (λ c. search rules) (λ c. search rules) (λ c. search rules)
     (λ c. omega (arith, middle c))
     (λ c. omega (arith, middle c))
-    (λ c. middle c.before) (λ c. search needs) (λ c. search needs)
+    (λ c. middle c.before) (λ c. search rules) (λ c. search rules)
     (λ c. bracket_up _ _ _ _ _ _ _ c.before.before.before.loop.invariant _ (omega arith) (omega arith) c.if1.true)
-    (λ c. search needs)
+    (λ c. search rules)
     (λ c. bracket_down _ _ _ _ _ _ _ c.before.before.before.loop.invariant _ (omega arith) (omega arith) c.if1.false)
     (λ c. bracket_end _ _ _ _ _ _ _ c.before.loop.invariant c.loop-test.false))

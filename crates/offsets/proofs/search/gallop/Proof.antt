@@ -1,5 +1,5 @@
 -- `offsets::search::gallop` meets its contract. Assumes nothing.
-use Rattle.offsets.proofs.Prelude.{arith, needs}
+use Rattle.offsets.proofs.Prelude.{arith, rules}
 use Rattle.offsets.specs.inner.Search.{Reached}
 use Rattle.offsets.proofs.SearchSteps.{Strides, stride_more, stride_over, stride_end}
 use Rattle.offsets.proofs.search.gallop.Statement.{statement}
@@ -30,7 +30,7 @@ pub gallop_spec : {M : Type 1} → statement M
 gallop_spec =
     tie.close
     (tie.spec
-    invariant_loop decreases_loop (λ c. search needs) (λ c. search needs) loop_holds (λ c. search needs) (λ c. search needs) (λ c. search needs) (λ c. search needs)
-    returns (λ c. search needs) returns_2 (λ c. search needs) (λ c. search needs) (λ c. search needs)
+    invariant_loop decreases_loop (λ c. search rules) (λ c. search rules) loop_holds (λ c. search rules) (λ c. search rules) (λ c. search rules) (λ c. search rules)
+    returns (λ c. search rules) returns_2 (λ c. search rules) (λ c. search rules) (λ c. search rules)
     (λ c. stride_more _ _ _ _ _ c.before.before.before.before.loop.invariant c.before.before.before.loop-test.true (omega arith))
-    (λ c. search needs) (λ c. search needs) returns_3)
+    (λ c. search rules) (λ c. search rules) returns_3)

@@ -1,5 +1,5 @@
 -- `offsets::search::scan_for_offset` meets its contract. Assumes nothing.
-use Rattle.offsets.proofs.Prelude.{arith, needs, not_below_past}
+use Rattle.offsets.proofs.Prelude.{arith, rules, not_below_past}
 use Rattle.offsets.specs.inner.Search.{Reached}
 use Rattle.offsets.proofs.SearchSteps.{scanned_end, scanned_hit, scanned_before, scanned_part}
 use Rattle.offsets.proofs.search.scan_for_offset.Statement.{statement}
@@ -27,10 +27,10 @@ pub scan_for_offset_spec : {M : Type 1} → statement M
 scan_for_offset_spec =
     tie.close
     (tie.spec
-    (λ c. search needs)
+    (λ c. search rules)
     (λ c. scanned_end _ _ _ c.if1.true)
-    (λ c. search needs) (λ c. search needs)
+    (λ c. search rules) (λ c. search rules)
     (λ c. scanned_hit _ _ _ _ c.before.before.if1.false c.if2.true)
     (λ c. scanned_before _ _ _ c.before.before.before.if1.false c.if3.true)
     (λ c κs. (c.before.before.before.before.before.requires, c.before.before.before.if1.false, λ e. not_below_past _ _ e _ c.before.before.before.if1.false (omega arith)))
-    (λ c. search needs) (λ c. search needs) binary_search_part_requires scan_at_requires returns_4 returns_5)
+    (λ c. search rules) (λ c. search rules) binary_search_part_requires scan_at_requires returns_4 returns_5)

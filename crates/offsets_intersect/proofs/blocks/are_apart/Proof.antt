@@ -1,5 +1,5 @@
 -- `offsets_intersect::blocks::are_apart` meets its contract. Assumes nothing.
-use Rattle.offsets_intersect.proofs.Prelude.{◌-◌, ◌≤◌, ◌≡◌, true, arith, length, needs, Apart}
+use Rattle.offsets_intersect.proofs.Prelude.{◌-◌, ◌≤◌, ◌≡◌, true, arith, length, rules, Apart}
 use Rattle.offsets_intersect.proofs.Passing.{apart_more}
 use Rattle.offsets_intersect.proofs.blocks.are_apart.Statement.{statement}
 use Rattle.offsets_intersect.proofs.blocks.are_apart.Tie as tie
@@ -20,6 +20,6 @@ pub are_apart_spec : {M : Type 1} → statement M
 are_apart_spec =
     tie.close
     (tie.spec
-    invariant_loop decreases_loop loop_holds (λ c. search needs) (λ c. search needs) (λ c κs. search needs) (λ c. search needs) (λ c. search needs)
-    (λ c. (search needs, apart_more _ _ _ _ _ c.before.before.before.loop.invariant.1 c.is-none-of.ensures))
+    invariant_loop decreases_loop loop_holds (λ c. search rules) (λ c. search rules) (λ c κs. search rules) (λ c. search rules) (λ c. search rules)
+    (λ c. (search rules, apart_more _ _ _ _ _ c.before.before.before.loop.invariant.1 c.is-none-of.ensures))
     returns)

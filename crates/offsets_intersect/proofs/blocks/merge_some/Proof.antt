@@ -1,5 +1,5 @@
 -- `offsets_intersect::blocks::merge_some` meets its contract. Assumes nothing.
-use Rattle.offsets_intersect.proofs.Prelude.{◌+◌, ◌-◌, refl, arith, length, needs}
+use Rattle.offsets_intersect.proofs.Prelude.{◌+◌, ◌-◌, refl, arith, length, rules}
 use Rattle.offsets_intersect.proofs.Passing.{Pace, merged_to_none, past_other, past_id, past_both, pace_on, pace_end}
 use Rattle.offsets_intersect.proofs.blocks.merge_some.Statement.{statement}
 use Rattle.offsets_intersect.proofs.blocks.merge_some.Tie as tie
@@ -52,16 +52,16 @@ pub merge_some_spec : {M : Type 1} → statement M
 merge_some_spec =
     tie.close
     (tie.spec
-    invariant_loop decreases_loop (λ c κs. search needs) (λ c. search needs) (λ c. search needs) (λ c. search needs) (λ c. search needs) loop_holds (λ c. search needs)
+    invariant_loop decreases_loop (λ c κs. search rules) (λ c. search rules) (λ c. search rules) (λ c. search rules) (λ c. search rules) loop_holds (λ c. search rules)
     same_length
     (λ c. let w = c.before.before.loop.invariant in pace_end w (past_other w c.before.if1.true) (omega arith))
-    (λ c. search needs) (λ c. search needs) (λ c. search needs)
+    (λ c. search rules) (λ c. search rules) (λ c. search rules)
     (λ c. let w = c.before.before.before.loop.invariant in pace_on w (past_other w c.before.before.if1.true) w.more c.before.if2.false w.short w.here refl)
-    (λ c. search needs) (λ c. search needs) (λ c. search needs) (λ c. search needs) (λ c. search needs) same_length_2
+    (λ c. search rules) (λ c. search rules) (λ c. search rules) (λ c. search rules) (λ c. search rules) same_length_2
     (λ c. let w = c.before.before.before.loop.invariant in pace_end w (past_both w c.before.if3.true) (omega arith))
     (λ c. (past_both c.before.before.before.before.loop.invariant c.before.before.if3.true).same)
     (λ c. let w = c.before.before.before.before.loop.invariant in pace_end w (past_both w c.before.before.if3.true) (omega arith))
-    (λ c κs. search needs) (λ c. search needs) (λ c. search needs) (λ c. search needs) (λ c. search needs) (λ c. search needs) loop_again_2
-    (λ c. search needs) same_length_4
+    (λ c κs. search rules) (λ c. search rules) (λ c. search rules) (λ c. search rules) (λ c. search rules) (λ c. search rules) loop_again_2
+    (λ c. search rules) same_length_4
     (λ c. let w = c.before.before.before.loop.invariant in pace_end w (past_id w c.before.before.if1.false c.before.if3.false) (omega arith))
-    (λ c. search needs) (λ c. search needs) (λ c. search needs) loop_again_3)
+    (λ c. search rules) (λ c. search rules) (λ c. search rules) loop_again_3)

@@ -1,5 +1,5 @@
 -- `offsets_intersect::blocks::skip_apart` meets its contract. Assumes nothing.
-use Rattle.offsets_intersect.proofs.Prelude.{◌+◌, ◌-◌, ◌≡◌, refl, true, arith, length, needs, rising, SkippedTo}
+use Rattle.offsets_intersect.proofs.Prelude.{◌+◌, ◌-◌, ◌≡◌, refl, true, arith, length, rules, rising, SkippedTo}
 use Rattle.offsets_intersect.proofs.Passing.{passed_none, passed_on, apart_turned, passed_turned, pass_block}
 use Rattle.offsets_intersect.proofs.blocks.skip_apart.Statement.{statement}
 use Rattle.offsets_intersect.proofs.blocks.skip_apart.Tie as tie
@@ -32,11 +32,11 @@ skip_apart_spec =
     (tie.spec
     invariant_loop decreases_loop
     (λ c. (passed_none c.before.before.requires.2 c.before.before.requires.3, c.before.before.requires.0.up, c.before.before.requires.1.up))
-    (λ c κs. search needs) (λ c. search needs) (λ c. search needs) (λ c. search needs)
+    (λ c κs. search rules) (λ c. search rules) (λ c. search rules) (λ c. search rules)
     (λ c. omega (arith, (c.before.before.are-blocks-apart.ensures c.before.if1.true).room))
-    (λ c. search needs) (λ c. search needs) (λ c. search needs)
+    (λ c. search rules) (λ c. search rules) (λ c. search rules)
     (λ c. omega (arith, (c.before.before.before.are-blocks-apart.ensures c.before.before.if1.true).others_room))
-    (λ c. search needs) loop_less loop_again (λ c. search needs)
+    (λ c. search rules) loop_less loop_again (λ c. search rules)
     (λ c. omega (arith, (c.before.before.before.before.are-blocks-apart.ensures c.before.before.before.if1.true).others_room))
     loop_again_2
     (λ c. (c.before.before.loop.invariant.0, refl)))

@@ -2,7 +2,7 @@
 -- conditions are lent for a lifetime that the proof makes; out is given up to the query. Assumes nothing.
 use types.Logic.{Logic}
 use denote.Ref.{MutBor}
-use Rattle.manual_proofs.proofs.Prelude.{◌≡◌, refl, sym, ℕ, ◌≤◌, List, [], ◌∷◌, lit<, length, Ura, full_share, Ty, erased, imm, named, ty_ref, w64, Val, vint, SProp, ent, id⊢, Lft, Share, GName, flft, fat, froom, Memory, Routine, Tables, WpFn, Fun, tables, tables_of, ‵, raw, ◌⊛◌, ⋆, some, later, ◌$◌, ◌∵◌, !, qed, move, keep, drop, group, use1, use2, split, join, pick, rewrite, fsplit, fjoin, feq_l, suffices, frame, await, done, agg, whole, sub, look_in, look, init, forget, stop, hop, fld, from, load, addr, of_opd, and_then, no_more, assigns, land, returns, enter, alloc1, alloc0, params1, pass1, pass0, free1, free0, lft_new, lft_end, fm_of, u32, usize, Is, shows, pointee, RattleType, RefT, now, slice_ty, slice_val, Room, peeks, nothing, only, Clauses, on_entry, cited, says, needs, ends_at, take, length-take-le, arith, ty_array, Array, array_vals, Array-Tells, Array-Lawful, Array-Makes, lone, owns, types_at}
+use Rattle.manual_proofs.proofs.Prelude.{◌≡◌, refl, sym, ℕ, ◌≤◌, List, [], ◌∷◌, lit<, length, Ura, full_share, Ty, erased, imm, named, ty_ref, w64, Val, vint, SProp, ent, id⊢, Lft, Share, GName, flft, fat, froom, Memory, Routine, Tables, WpFn, Fun, tables, tables_of, ‵, raw, ◌⊛◌, ⋆, some, later, ◌$◌, ◌∵◌, !, qed, move, keep, drop, group, use1, use2, split, join, pick, rewrite, fsplit, fjoin, feq_l, suffices, frame, await, done, agg, whole, sub, look_in, look, init, forget, stop, hop, fld, from, load, addr, of_opd, and_then, no_more, assigns, land, returns, enter, alloc1, alloc0, params1, pass1, pass0, free1, free0, lft_new, lft_end, fm_of, u32, usize, Is, shows, pointee, RattleType, RefT, now, slice_ty, slice_val, Room, peeks, nothing, only, Clauses, on_entry, cited, says, rules, ends_at, take, length-take-le, arith, ty_array, Array, array_vals, Array-Tells, Array-Lawful, Array-Makes, lone, owns, types_at}
 use Rattle.query.proofs.Prelude.{Constraint, Header, RefinedList}
 use Rattle.offsets.specs.declared.SubsetHead.{SubsetHead}
 use Rattle.offsets.specs.Answers.{subset_of}
@@ -109,7 +109,7 @@ module _ {M : Type 1} {𝓤 : Ura M} (𝓛 : Logic 𝓤) (mem : Memory → SProp
 pub refine_first_spec : {M : Type 1} → f.Statement.statement M
 unfolding f.Code.routine tables_of
 refine_first_spec 𝓤 𝓛 𝓜 𝓡 =
-    walk_runs f.ended params 𝓛 𝓜 𝓡 (f.clauses 𝓛 𝓜.mem 𝓡.run) f.Code.env f.Key.name f.Code.function (f.Code.unfolded 𝓤 𝓛.H 𝓜 𝓡) (λ κs qs bounds a g are. needs 𝓤 (a.1.1.1.1.1.0 ≤ 16) _ (λ can.
+    walk_runs f.ended params 𝓛 𝓜 𝓡 (f.clauses 𝓛 𝓜.mem 𝓡.run) f.Code.env f.Key.name f.Code.function (f.Code.unfolded 𝓤 𝓛.H 𝓜 𝓡) (λ κs qs bounds a g are. rules 𝓤 (a.1.1.1.1.1.0 ≤ 16) _ (λ can.
     walk 𝓛 𝓜.mem 𝓡.run κs.0 κs.1.0 κs.1.1.0 qs.0 qs.1.0 qs.1.1.0 a.0 a.1.0 a.1.1.0 a.1.1.1.0 a.1.1.1.1.0 a.1.1.1.1.1.0 a.1.1.1.1.1.1.0
     (are.0, are.1.1.0) are.1.1.1.1.0 are.1.1.1.1.1.0 can (tables_of 𝓤 𝓛.H 𝓜 (tables 𝓤 𝓛.H 𝓜 𝓡 f.Code.env))
     (cited 𝓤 𝓛.H _ 𝓜 𝓡 f.Code.env callee.Symbol.name callee.Symbol.routine f.Code.calls-query::refine-ref (callee.Met.met 𝓤 𝓛 𝓜 𝓡)) are.1.0.0.1 are.1.1.1.0.0.1 are.1.1.1.1.1.1.0.0.1))

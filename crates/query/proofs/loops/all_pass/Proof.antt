@@ -3,7 +3,7 @@
 -- contract. Assumes nothing.
 use types.Logic.{Logic}
 use denote.Ref.{Bor}
-use Rattle.manual_proofs.proofs.Prelude.{◌≡◌, refl, sym, ◌∙◌, ℕ, ◌<◌, ◌^◌, Bool, true, false, List, [], ◌∷◌, ltb, lit<, length, Ura, full_share, named, ty_bool, w64, Val, vbool, vint, SProp, ent, id⊢, Lft, Share, GName, Fml, ftrue, fsep, flft, fat, Memory, Routine, Env, Tables, Wp, WpFn, after_block, after_seq, at_return, after_turn, Fun, tables, tables_of, Item, Sq, any_q, at_ret, runs, ‵, raw, ⋆, ◌$◌, ◌∵◌, !, qed, move, drop, group, use1, split, join, rewrite, fsplit, fjoin, suffices, frame, done, whole, sub, look_in, Below, look, store, init, forget, stop, hop, fld, from, load, lit, of_opd, bin, no_more, assigns, land, again, blocks, exec, first, leaves_loop, loops, goes_on, returns, enter, alloc1, alloc0, params1, pass1, pass0, free1, free0, fm_of, u32, bool, Is, shows, bool_Makes, RefT, now, slice_val, ShrSlice, Room, owned, nothing, Clauses, on_entry, cited, says, needs, ends_at, ◌+◌, ◌*◌, add-one-dec, arith, ◌&&◌, get_or, ty_ptr, vptr, look_raw, assigns_last, ltb-true, place_is, elem_out, elem_back, looks_slice, shuts_slice}
+use Rattle.manual_proofs.proofs.Prelude.{◌≡◌, refl, sym, ◌∙◌, ℕ, ◌<◌, ◌^◌, Bool, true, false, List, [], ◌∷◌, ltb, lit<, length, Ura, full_share, named, ty_bool, w64, Val, vbool, vint, SProp, ent, id⊢, Lft, Share, GName, Fml, ftrue, fsep, flft, fat, Memory, Routine, Env, Tables, Wp, WpFn, after_block, after_seq, at_return, after_turn, Fun, tables, tables_of, Item, Sq, any_q, at_ret, runs, ‵, raw, ⋆, ◌$◌, ◌∵◌, !, qed, move, drop, group, use1, split, join, rewrite, fsplit, fjoin, suffices, frame, done, whole, sub, look_in, Below, look, store, init, forget, stop, hop, fld, from, load, lit, of_opd, bin, no_more, assigns, land, again, blocks, exec, first, leaves_loop, loops, goes_on, returns, enter, alloc1, alloc0, params1, pass1, pass0, free1, free0, fm_of, u32, bool, Is, shows, bool_Makes, RefT, now, slice_val, ShrSlice, Room, owned, nothing, Clauses, on_entry, cited, says, rules, ends_at, ◌+◌, ◌*◌, add-one-dec, arith, ◌&&◌, get_or, ty_ptr, vptr, look_raw, assigns_last, ltb-true, place_is, elem_out, elem_back, looks_slice, shuts_slice}
 use Rattle.query.proofs.Prelude.{and_left, and_right, Constraint, Header, Test, RowNeeded, starts, passes, all_pass}
 use types.Kit as Kit
 use denote.Struct.Laws as LL
@@ -169,7 +169,7 @@ module _ {M : Type 1} {𝓤 : Ura M} (𝓛 : Logic 𝓤) (mem : Memory → SProp
 pub all_pass_spec : {M : Type 1} → f.Statement.statement M
 unfolding f.Code.routine tables_of
 all_pass_spec 𝓤 𝓛 𝓜 𝓡 =
-    walk_runs f.ended params 𝓛 𝓜 𝓡 (f.clauses 𝓛 𝓜.mem 𝓡.run) f.Code.env f.Key.name f.Code.function (f.Code.unfolded 𝓤 𝓛.H 𝓜 𝓡) (λ κs qs bounds a g are. needs 𝓤 (RowNeeded a.0 a.1.0 (length (now a.1.1.0))) _ (λ need.
+    walk_runs f.ended params 𝓛 𝓜 𝓡 (f.clauses 𝓛 𝓜.mem 𝓡.run) f.Code.env f.Key.name f.Code.function (f.Code.unfolded 𝓤 𝓛.H 𝓜 𝓡) (λ κs qs bounds a g are. rules 𝓤 (RowNeeded a.0 a.1.0 (length (now a.1.1.0))) _ (λ need.
     walk 𝓛 𝓜.mem 𝓡.run κs.0 κs.1.0 qs.0 qs.1.0 a.0 a.1.0 a.1.1.0 a.1.1.1.0.ref_ptr.0 a.1.1.1.0.ref_ptr.1 0 a.1.1.1.0.now
     are.0 are.1.0 need (tables_of 𝓤 𝓛.H 𝓜 (tables 𝓤 𝓛.H 𝓜 𝓡 f.Code.env))
     (cited 𝓤 𝓛.H _ 𝓜 𝓡 f.Code.env can.Symbol.name can.Symbol.routine f.Code.calls-query-scan::can-pass (can.Met.met 𝓤 𝓛 𝓜 𝓡))

@@ -1,5 +1,5 @@
 -- `query_spec::refusing::subset_refusal` meets its contract. Assumes nothing.
-use Rattle.query_spec.proofs.Prelude.{sym, ◌∙◌, needs, not-true, not-false}
+use Rattle.query_spec.proofs.Prelude.{sym, ◌∙◌, rules, not-true, not-false}
 use Rattle.query_spec.proofs.RefusingSteps.{refused_outside, refused_rows, refused_form, refused_past, refused_not}
 use Rattle.query_spec.proofs.refusing.subset_refusal.Statement.{statement}
 use Rattle.query_spec.proofs.refusing.subset_refusal.Tie as tie
@@ -23,8 +23,8 @@ pub subset_refusal_spec : {M : Type 1} → statement M
 subset_refusal_spec =
     tie.close
     (tie.spec
-    (λ c κs. search needs)
+    (λ c κs. search rules)
     (λ c. refused_outside _ _ _ (sym c.before.is-outside.ensures ∙ c.if1.true))
     (λ c κs. sym c.before.is-outside.ensures ∙ c.if1.false)
     (λ c. refused_rows _ _ _ (sym c.before.before.before.is-outside.ensures ∙ c.before.before.if1.false) (sym c.before.is-rows-short.ensures ∙ c.if2.true))
-    (λ c κs. search needs) returns_3 (λ c κs. search needs) returns_4 returns_5)
+    (λ c κs. search rules) returns_3 (λ c κs. search rules) returns_4 returns_5)

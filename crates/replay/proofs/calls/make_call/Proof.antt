@@ -1,5 +1,5 @@
 -- `replay::calls::make_call` meets its contract. Assumes nothing.
-use Rattle.replay.proofs.Prelude.{arith, call_merge, call_compact, call_clear, call_refresh, call_none, none_made, merging_made, compacting_made, clearing_made, index_made, needs}
+use Rattle.replay.proofs.Prelude.{arith, call_merge, call_compact, call_clear, call_refresh, call_none, none_made, merging_made, compacting_made, clearing_made, index_made, rules}
 use Rattle.replay.proofs.calls.make_call.Statement.{statement}
 use Rattle.replay.proofs.calls.make_call.Tie as tie
 
@@ -28,9 +28,9 @@ pub make_call_spec : {M : Type 1} → statement M
 make_call_spec =
     tie.close
     (tie.spec
-    (λ c κs. search needs) (λ c. search needs) returns (λ c κs. search needs) (λ c κs. search needs) (λ c. search needs)
-    (λ c. search needs) (λ c. search needs) (λ c. search needs) (λ c. search needs) (λ c. search needs) returns_2
-    (λ c κs. search needs) (λ c κs. search needs) (λ c. search needs) (λ c. search needs) (λ c. search needs) (λ c. search needs)
-    (λ c. search needs) returns_3 (λ c κs. search needs) (λ c κs. search needs) (λ c. search needs) returns_4
-    (λ c κs. search needs) (λ c. search needs) (λ c. search needs) (λ c. search needs) returns_5
+    (λ c κs. search rules) (λ c. search rules) returns (λ c κs. search rules) (λ c κs. search rules) (λ c. search rules)
+    (λ c. search rules) (λ c. search rules) (λ c. search rules) (λ c. search rules) (λ c. search rules) returns_2
+    (λ c κs. search rules) (λ c κs. search rules) (λ c. search rules) (λ c. search rules) (λ c. search rules) (λ c. search rules)
+    (λ c. search rules) returns_3 (λ c κs. search rules) (λ c κs. search rules) (λ c. search rules) returns_4
+    (λ c κs. search rules) (λ c. search rules) (λ c. search rules) (λ c. search rules) returns_5
     (λ c. none_made _ _ _ _ (call_none _ _ (omega (arith, c.if5.false, c.before.if4.false, c.before.before.if3.false, c.before.before.before.if2.false, c.before.before.before.before.if1.false)))))

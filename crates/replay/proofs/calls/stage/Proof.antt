@@ -1,5 +1,5 @@
 -- `replay::calls::stage` meets its contract. Assumes nothing.
-use Rattle.replay.proofs.Prelude.{◌∙◌, arith, call_insert, call_remove, call_row, row_none, row_some, nothing_staged, staging_made, needs}
+use Rattle.replay.proofs.Prelude.{◌∙◌, arith, call_insert, call_remove, call_row, row_none, row_some, nothing_staged, staging_made, rules}
 use Rattle.replay.proofs.calls.stage.Statement.{statement}
 use Rattle.replay.proofs.calls.stage.Tie as tie
 
@@ -15,10 +15,10 @@ pub stage_spec : {M : Type 1} → statement M
 stage_spec =
     tie.close
     (tie.spec
-    (λ c κs. search needs) (λ c κs. search needs) (λ c. search needs)
+    (λ c κs. search rules) (λ c κs. search rules) (λ c. search rules)
     (λ c. staging_made (call_insert _ _ c.before.before.before.before.before.if1.true) c.before.before.before.stage-insert.ensures c.header_after.ensures)
-    (λ c κs. search needs) (λ c κs. search needs) (λ c. search needs)
+    (λ c κs. search rules) (λ c κs. search rules) (λ c. search rules)
     (λ c. staging_made (call_remove _ _ c.before.before.before.before.before.if2.true) c.before.before.before.stage-remove.ensures c.header-after2.ensures)
     (λ c. nothing_staged (call_row _ _ (omega (arith, c.before.before.before.before.before.requires, c.before.if2.false, c.before.before.if1.false)) ∙ row_none _ c.if3.true))
-    (λ c. search needs) (λ c. search needs) (λ c. search needs) (λ c. search needs) (λ c κs. search needs) (λ c κs. search needs)
-    (λ c. search needs) returns_4)
+    (λ c. search rules) (λ c. search rules) (λ c. search rules) (λ c. search rules) (λ c κs. search rules) (λ c κs. search rules)
+    (λ c. search rules) returns_4)

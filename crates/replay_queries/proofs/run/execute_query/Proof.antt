@@ -1,5 +1,5 @@
 -- `replay_queries::run::execute_query` meets its contract. Assumes nothing.
-use Rattle.replay_queries.proofs.Prelude.{arith, execute_first, execute_second, execute_neither, needs}
+use Rattle.replay_queries.proofs.Prelude.{arith, execute_first, execute_second, execute_neither, rules}
 use Rattle.replay_queries.proofs.RunSteps.{inside_count, lent_count}
 use Rattle.replay_queries.proofs.run.execute_query.Statement.{statement}
 use Rattle.replay_queries.proofs.run.execute_query.Tie as tie
@@ -32,9 +32,9 @@ pub execute_query_spec : {M : Type 1} → statement M
 execute_query_spec =
     tie.close
     (tie.spec
-    (λ c. search needs) (λ c. let entry = c.before.before.before.before.before.before.before.before.before in inside_count entry.args.l.place entry.requires.0.1)
+    (λ c. search rules) (λ c. let entry = c.before.before.before.before.before.before.before.before.before in inside_count entry.args.l.place entry.requires.0.1)
     (λ c. let entry = c.before.before.before.before.before.before.before.before.before.before in lent_count _ _ (inside_count entry.args.l.place entry.requires.0.1))
-    (λ c κs. search needs) (λ c. search needs) (λ c. search needs) returns
+    (λ c κs. search rules) (λ c. search rules) (λ c. search rules) returns
     (λ c. let entry = c.before.before.before.before.before.before.before.before.before.before.before in let held = inside_count entry.args.l.place entry.requires.0.1 in omega (arith, held, entry.requires.1)) slice_aggregate_execute_2
-    (λ c κs. search needs) (λ c. search needs) (λ c. search needs) returns_2 (λ c κs. search needs) (λ c. search needs)
+    (λ c κs. search rules) (λ c. search rules) (λ c. search rules) returns_2 (λ c κs. search rules) (λ c. search rules)
     returns_3)

@@ -1,5 +1,5 @@
 -- `replay_queries::run::run_queries` meets its contract. Assumes nothing.
-use Rattle.replay_queries.proofs.Prelude.{refl, needs}
+use Rattle.replay_queries.proofs.Prelude.{refl, rules}
 use Rattle.replay_queries.proofs.RunSteps.{room_first, room_second, room_alike, made_within}
 use Rattle.replay_queries.proofs.run.run_queries.Statement.{statement}
 use Rattle.replay_queries.proofs.run.run_queries.Tie as tie
@@ -11,9 +11,9 @@ pub run_queries_spec : {M : Type 1} → statement M
 run_queries_spec =
     tie.close
     (tie.spec
-    (λ c κs. search needs) (λ c. search needs)
+    (λ c κs. search rules) (λ c. search rules)
     (λ c. let a = c.before.before.before.before.before.before.before.before.args in room_first _ a.first.now a.second.now c.before.smaller.ensures)
-    (λ c. search needs)
+    (λ c. search rules)
     (λ c. let a = c.before.before.before.before.before.before.before.before.before.args in room_second _ a.first.now a.second.now c.before.before.smaller.ensures)
     (λ c κs. let a = c.before.before.before.before.before.before.before.before.before.args in (refl, refl, refl, room_alike _ a.first.now a.second.now c.before.before.smaller.ensures))
-    (λ c. search needs) (λ c. search needs) returns)
+    (λ c. search rules) (λ c. search rules) returns)

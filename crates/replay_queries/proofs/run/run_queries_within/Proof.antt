@@ -1,6 +1,6 @@
 -- `replay_queries::run::run_queries_within` meets its contract. The loop's invariant: the remaining queries lead to the result of all of them.
 -- Assumes nothing.
-use Rattle.replay_queries.proofs.Prelude.{◌-◌, sym, ◌∙◌, arith, length, needs}
+use Rattle.replay_queries.proofs.Prelude.{◌-◌, sym, ◌∙◌, arith, length, rules}
 use Rattle.replay_frames.specs.inner.Lengths.{Whole}
 use Rattle.replay_queries.proofs.RunSteps.{Going, going_begin, going_again, going_end}
 use Rattle.replay_queries.proofs.run.run_queries_within.Statement.{statement}
@@ -20,11 +20,11 @@ run_queries_within_spec =
     (tie.spec
     invariant_loop decreases_loop
     (λ c. let p = c.before.before.before.before.before.before.requires in going_begin p.0 p.1 p.2 p.3)
-    (λ c κs. c.loop.invariant.inside) (λ c. search needs) (λ c. search needs)
+    (λ c κs. c.loop.invariant.inside) (λ c. search rules) (λ c. search rules)
     (λ c. c.before.before.before.loop.invariant.first_long)
     (λ c. c.before.before.before.loop.invariant.second_long)
     (λ c. going_end c.before.before.before.loop.invariant (rw c.enum_told.given.1 at c.before.before.frame_at.ensures))
-    (λ c. search needs)
+    (λ c. search rules)
     (λ c. omega (arith, framed c.before.before)) (λ c. omega (arith, framed c.before.before)) (λ c. omega (arith, framed c.before.before)) (λ c. omega (arith, framed c.before.before))
     (λ c. omega (arith, framed c.before.before)) (λ c. omega (arith, framed c.before.before)) (λ c. omega (arith, framed c.before.before))
     (λ c κs.

@@ -1,5 +1,5 @@
 -- `table::refusing::clear_refusal` meets its contract. Assumes nothing.
-use Rattle.table.proofs.Prelude.{sym, ◌∙◌, needs}
+use Rattle.table.proofs.Prelude.{sym, ◌∙◌, rules}
 use Rattle.table.proofs.RefusingSteps.{clear_outside, clear_short, clear_early, clear_empty, clear_last}
 use Rattle.table.proofs.refusing.clear_refusal.Statement.{statement}
 use Rattle.table.proofs.refusing.clear_refusal.Tie as tie
@@ -20,7 +20,7 @@ pub clear_refusal_spec : {M : Type 1} → statement M
 clear_refusal_spec =
     tie.close
     (tie.spec
-    (λ c κs. search needs)
+    (λ c κs. search rules)
     (λ c. clear_outside _ _ (sym c.before.is-outside.ensures ∙ c.if1.true))
     (λ c κs. (sym c.before.is-outside.ensures ∙ c.if1.false))
     returns_2 returns_3 returns_4

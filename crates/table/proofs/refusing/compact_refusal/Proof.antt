@@ -1,5 +1,5 @@
 -- `table::refusing::compact_refusal` meets its contract. Assumes nothing.
-use Rattle.table.proofs.Prelude.{sym, ◌∙◌, needs}
+use Rattle.table.proofs.Prelude.{sym, ◌∙◌, rules}
 use Rattle.table.proofs.RefusingSteps.{compact_outside, compact_stores, compact_words, compact_last, compact_none}
 use Rattle.table.proofs.refusing.compact_refusal.Statement.{statement}
 use Rattle.table.proofs.refusing.compact_refusal.Tie as tie
@@ -26,7 +26,7 @@ pub compact_refusal_spec : {M : Type 1} → statement M
 compact_refusal_spec =
     tie.close
     (tie.spec
-    (λ c κs. search needs)
+    (λ c κs. search rules)
     (λ c. compact_outside _ _ (sym c.before.is-outside.ensures ∙ c.if1.true))
     (λ c κs. (sym c.before.is-outside.ensures ∙ c.if1.false))
     returns_2

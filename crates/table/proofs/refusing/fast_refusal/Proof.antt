@@ -1,5 +1,5 @@
 -- `table::refusing::fast_refusal` meets its contract. Assumes nothing.
-use Rattle.table.proofs.Prelude.{sym, ◌∙◌, not-true, not-false, needs}
+use Rattle.table.proofs.Prelude.{sym, ◌∙◌, not-true, not-false, rules}
 use Rattle.table.proofs.RefusingSteps.{fast_outside, fast_short, fast_unknown, fast_none}
 use Rattle.table.proofs.refusing.fast_refusal.Statement.{statement}
 use Rattle.table.proofs.refusing.fast_refusal.Tie as tie
@@ -17,8 +17,8 @@ pub fast_refusal_spec : {M : Type 1} → statement M
 fast_refusal_spec =
     tie.close
     (tie.spec
-    (λ c κs. search needs)
+    (λ c κs. search rules)
     (λ c. fast_outside _ _ _ (sym c.before.is-outside.ensures ∙ c.if1.true))
     (λ c κs. (sym c.before.is-outside.ensures ∙ c.if1.false))
-    returns_2 (λ c κs. search needs) returns_3
+    returns_2 (λ c κs. search rules) returns_3
     returns_4)

@@ -1,5 +1,5 @@
 -- `table::refusing::is_stores_short` meets its contract. Assumes nothing.
-use Rattle.table.proofs.Prelude.{sym, ◌∙◌, needs}
+use Rattle.table.proofs.Prelude.{sym, ◌∙◌, rules}
 use Rattle.table.proofs.RefusingSteps.{stores_rows, stores_keys, stores_sorts}
 use Rattle.table.proofs.refusing.is_stores_short.Statement.{statement}
 use Rattle.table.proofs.refusing.is_stores_short.Tie as tie
@@ -14,7 +14,7 @@ pub is_stores_short_spec : {M : Type 1} → statement M
 is_stores_short_spec =
     tie.close
     (tie.spec
-    (λ c κs. search needs)
+    (λ c κs. search rules)
     (λ c. stores_rows _ _ (sym c.before.is-rows-short.ensures ∙ c.if1.true))
-    (λ c κs. search needs) returns_2 (λ c κs. search needs)
+    (λ c κs. search rules) returns_2 (λ c κs. search rules)
     returns_3)

@@ -1,5 +1,5 @@
 -- `table::refusing::lookup_refusal` meets its contract. Assumes nothing.
-use Rattle.table.proofs.Prelude.{sym, ◌∙◌, needs}
+use Rattle.table.proofs.Prelude.{sym, ◌∙◌, rules}
 use Rattle.table.proofs.RefusingSteps.{lookup_outside, lookup_rows, lookup_keys, lookup_width, lookup_none}
 use Rattle.table.proofs.refusing.lookup_refusal.Statement.{statement}
 use Rattle.table.proofs.refusing.lookup_refusal.Tie as tie
@@ -26,10 +26,10 @@ pub lookup_refusal_spec : {M : Type 1} → statement M
 lookup_refusal_spec =
     tie.close
     (tie.spec
-    (λ c κs. search needs)
+    (λ c κs. search rules)
     (λ c. lookup_outside _ _ _ _ (sym c.before.is-outside.ensures ∙ c.if1.true))
     (λ c κs. (sym c.before.is-outside.ensures ∙ c.if1.false))
     returns_2
     (λ c κs. (sym c.before.before.before.is-outside.ensures ∙ c.before.before.if1.false))
-    returns_3 (λ c. search needs) returns_4
+    returns_3 (λ c. search rules) returns_4
     returns_5)

@@ -1,5 +1,5 @@
 -- `table::refusing::merge_refusal` meets its contract. Assumes nothing.
-use Rattle.table.proofs.Prelude.{sym, ◌∙◌, lengths_of, needs}
+use Rattle.table.proofs.Prelude.{sym, ◌∙◌, lengths_of, rules}
 use Rattle.table.proofs.RefusingSteps.{sound_inside, merge_sound, merge_words, merge_none}
 use Rattle.table.proofs.refusing.merge_refusal.Statement.{statement}
 use Rattle.table.proofs.refusing.merge_refusal.Tie as tie
@@ -18,4 +18,4 @@ returns_3 c = merge_none _ _ (sym c.before.before.before.sound-refusal.ensures �
 
 pub merge_refusal_spec : {M : Type 1} → statement M
 merge_refusal_spec =
-    tie.close (tie.spec (λ c κs. search needs) returns is_words_short_requires returns_2 returns_3)
+    tie.close (tie.spec (λ c κs. search rules) returns is_words_short_requires returns_2 returns_3)

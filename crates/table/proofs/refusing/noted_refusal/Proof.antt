@@ -1,5 +1,5 @@
 -- `table::refusing::noted_refusal` meets its contract. Assumes nothing.
-use Rattle.table.proofs.Prelude.{sym, ◌∙◌, needs}
+use Rattle.table.proofs.Prelude.{sym, ◌∙◌, rules}
 use Rattle.table.proofs.RefusingSteps.{noted_outside, noted_other, noted_above, noted_none}
 use Rattle.table.proofs.refusing.noted_refusal.Statement.{statement}
 use Rattle.table.proofs.refusing.noted_refusal.Tie as tie
@@ -18,4 +18,4 @@ returns_4 c =
     c.before.before.if2.false c.if3.false
 
 pub noted_refusal_spec : {M : Type 1} → statement M
-noted_refusal_spec = tie.close (tie.spec (λ c κs. search needs) (λ c. noted_outside _ _ _ (sym c.before.is-outside.ensures ∙ c.if1.true)) returns_2 returns_3 returns_4)
+noted_refusal_spec = tie.close (tie.spec (λ c κs. search rules) (λ c. noted_outside _ _ _ (sym c.before.is-outside.ensures ∙ c.if1.true)) returns_2 returns_3 returns_4)

@@ -1,5 +1,5 @@
 -- `table::refusing::open_refusal` meets its contract. Assumes nothing.
-use Rattle.table.proofs.Prelude.{sym, ◌∙◌, not-true, not-false, needs}
+use Rattle.table.proofs.Prelude.{sym, ◌∙◌, not-true, not-false, rules}
 use Rattle.table.proofs.RefusingSteps.{open_outside, open_short, open_none}
 use Rattle.table.proofs.refusing.open_refusal.Statement.{statement}
 use Rattle.table.proofs.refusing.open_refusal.Tie as tie
@@ -12,4 +12,4 @@ returns_3 c = open_short _ _ c.before.before.before.before.requires (sym c.befor
 
 pub open_refusal_spec : {M : Type 1} → statement M
 open_refusal_spec =
-    tie.close (tie.spec (λ c κs. search needs) (λ c. open_outside _ _ c.before.before.requires (sym c.before.is-outside.ensures ∙ c.if1.true)) (λ c κs. (sym c.before.is-outside.ensures ∙ c.if1.false)) returns_2 returns_3)
+    tie.close (tie.spec (λ c κs. search rules) (λ c. open_outside _ _ c.before.before.requires (sym c.before.is-outside.ensures ∙ c.if1.true)) (λ c κs. (sym c.before.is-outside.ensures ∙ c.if1.false)) returns_2 returns_3)

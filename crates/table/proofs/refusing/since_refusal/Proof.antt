@@ -1,5 +1,5 @@
 -- `table::refusing::since_refusal` meets its contract. Assumes nothing.
-use Rattle.table.proofs.Prelude.{sym, ◌∙◌, needs}
+use Rattle.table.proofs.Prelude.{sym, ◌∙◌, rules}
 use Rattle.table.proofs.RefusingSteps.{since_outside, since_above, since_none}
 use Rattle.table.proofs.refusing.since_refusal.Statement.{statement}
 use Rattle.table.proofs.refusing.since_refusal.Tie as tie
@@ -11,4 +11,4 @@ returns_3 : tie.Need-returns-3
 returns_3 c = since_none _ _ (sym c.before.before.before.is-outside.ensures ∙ c.before.before.if1.false) c.if2.false
 
 pub since_refusal_spec : {M : Type 1} → statement M
-since_refusal_spec = tie.close (tie.spec (λ c κs. search needs) (λ c. since_outside _ _ (sym c.before.is-outside.ensures ∙ c.if1.true)) returns_2 returns_3)
+since_refusal_spec = tie.close (tie.spec (λ c κs. search rules) (λ c. since_outside _ _ (sym c.before.is-outside.ensures ∙ c.if1.true)) returns_2 returns_3)

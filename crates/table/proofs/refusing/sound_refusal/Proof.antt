@@ -1,5 +1,5 @@
 -- `table::refusing::sound_refusal` meets its contract. Assumes nothing.
-use Rattle.table.proofs.Prelude.{sym, ◌∙◌, needs}
+use Rattle.table.proofs.Prelude.{sym, ◌∙◌, rules}
 use Rattle.table.proofs.RefusingSteps.{inside_alone, sound_outside, sound_short, sound_none}
 use Rattle.table.proofs.refusing.sound_refusal.Statement.{statement}
 use Rattle.table.proofs.refusing.sound_refusal.Tie as tie
@@ -13,4 +13,4 @@ returns_3 c = sound_none _ _ (sym c.before.before.before.is-pending-outside.ensu
 pub sound_refusal_spec : {M : Type 1} → statement M
 sound_refusal_spec =
     tie.close
-    (tie.spec (λ c κs. search needs) (λ c. sound_outside _ _ _ _ _ (sym c.before.is-pending-outside.ensures ∙ c.if1.true)) (λ c κs. inside_alone _ _ (sym c.before.is-pending-outside.ensures ∙ c.if1.false)) returns_2 returns_3)
+    (tie.spec (λ c κs. search rules) (λ c. sound_outside _ _ _ _ _ (sym c.before.is-pending-outside.ensures ∙ c.if1.true)) (λ c κs. inside_alone _ _ (sym c.before.is-pending-outside.ensures ∙ c.if1.false)) returns_2 returns_3)
