@@ -23,7 +23,7 @@ pub const AT_LEAST: u32 = 5;
 // Kind 0: two columns are equal, `column` and `value`. Kinds 1 to 5: the cell of `column` is equal to, less than, greater than, at
 // most or at least `value`, unsigned. C callers pass arrays of this struct.
 #[repr(C)]
-#[derive(Drop)]
+#[derive(Clone, Copy)]
 pub struct Constraint {
     pub kind: u32,
     pub column: u32,

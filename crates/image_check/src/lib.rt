@@ -16,7 +16,7 @@ pub mod parse; // parse.rt: whether words are an image, and where its parts are
 pub const MOST_SLOTS: usize = 131072;
 
 // The layout of an image of a sound table, or the number that refuses the words.
-#[derive(Drop)]
+#[derive(Clone, Copy)]
 pub enum Decoding {
     Refused(u32),
     Sound(Layout),

@@ -24,7 +24,7 @@ const LAST_TEXT_BYTE: u32 = LAST_BYTE as u32;
 
 // The parts of an image: its header, its text's length in bytes, and where rows, sort entries and pending words begin. Each
 // part ends where the next begins; the checksum is at `end`.
-#[derive(Drop)]
+#[derive(Clone, Copy)]
 pub struct Layout {
     pub header: Header,
     pub text: u32,
@@ -34,7 +34,7 @@ pub struct Layout {
     pub end: usize,
 }
 
-#[derive(Drop)]
+#[derive(Clone, Copy)]
 pub enum Parsed {
     None,
     Image(Layout),

@@ -34,7 +34,7 @@ pub const TWO_BYTE_RANGE: u32 = 0x1_0000;
 pub const THREE_BYTE_RANGE: u32 = 0x100_0000;
 
 // How many words or bytes were written, or would be.
-#[derive(Drop)]
+#[derive(Clone, Copy)]
 pub enum LengthAnswer {
     Refused(u32),
     Length(u64),

@@ -15,7 +15,7 @@ use row_buffer::row_start;
 pub mod remove; // remove.rt: a row removed by backward-shift deletion
 
 // The parameters of a key index. `room` is the number of rows that the slots in use are sized for; there are twice as many slots.
-#[derive(Drop)]
+#[derive(Clone, Copy)]
 pub struct IndexShape {
     pub columns: u32,
     pub keys: u32,
@@ -24,7 +24,7 @@ pub struct IndexShape {
 }
 
 // The result of a lookup: no row, or a row and its slot.
-#[derive(Drop)]
+#[derive(Clone, Copy)]
 pub enum Found {
     None,
     At(u32, u32),

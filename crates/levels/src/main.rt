@@ -41,7 +41,7 @@ const BUFFER: usize = 169028;
 
 // Result of `advance`: how many bytes of the line are stored, whether the line is complete and must be answered, what was passed to
 // `write`, and whether this is the last step of the loop.
-#[derive(Drop)]
+#[derive(Clone, Copy)]
 struct LineProgress {
     input: Input,
     length: usize,
@@ -149,7 +149,7 @@ fn advance(
 }
 
 // State between two steps of the loop: the table, the input, the number of stored bytes of the line, the number of buffered bytes.
-#[derive(Drop)]
+#[derive(Clone, Copy)]
 struct State {
     header: Header,
     input: Input,
@@ -158,7 +158,7 @@ struct State {
 }
 
 // The state after a step, what the step passed to `write`, and whether it is the last step.
-#[derive(Drop)]
+#[derive(Clone, Copy)]
 struct StepDone {
     state: State,
     handed: WriteResult,
@@ -216,7 +216,7 @@ fn step(
 }
 
 // The state at the end of a run, and what was last passed to `write`.
-#[derive(Drop)]
+#[derive(Clone, Copy)]
 struct Ended {
     state: State,
     handed: WriteResult,

@@ -48,7 +48,7 @@ fn respond(
 }
 
 // The header after a line, and how many bytes the line prints.
-#[derive(Drop)]
+#[derive(Clone, Copy)]
 pub struct LineAnswer {
     pub header: Header,
     pub used: usize,

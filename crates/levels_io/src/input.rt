@@ -19,7 +19,7 @@ fn push(line: &mut [u8], length: usize, byte: u8) -> usize
 }
 
 // Result of `scan_chunk`: how many bytes of the line are stored, the offset after the bytes taken, and whether the line ended.
-#[derive(Drop)]
+#[derive(Clone, Copy)]
 struct ChunkScan {
     length: usize,
     next: usize,
@@ -56,7 +56,7 @@ fn scan_chunk(line: &mut [u8], length: usize, chunk: &[u8], from: usize, end: us
 
 // The input so far: the unread bytes of the chunk are those from `next` up to `end`; `got` is what the last read returned, and
 // `reads` how many reads are left. The fields are private, so that other crates get an `Input` only from the functions below.
-#[derive(Drop)]
+#[derive(Clone, Copy)]
 pub struct Input {
     next: usize,
     end: usize,
@@ -101,7 +101,7 @@ pub fn is_at_end(input: Input) -> bool
 }
 
 // Result of `take_line`: the input after it, how many bytes of the line are stored, and whether its newline was found.
-#[derive(Drop)]
+#[derive(Clone, Copy)]
 pub struct TakenLine {
     pub input: Input,
     pub length: usize,

@@ -6,7 +6,7 @@ use libc::{STDERR_FILENO, STDOUT_FILENO};
 
 // How many bytes were passed to `write`, and whether it wrote them all. The fields are private, so that other crates get a `WriteResult`
 // only from the functions below.
-#[derive(Drop)]
+#[derive(Clone, Copy)]
 pub struct WriteResult {
     count: usize,
     is_written: bool,

@@ -3,7 +3,7 @@
 
 use table::Header;
 
-#[derive(Drop)]
+#[derive(Clone, Copy)]
 pub enum Response {
     Nothing,
     Refused(u32),
@@ -19,7 +19,7 @@ pub enum Response {
 }
 
 // The response, and the header after the line.
-#[derive(Drop)]
+#[derive(Clone, Copy)]
 pub struct Served {
     pub header: Header,
     pub response: Response,

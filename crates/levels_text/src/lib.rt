@@ -14,14 +14,14 @@ pub const MOST_NUMBERS: usize = 59;
 const LONGEST: usize = 120;
 
 // A line: its letter and the count of its numbers, which are at the start of the lent numbers; or not a line of a valid form.
-#[derive(Drop)]
+#[derive(Clone, Copy)]
 pub enum Parsed {
     Wrong,
     Line(u8, usize),
 }
 
 // A decimal and the offset after it, or no decimal.
-#[derive(Drop)]
+#[derive(Clone, Copy)]
 pub enum Field {
     Wrong,
     Decimal(u32, usize),

@@ -16,21 +16,21 @@ use table::{Header, Largest};
 
 // The numbers are right; or the number at this place is not above the one before; or this is the lowest row number that is wrongly
 // present or wrongly absent.
-#[derive(Drop)]
+#[derive(Clone, Copy)]
 pub enum Verdict {
     Right,
     Misplaced(usize),
     Wrong(u32),
 }
 
-#[derive(Drop)]
+#[derive(Clone, Copy)]
 pub enum CheckAnswer {
     Refused(u32),
     Checked(Verdict),
 }
 
 // A row as its D line gives it, and the offset after the line. Cells past the listing's columns are not used.
-#[derive(Drop)]
+#[derive(Clone, Copy)]
 struct Row {
     number: u32,
     cells: [u32; 8],
@@ -40,7 +40,7 @@ struct Row {
 // The state of a merge scan of a listing's rows against the numbers given: the lines left, from `start` up to `end`, and the
 // numbers left, from `place` on. `answer` is the result unless a wrong number is still found. Once it is final, no line and no
 // number is left.
-#[derive(Drop)]
+#[derive(Clone, Copy)]
 struct CheckScan {
     answer: CheckAnswer,
     start: usize,
@@ -68,7 +68,7 @@ fn header_of(s: Survey) -> Header
 }
 
 // The place of the first number not above the one before, if there is one.
-#[derive(Drop)]
+#[derive(Clone, Copy)]
 enum FirstMisplaced {
     None,
     At(usize),

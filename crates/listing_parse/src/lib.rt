@@ -21,7 +21,7 @@ const WRONG: usize = 65537;
 pub const MOST_FIELDS: usize = 9;
 
 // A number and the offset after its digits.
-#[derive(Drop)]
+#[derive(Clone, Copy)]
 struct Number {
     value: u32,
     end: usize,
@@ -280,7 +280,7 @@ fn head_at(numbered: bool, text: &[u8], numbers: &mut [u32]) -> usize
 
 // Facts about a text of a form, known before its rows are read: the head's numbers with the row count, how many rows there are, and
 // where they begin.
-#[derive(Drop)]
+#[derive(Clone, Copy)]
 pub struct Survey {
     pub is_listing: bool,
     pub columns: u32,

@@ -38,7 +38,7 @@ fn write_rows(numbered: bool, columns: usize, text: &[u8], start: usize, output:
 }
 
 // The result of reading, in either form.
-#[derive(Drop)]
+#[derive(Clone, Copy)]
 enum ReadResult {
     Refused(u32),
     Found(Survey),

@@ -3,7 +3,7 @@
 
 
 // The numbers of a head line, and how many rows are listed.
-#[derive(Drop)]
+#[derive(Clone, Copy)]
 pub struct ListingHead {
     pub columns: u32,
     pub keys: u32,
@@ -13,14 +13,14 @@ pub struct ListingHead {
     pub listed: u32,
 }
 
-#[derive(Drop)]
+#[derive(Clone, Copy)]
 pub enum ListingAnswer {
     Refused(u32),
     Listing(ListingHead),
 }
 
 // The same in the new form. `count` is the row count, the last number of the head; at most `count` rows are listed.
-#[derive(Drop)]
+#[derive(Clone, Copy)]
 pub struct NumberedHead {
     pub columns: u32,
     pub keys: u32,
@@ -31,14 +31,14 @@ pub struct NumberedHead {
     pub listed: u32,
 }
 
-#[derive(Drop)]
+#[derive(Clone, Copy)]
 pub enum NumberedAnswer {
     Refused(u32),
     Listing(NumberedHead),
 }
 
 // The number of a refusal, or how many bytes were written.
-#[derive(Drop)]
+#[derive(Clone, Copy)]
 pub enum TextAnswer {
     Refused(u32),
     Written(usize),

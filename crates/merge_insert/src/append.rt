@@ -11,7 +11,7 @@ use table::refusing::is_old;
 use table::{Header, Largest, index_shape};
 
 // The result of an insert of a merge: no change, a row appended, or the merge stopped with a number.
-#[derive(Drop)]
+#[derive(Clone, Copy)]
 pub enum Insertion {
     Unchanged,
     Appended(Header),
@@ -19,7 +19,7 @@ pub enum Insertion {
 }
 
 // Whether a row can be appended: the number of a stop, or the number of sort entries including the row's.
-#[derive(Drop)]
+#[derive(Clone, Copy)]
 enum Admission {
     Stop(u32),
     Entries(u32),

@@ -14,7 +14,7 @@ mod append; // append.rt: one row appended
 mod row; // row.rt: one insert
 
 // The result of the passes over the pending records, before the compaction that may follow.
-#[derive(Drop)]
+#[derive(Clone, Copy)]
 pub struct MergeProgress {
     pub header: Header,
     pub status: u32,

@@ -16,7 +16,7 @@ pub mod search; // search.rt: binary search, and search by doubling strides
 
 // A borrowed subset's kind and two ends. Its list of ids is passed beside it. A dense subset ignores the list, a sparse one the
 // ends.
-#[derive(Drop)]
+#[derive(Clone, Copy)]
 pub struct SubsetHead {
     pub dense: bool,
     pub start: u32,
@@ -24,7 +24,7 @@ pub struct SubsetHead {
 }
 
 // A subset as an answer: refused with a number, a range, or the length of the list at the start of the lent output.
-#[derive(Drop)]
+#[derive(Clone, Copy)]
 pub enum SubsetAnswer {
     Refused(u32),
     Range(u32, u32),
@@ -154,7 +154,7 @@ pub fn size(head: SubsetHead, ids: &[u32]) -> usize
 }
 
 // The ends of a subset. The last id plus one may be 4,294,967,296, so they have 64 bits.
-#[derive(Drop)]
+#[derive(Clone, Copy)]
 pub enum BoundsAnswer {
     None,
     Ends(u64, u64),

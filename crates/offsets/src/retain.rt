@@ -8,7 +8,7 @@ use super::SubsetAnswer;
 
 // The answer of `retain` over a range while it is built: the first kept id, the number of kept ids, and the number of ids written.
 // No id is written while they are consecutive; afterwards all of them are. It has only numbers, which a loop holds in registers.
-#[derive(Drop)]
+#[derive(Clone, Copy)]
 pub struct RetainBuilder {
     pub start: u32,
     pub count: u32,

@@ -51,14 +51,14 @@ pub fn binary_search_by_id(ids: &[u32], target: u32) -> u32
 }
 
 // The position of the target, or the position to insert it at.
-#[derive(Drop)]
+#[derive(Clone, Copy)]
 pub enum Scan {
     Hit(u32),
     Next(u32),
 }
 
 // The result of the strides: the position of the target, or two positions between which it is.
-#[derive(Drop)]
+#[derive(Clone, Copy)]
 enum Reach {
     At(u32),
     Between(u32, u32),

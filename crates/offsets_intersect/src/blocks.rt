@@ -12,7 +12,7 @@ const BLOCK: usize = 4;
 const MAX_MISSES: usize = 16;
 
 // The progress of a merge: positions in both lists, and the number of ids written.
-#[derive(Drop)]
+#[derive(Clone, Copy)]
 struct MergeCursor {
     i: usize,
     o: usize,

@@ -13,7 +13,7 @@ use table::refusing::lookup_refusal;
 use table::{Header, index_shape};
 
 // Every row meets its pairs; or the lowest row that does not, and the place of the first pair that it fails.
-#[derive(Drop)]
+#[derive(Clone, Copy)]
 pub enum PrecedenceAnswer {
     Refused(u32),
     Met,

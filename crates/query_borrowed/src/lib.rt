@@ -11,7 +11,7 @@ use query_spec::{MatchAnswer, PageAnswer};
 use table::Header;
 
 // The kind of a subset, its two ends and the caller's list of ids. A dense subset ignores the list, a sparse one the ends.
-#[derive(Drop)]
+#[derive(Clone, Copy)]
 pub struct SubsetRef<'a> {
     pub dense: bool,
     pub start: u32,

@@ -25,7 +25,7 @@ use table::Header;
 // The state of a scan. It continues at place `next`, whose id is `id`, up to `end` or until `most` ids are kept. `dead` is the
 // number of visited ids whose rows are dead. A refused query has its number, and no places. All fields are plain numbers, which a
 // loop holds in registers.
-#[derive(Drop)]
+#[derive(Clone, Copy)]
 pub struct Scan {
     pub refused: u32,
     pub next: u32,
@@ -37,14 +37,14 @@ pub struct Scan {
 }
 
 // What conditions are tested for: that they are known, or that a row is live and meets them.
-#[derive(Drop)]
+#[derive(Clone, Copy)]
 pub enum Test {
     Known,
     Row(u32),
 }
 
 // A query over a subset. A page has its start place and the number of ids that it visits.
-#[derive(Drop)]
+#[derive(Clone, Copy)]
 pub enum QueryKind {
     Refine,
     Match,

@@ -6,28 +6,28 @@
 pub mod refusing; // refusing.rt: the refusals of each query
 
 // Whether a row matches.
-#[derive(Drop)]
+#[derive(Clone, Copy)]
 pub enum MatchAnswer {
     Refused(u32),
     Match(bool),
 }
 
 // The next place of a page, if any.
-#[derive(Drop)]
+#[derive(Clone, Copy)]
 pub enum NextPlace {
     None,
     At(u32),
 }
 
 // A page: how many ids were written, how many of those visited have a dead row, and the next place.
-#[derive(Drop)]
+#[derive(Clone, Copy)]
 pub struct Page {
     pub written: u32,
     pub dead: u32,
     pub next: NextPlace,
 }
 
-#[derive(Drop)]
+#[derive(Clone, Copy)]
 pub enum PageAnswer {
     Refused(u32),
     Page(Page),

@@ -4,13 +4,13 @@
 use table::Header;
 
 // The header after the refresh, and whether a row was staged.
-#[derive(Drop)]
+#[derive(Clone, Copy)]
 pub struct Refreshed {
     pub header: Header,
     pub staged: bool,
 }
 
-#[derive(Drop)]
+#[derive(Clone, Copy)]
 pub enum RefreshAnswer {
     Refused(u32),
     Refreshed(Refreshed),

@@ -10,7 +10,7 @@ pub const HEAD_WORDS: usize = 2;
 const COUNT_AT: usize = 1;
 
 // What begins at a place: no complete item, or an item of this many words, including its kind and count.
-#[derive(Drop)]
+#[derive(Clone, Copy)]
 pub enum Frame {
     None,
     Words(usize),

@@ -41,7 +41,7 @@ pub const SECOND_LIST: u32 = 2;
 
 // The ids left: a range, or the starting list, or the first ids of the first or second lent list; `place` is the list. Also whether
 // an accepted query refined, and how many queries were taken from the list, including refused ones.
-#[derive(Drop)]
+#[derive(Clone, Copy)]
 pub struct RunAnswer {
     pub dense: bool,
     pub start: u32,

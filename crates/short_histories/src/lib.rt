@@ -19,7 +19,7 @@ const LAST_STEP: u32 = STEPS - 1;
 
 const LONGEST: usize = 6;
 
-#[derive(Drop)]
+#[derive(Clone, Copy)]
 pub enum StepAnswer {
     Refused(u32),
     // key, stamp, third cell
@@ -28,13 +28,13 @@ pub enum StepAnswer {
     Merge,
 }
 
-#[derive(Drop)]
+#[derive(Clone, Copy)]
 pub enum PositionAnswer {
     Refused(u32),
     Position(u32),
 }
 
-#[derive(Drop)]
+#[derive(Clone, Copy)]
 pub enum SequenceAnswer {
     Refused(u32),
     None,

@@ -31,14 +31,14 @@ pub fn append_entry(sorts: &mut [u32], entries: u32, value: u32, row: u32) -> u3
 
 // The position of a value among the entries. `Found`: an entry has the value; the fields are its row and the next entry's row.
 // `Absent`: no entry has it; the field is the row of the first entry above it. The row of a missing entry is the row count.
-#[derive(Drop)]
+#[derive(Clone, Copy)]
 pub enum SearchResult {
     Found(u32, u32),
     Absent(u32),
 }
 
 // Rows from `start` on and below `end`.
-#[derive(Drop)]
+#[derive(Clone, Copy)]
 pub struct Range {
     pub start: u32,
     pub end: u32,

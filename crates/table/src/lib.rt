@@ -13,14 +13,14 @@ pub mod refusing; // refusing.rt: the refusals of each operation
 
 // The largest sort value appended since opening or the last clear that emptied rows, if there is one. No row with a smaller sort
 // value is appended.
-#[derive(Drop)]
+#[derive(Clone, Copy)]
 pub enum Largest {
     None,
     Value(u32),
 }
 
 // A table's numbers. Its stores are lent at each call.
-#[derive(Drop)]
+#[derive(Clone, Copy)]
 pub struct Header {
     pub columns: u32,
     pub keys: u32,
@@ -58,7 +58,7 @@ pub const HASH_AT: usize = 1;
 pub const ROW_AT: usize = 2;
 
 // The lengths of the stores that an operation is lent; 0 for a store that it is not lent.
-#[derive(Drop)]
+#[derive(Clone, Copy)]
 pub struct Lent {
     pub rows: usize,
     pub keys: usize,
@@ -69,7 +69,7 @@ pub struct Lent {
 }
 
 // Opening, the three stagings, compact and clear: the header after the call.
-#[derive(Drop)]
+#[derive(Clone, Copy)]
 pub enum TableAnswer {
     Refused(u32),
     Table(Header),
@@ -77,7 +77,7 @@ pub enum TableAnswer {
 
 // The result of a merge: the header, the stop's number and the place of its insert (both 0 if it did not stop), whether a row was
 // appended, and how many rows its own compaction kept and dropped (both 0 if there was none).
-#[derive(Drop)]
+#[derive(Clone, Copy)]
 pub struct Merge {
     pub header: Header,
     pub status: u32,
@@ -87,14 +87,14 @@ pub struct Merge {
     pub dropped: u32,
 }
 
-#[derive(Drop)]
+#[derive(Clone, Copy)]
 pub enum MergeAnswer {
     Refused(u32),
     Merged(Merge),
 }
 
 // Key lookup: the number of the key's live row.
-#[derive(Drop)]
+#[derive(Clone, Copy)]
 pub enum RowAnswer {
     Refused(u32),
     None,
@@ -102,7 +102,7 @@ pub enum RowAnswer {
 }
 
 // One cell of the key's live row.
-#[derive(Drop)]
+#[derive(Clone, Copy)]
 pub enum CellAnswer {
     Refused(u32),
     None,
@@ -110,27 +110,27 @@ pub enum CellAnswer {
 }
 
 // Fast range and rows since.
-#[derive(Drop)]
+#[derive(Clone, Copy)]
 pub enum RangeAnswer {
     Refused(u32),
     None,
     Range(u32, u32),
 }
 
-#[derive(Drop)]
+#[derive(Clone, Copy)]
 pub struct Version {
     pub generation: u32,
     pub rows: u32,
 }
 
-#[derive(Drop)]
+#[derive(Clone, Copy)]
 pub enum VersionAnswer {
     Refused(u32),
     Version(Version),
 }
 
 // The soundness check.
-#[derive(Drop)]
+#[derive(Clone, Copy)]
 pub enum SoundAnswer {
     Refused(u32),
     Sound(bool),

@@ -18,7 +18,7 @@ use table::refusing::compact_refusal;
 use table::{Header, Lent, TableAnswer, index_shape};
 
 // The numbers of rows and of sort entries that a compaction has kept so far.
-#[derive(Drop)]
+#[derive(Clone, Copy)]
 pub struct KeptCounts {
     pub rows: u32,
     pub entries: u32,

@@ -2,7 +2,7 @@
 use super::lines::{Answer, NOT_COMPARED, add_offset, part, read_line};
 
 // How many answers the list has, how many were compared, and how many agreed.
-#[derive(Drop)]
+#[derive(Clone, Copy)]
 pub struct Counts {
     pub answers: u64,
     pub compared: u64,
@@ -17,7 +17,7 @@ fn one_more(count: u64) -> u64 {
 }
 
 // The counts, and the offset after the answer's line.
-#[derive(Drop)]
+#[derive(Clone, Copy)]
 pub struct Comparison {
     pub counts: Counts,
     pub place: usize,

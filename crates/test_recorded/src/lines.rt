@@ -7,7 +7,7 @@ pub const NOT_COMPARED: u8 = b'?';
 
 // An answer: the header after it, the letter, its first numbers (`count` of them), and how many more are at the start of the lent
 // numbers.
-#[derive(Drop)]
+#[derive(Clone, Copy)]
 pub struct Answer {
     pub header: Header,
     pub letter: u8,
@@ -21,7 +21,7 @@ pub struct Answer {
 }
 
 // A line: its letter, how many numbers are at the start of the lent numbers, and the offset after the line's end.
-#[derive(Drop)]
+#[derive(Clone, Copy)]
 pub struct Line {
     pub letter: u8,
     pub count: usize,

@@ -18,7 +18,7 @@ fn constraint(numbers: &[u32], place: usize) -> Constraint {
 }
 
 // A subset in a line: its head, the offsets of its ids, and the offset after it.
-#[derive(Drop)]
+#[derive(Clone, Copy)]
 struct LineSubset {
     head: SubsetHead,
     from: usize,

@@ -23,7 +23,7 @@ fn serve(
 }
 
 // The table, the offset in the list, and the counts.
-#[derive(Drop)]
+#[derive(Clone, Copy)]
 pub struct State {
     pub header: Header,
     pub place: usize,

@@ -15,7 +15,7 @@ const MOST_COLUMNS: u32 = 8;
 // The number of rows in a block.
 const BLOCK: usize = 256;
 
-#[derive(Drop)]
+#[derive(Clone, Copy)]
 pub enum ColumnsAnswer {
     Refused(u32),
     Written,
