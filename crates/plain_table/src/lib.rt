@@ -1,3 +1,2 @@
 // The paper's plain table, in specs/. No functions.
 #![tactic(auto)]
-

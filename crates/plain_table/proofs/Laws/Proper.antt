@@ -318,7 +318,7 @@ after_proper {p} l c h =
 pub after_all_proper : {p : Plain} (cs : List LentCall) → Proper p → Proper (after_all p cs)
 unfolding after_all
 after_all_proper [] h = h
-after_all_proper (c ∷ cs) h = after_all_proper cs (after_proper c.lengths c.call h)
+after_all_proper {p = p} (c ∷ cs) h = after_all_proper {p = after p c.lengths c.call} cs (after_proper c.lengths c.call h)
 
 -- "every plain table that calls lead to from an opening"
 pub history_proper : (o : Opening) (generation : ℕ) (cs : List LentCall) → openable o ≡ true → generation ≤ 4294967295 → Proper (after_all (opened o generation) cs)

@@ -203,7 +203,7 @@ stamped_after {p} c s = elim (split (eqb (refusal p c.lengths c.call) 0)) [ inl 
 stamped_all : {p : Plain} {stamps : List ℕ} (cs : List LentCall) → Stamped p stamps → Stamped (after_all p cs) (stamps_since stamps p cs)
 unfolding after_all stamps_since
 stamped_all [] s = s
-stamped_all (c ∷ cs) s = stamped_all cs (stamped_after c s)
+stamped_all {p = p} {stamps = stamps} (c ∷ cs) s = stamped_all {p = after p c.lengths c.call} {stamps = stamps_after stamps p c} cs (stamped_after c s)
 
 -- after any list of calls from an opening
 pub stamped_history : (o : Opening) (generation : ℕ) (cs : List LentCall) → Stamped (after_all (opened o generation) cs) (stamps_since [] (opened o generation) cs)
