@@ -1,4 +1,5 @@
 -- `sort_entries::range_absent` meets its contract. Assumes nothing.
+use Rattle.std.proofs.Common.{rules}
 use mathlib.Core.Logic.{⊎_elim}
 use Rattle.sort_entries.specs.Laws.Positions.{range_at}
 use Rattle.sort_entries.proofs.LawsSearch.{absent_rest}
@@ -13,4 +14,4 @@ unfolding range_at
 returns-in-2 c = ⊎_elim (λ e. rw e) (λ e. rw e) c.in-2.is
 
 pub returns-in_default : goal.returns-in_default
-returns-in_default c = absent_rest _ _ _ c.in_default.rest.0.1 c.in_default.rest.1
+returns-in_default c = search (absent_rest, rules)

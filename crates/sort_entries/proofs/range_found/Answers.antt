@@ -1,4 +1,5 @@
 -- `sort_entries::range_found` meets its contract. Assumes nothing.
+use Rattle.std.proofs.Common.{arith}
 use borrow.Author.Tests.{ne_eqb}
 use Rattle.sort_entries.specs.Laws.Positions.{range_at}
 use Rattle.sort_entries.proofs.range_found.Goals as goal
@@ -21,4 +22,4 @@ returns-in-4 c = rw c.in-4.is
 
 pub returns-in_default : goal.returns-in_default
 unfolding range_at
-returns-in_default c = rw (ne_eqb _ _ c.in_default.rest.0.0.0.1, ne_eqb _ _ c.in_default.rest.0.0.1, ne_eqb _ _ c.in_default.rest.0.1, ne_eqb _ _ c.in_default.rest.1)
+returns-in_default c = grind (arith, ne_eqb)
