@@ -1,4 +1,4 @@
--- The ways through `row_at` and `row_fits_lem`. Assumes nothing.
+-- The ways through `row_at` and `row_fits`. Assumes nothing.
 use Rattle.listing_parse.proofs.Prelude.{ℕ, suc, ◌+◌, ◌-◌, ◌≤◌, ◌<◌, ◌≡◌, sym, ap, ◌∙◌, Bool, true, false, not, ◌&&◌, and-true, and-false, List, ◌∷◌, arith, length, take, drop, get_or, length-drop, ne_eqb, eq-eqb, le-leb, lt-leb, ltb, eqb, get_or-take, numbers, joined_pieces, pieces_some, good_more, no_row, rows_more, line_from, Found, LineAt, RowAt}
 use Rattle.listing_spec.specs.Listings.{prefix_width}
 use Rattle.listing_spec.specs.inner.Checking.{pieces, begins, row_fits, rows_good}
