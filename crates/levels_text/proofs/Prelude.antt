@@ -1,5 +1,5 @@
 -- The names that the proofs of this crate take from the logic, re-exported. It defines nothing of its own.
-pub use Prim.Native.Nat.{ℕ, suc, ◌+◌, ◌-◌, ◌*◌, ◌≤◌, ◌<◌}
+pub use Prim.Native.Nat.{ℕ, ◌+◌, ◌-◌, ◌*◌, ◌≤◌, ◌<◌}
 pub use mathlib.Core.Path.{◌≡◌, refl, sym, ap, ◌∙◌}
 pub use native.Mathlib.Omega.{arith}
 pub use lib.ListN.{length, drop, get_or, take, set, length-set, length-take}
@@ -8,7 +8,7 @@ pub use Rattle.levels_text.specs.declared.Field.TheVariants.{Decimal, Wrong}
 pub use Rattle.levels_text.specs.declared.Field.{Field}
 pub use mathlib.Core.List.{List, [], ◌++◌, ◌∷◌, append_assoc, append-nil, map}
 pub use Rattle.levels_text.specs.inner.Appending.{Numbering, Putting, appended_line, appended_number, appended_numbered, appended_one, line_wrote, numbering_again, numbering_begin, numbering_end, numbering_next, putting_again, putting_begin, putting_end}
-pub use mathlib.Core.Bool.{◌&&◌, and-false, false, true}
+pub use mathlib.Core.Bool.{◌&&◌, false, true}
 pub use native.Mathlib.Numerals.{add-one}
 pub use Rattle.levels_text.specs.Laws.Lines.{bare_last, comma_first, first_at_comma, first_end, no_bytes, too_long}
 pub use borrow.Author.Tests.{eqb-false, eqb-true, leb-false, leb-true, ne_eqb}
@@ -18,5 +18,5 @@ pub use Rattle.levels_text.specs.inner.Reading.{parsed_no_line, parsed_right, pa
 pub use Rattle.lists.specs.Laws.Search.{put_more}
 pub use Rattle.lists.specs.Laws.Parts.{splice_nil}
 pub use lib.Seq.{take-suc-set}
-pub use mathlib.Core.Logic.{inl, inr, ⊎_elim}
+pub use mathlib.Core.Logic.{inl, inr}
 pub use Rattle.lists.specs.Laws.Filter.{split}
