@@ -1,0 +1,34 @@
+use Rattle.key_index.proofs.Prelude.{◌≤◌, arith, rows_in_lem}
+use Rattle.key_index.proofs.ScanSteps.{begin, on}
+use Rattle.key_index.proofs.FindSteps.{Past, leads_some, found_free, found_round, found_row}
+use Rattle.key_index.proofs.find.Goals.{Start}
+use Rattle.key_index.proofs.find.Goals as goal
+
+few : (s : Start) → s.args.t.rows ≤ 65536
+few s = omega (arith, s.requires)
+
+pub loop-passed-init : goal.loop-passed-init
+loop-passed-init c = begin _ _ _ _ _ c.home_slot-at.ensures.value c.home_slot-at.ensures.upper_bound
+
+pub returns-then-word-eq0 : goal.returns-then-word-eq0
+returns-then-word-eq0 c = let l = c.loop-passed in found_free _ _ _ _ _ (few (goal.at.returns-then-word-eq0 c).Start) l.at l.passed l.invariant c.if-word-eq0.true
+
+pub is_hit-requires : goal.is_hit-requires
+is_hit-requires c = let p = c.requires in (rows_in_lem _ _ _ p.0, p.1)
+
+pub overflow_sub-row : goal.overflow_sub-row
+overflow_sub-row c = omega (arith, leads_some _ _ _ _ _ _ (few (goal.at.overflow_sub-row c).Start) (c.is_hit.ensures.yes c.if-is_hit.true))
+
+pub returns-then-is_hit : goal.returns-then-is_hit
+returns-then-is_hit c =
+    let l = c.loop-passed in
+    found_row _ _ _ _ _ (few (goal.at.returns-then-is_hit c).Start) l.at l.passed _ l.invariant (c.is_hit.ensures.yes c.if-is_hit.true) (omega arith)
+
+pub loop-passed-preserved : goal.loop-passed-preserved
+loop-passed-preserved c =
+    let l = c.loop-passed in
+    let p : Past _ _ _ _ _ = record { other = c.is_hit.ensures.no c.if-is_hit.false } in
+    on _ _ _ _ l.at l.passed _ l.invariant c.loop-passed-test.true p c.next_slot-at.ensures.value
+
+pub returns : goal.returns
+returns c = let l = c.loop-passed in found_round _ _ _ _ _ (few (goal.at.returns c).Start) l.at l.passed l.invariant c.loop-passed-test.false

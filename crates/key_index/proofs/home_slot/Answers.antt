@@ -1,0 +1,18 @@
+-- `key_index::home_slot` meets its contract. Assumes nothing.
+use Rattle.key_index.proofs.Prelude.{◌≤◌, refl, mul-le-mul, arith, rules, home_slot_below}
+use Rattle.key_index.specs.inner.Ring.{home_slot}
+use Rattle.key_index.proofs.home_slot.Goals as goal
+
+pub overflow_mul-result : goal.overflow_mul-result
+overflow_mul-result c =
+    let h : c.args.hash ≤ 4294967295 = search rules in
+    let k : c.args.slots ≤ 4294967295 = search rules in
+    record { fits = omega (arith, mul-le-mul h k) }
+
+pub overflow_cast-result-3 : goal.overflow_cast-result-3
+unfolding home_slot
+overflow_cast-result-3 c = omega (arith, home_slot_below c.args.slots c.args.hash c.requires c.ranges.hash.fits)
+
+pub returns : goal.returns
+unfolding home_slot
+returns c = record { value = refl; upper_bound = home_slot_below c.args.slots c.args.hash c.requires c.ranges.hash.fits }
