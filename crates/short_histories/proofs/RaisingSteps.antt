@@ -1,5 +1,5 @@
 -- The odometer: the steps of its loops, and the law that the sequence it gives is at the next position. Assumes nothing.
-use Rattle.short_histories.proofs.Prelude.{ℕ, zero, suc, ◌+◌, ◌-◌, ◌≤◌, ◌<◌, ◌≡◌, ◌≢◌, refl, sym, ap, ◌∙◌, Bool, true, false, not, List, [], ◌∷◌, ◌++◌, append-nil, dec_lt, arith, length, take, drop, get_or, set, replicate, length-append, length-replicate, length-take-le, take-append-drop, List·getD-append, get_or-append-add, get_or_at, get_or-take, append_snoc, drop-cons, drop-length, take-length, take-suc, copy_step, ltb, ltb-true, lt-ltb, not-false, all_append, all_cons, all_get_d, all_of, Steps, number, number_more, number_none, number_short, known, position_of, sequence_at, known_of, known_steps, position_below, position_number, sequence_at_position_of, next_none, next_written, sequence_no_room, sequence_written}
+use Rattle.short_histories.proofs.Prelude.{ℕ, zero, suc, ◌+◌, ◌-◌, ◌≤◌, ◌<◌, ◌≡◌, ◌≢◌, refl, sym, ap, ◌∙◌, Bool, true, List, [], ◌∷◌, ◌++◌, append-nil, dec_lt, arith, length, take, drop, get_or, set, replicate, length-append, length-replicate, length-take-le, take-append-drop, List·getD-append, get_or-append-add, get_or_at, get_or-take, append_snoc, drop-cons, drop-length, take-length, take-suc, copy_step, ltb, ltb-true, lt-ltb, all_append, all_cons, all_get_d, all_of, Steps, number, number_more, number_none, number_short, known, position_of, sequence_at, known_of, known_steps, position_below, position_number, sequence_at_position_of, next_none, next_written, sequence_no_room, sequence_written}
 use Rattle.lists.specs.Lists.{splice}
 use Rattle.short_histories.specs.declared.SequenceAnswer.TheVariants.{Refused, None, Written}
 use Rattle.short_histories.specs.Sequences.{NextFound}
@@ -117,8 +117,8 @@ raised_steps s (suc last) e r =
     all_append (λ step. ltb step 7) (take last s) _ (every_take s last (known_steps s e))
     (all_cons (λ step. ltb step 7) (get_or s last 0 + 1) _ (lt-ltb (get_or s last 0 + 1) 7 (omega arith)) (zeros_steps (length s - suc last)))
 
-pub to_raise : {s : List ℕ} {end : ℕ} {r : Bool} → r ≡ known s → not r ≡ false → RaisedEnd s end → ToRaise s end
-to_raise e f ended = record { is_known = sym e ∙ not-false _ f; ended = ended }
+pub to_raise : {s : List ℕ} {end : ℕ} {r : Bool} → r ≡ known s → r ≡ true → RaisedEnd s end → ToRaise s end
+to_raise e f ended = record { is_known = sym e ∙ f; ended = ended }
 
 module _ (s : List ℕ) (end : ℕ) (t : ToRaise s end) where
   next_number : number (raised s end) ≡ suc (position_of s)
