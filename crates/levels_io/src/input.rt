@@ -2,9 +2,9 @@
 ghost use Rattle.std.specs.Prelude.{◌-◌, ◌≤◌, ◌<◌, ◌≡◌, [], ◌∷◌, length as len, take, drop};
 ghost use Rattle.levels_io.specs.Input.{bytes_read, unread};
 ghost use Rattle.levels_io.specs.inner.Scanning.{Pushed, Scanned, InputIn};
-ghost use Rattle.levels_io.specs.inner.Taking.{Refilled, EndTested, LineTaken};
+ghost use Rattle.levels_io.specs.inner.Taking.{Moved, Refilled, EndTested, LineTaken};
 
-use libc::STDIN_FILENO;
+use std::io::{Read, Stdin};
 
 // Stores one more byte of the line, if there is room. Returns the new length.
 fn push(line: &mut [u8], length: usize, byte: u8) -> usize
@@ -64,13 +64,23 @@ pub struct Input {
     reads: u64,
 }
 
+// Makes one read. Returns how many bytes it stored at the start of the chunk, or -1 if it failed.
+fn read(mut stdin: Stdin, chunk: &mut [u8]) -> isize
+    ensures { Moved (len chunk.old) result }
+{
+    match stdin.read(chunk) {
+        Ok(count) => count as isize,
+        Err(_) => -1,
+    }
+}
+
 // Makes one read, after all bytes of the chunk are taken.
-pub fn refill(chunk: &mut [u8], input: Input) -> Input
+pub fn refill(stdin: Stdin, chunk: &mut [u8], input: Input) -> Input
     requires end_le_next { input.end ≤ input.next }
     requires reads_nonzero { 0 < input.reads }
     ensures { Refilled (unread chunk.old input) input.reads chunk.new result }
 {
-    let got = libc::read(STDIN_FILENO, chunk);
+    let got = read(stdin, chunk);
     Input {
         next: 0,
         end: io::count(got, chunk),
@@ -80,7 +90,7 @@ pub fn refill(chunk: &mut [u8], input: Input) -> Input
 }
 
 // Makes the first of at most 2^64 - 1 reads. Nothing guarantees that the input ends, so the reads are counted down.
-pub fn first_read(chunk: &mut [u8]) -> Input
+pub fn first_read(stdin: Stdin, chunk: &mut [u8]) -> Input
     ensures { Refilled [] 18446744073709551615 chunk.new result }
 {
     let none = Input {
@@ -89,7 +99,7 @@ pub fn first_read(chunk: &mut [u8]) -> Input
         got: 0,
         reads: u64::MAX,
     };
-    refill(chunk, none)
+    refill(stdin, chunk, none)
 }
 
 // True if the last read returned no byte, or no read is left.

@@ -2,7 +2,7 @@
 ghost use Rattle.std.specs.Prelude.{◌≡◌, true, ◌≤◌, length};
 ghost use Rattle.levels_io.specs.inner.Flushing.{RoomMade};
 
-use libc::{STDERR_FILENO, STDOUT_FILENO};
+use std::io::{Print, Stderr, Stdout};
 
 // How many bytes were passed to `write`, and whether it wrote them all. The fields are private, so that other crates get a `WriteResult`
 // only from the functions below.
@@ -13,10 +13,10 @@ pub struct WriteResult {
 }
 
 // Passes all of the bytes to `write`.
-fn write_bytes(bytes: &[u8]) -> WriteResult
+fn write_bytes(stdout: Stdout, bytes: &[u8]) -> WriteResult
     ensures { result.count ≡ length bytes.now }
 {
-    let is_written = io::write_all(STDOUT_FILENO, bytes);
+    let is_written = stdout.write_all(bytes).is_ok();
     WriteResult {
         count: bytes.len(),
         is_written: is_written,
@@ -24,20 +24,20 @@ fn write_bytes(bytes: &[u8]) -> WriteResult
 }
 
 // Writes the buffered bytes: the first `used` of the text.
-pub fn flush(text: &[u8], used: usize) -> WriteResult
+pub fn flush(stdout: Stdout, text: &[u8], used: usize) -> WriteResult
     requires { used ≤ length text.now }
     ensures { result.count ≡ used }
 {
-    write_bytes(&text[..used])
+    write_bytes(stdout, &text[..used])
 }
 
 // Writes the buffered bytes if fewer than `room` bytes of the text are free; otherwise does nothing.
-pub fn make_room(text: &[u8], used: usize, room: usize) -> WriteResult
+pub fn make_room(stdout: Stdout, text: &[u8], used: usize, room: usize) -> WriteResult
     requires { used ≤ length text.now }
     ensures { RoomMade (length text.now) used room result }
 {
     if text.len() - used < room {
-        return flush(text, used);
+        return flush(stdout, text, used);
     }
     no_write()
 }
@@ -66,6 +66,6 @@ pub fn is_written(handed: WriteResult) -> bool
 }
 
 // Prints the only line that the program writes to standard error.
-pub fn report_failure() {
-    io::write_all(STDERR_FILENO, b"levels: write failed\n");
+pub fn report_failure(stderr: Stderr) {
+    let _ = stderr.write_all(b"levels: write failed\n");
 }

@@ -4,7 +4,6 @@ use Rattle.std.specs.Prelude.{ℕ, suc, ◌+◌, ◌-◌, ◌≤◌, ◌<◌, �
 use Rattle.std.proofs.Common.{sym, ap, ◌∙◌, inl, inr, append-nil, arith, length-append, length-take, length-drop, drop-drop, eq-eqb, ne_eqb, eqb-true}
 use Rattle.std.proofs.lemmas.Bool.{false≢true, eqb-false}
 use Rattle.io.specs.Counts.{clamp_len}
-use Rattle.libc.specs.Io.{Moved}
 use Rattle.lists.specs.Lists.{elem}
 use Rattle.lists.specs.Laws.Filter.{split}
 use Rattle.lists.specs.Laws.Parts.{take_drop}
@@ -14,6 +13,11 @@ use Rattle.levels_io.specs.declared.input.ChunkScan.{ChunkScan}
 use Rattle.levels_io.specs.declared.input.TakenLine.{TakenLine}
 use Rattle.levels_io.specs.Input.{bytes_read, unread, AtEnd, LineSoFar}
 use Rattle.levels_io.specs.inner.Scanning.{before_newline, Scanned, take_in, left, left_none, InputIn}
+
+-- what a read of at most n bytes returns: how many it stored, or -1
+abbrev pub Moved : ℕ → ℤ → Type 0
+Moved most (pos count) = count ≤ most
+Moved most (negsuc error) = error ≡ 0
 
 -- One of the remaining reads is made. The bytes before are followed by the first bytes of the chunk after the read, as many as it
 -- returned.
