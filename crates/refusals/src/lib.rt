@@ -1,7 +1,6 @@
 // The numbers of refusals and stops, as the papers give them; from 19 on ours. An operation gives the first that applies.
 #![tactic(auto)]
 
-
 // Nothing is refused.
 pub const ACCEPTED: u32 = 0;
 
