@@ -2,20 +2,20 @@
 pub use Prim.Native.Nat.{ℕ, ◌*◌, ◌/◌, ◌≤◌, ◌<◌, ◌+◌, ◌-◌, zero, suc, min, max}
 pub use mathlib.Core.Bool.{Bool, true, false, true≢false, ◌&&◌, not, false≢true}
 pub use mathlib.Core.List.{List, [], ◌∷◌, ◌++◌, append_assoc, append-nil}
-pub use mathlib.Core.Logic.{inl, inr, ⊎_elim}
+pub use mathlib.Core.Logic.{◌⊎◌, inl, inr}
 pub use mathlib.Core.Path.{◌≡◌, sym, ◌∙◌, refl, ap, ap₂}
 pub use native.Mathlib.Decide.{dec_lt}
 pub use native.Mathlib.Numerals.{add-one}
 pub use native.Mathlib.Omega.{arith}
 pub use lib.Dec.{leb, eqb}
 pub use lib.ListN.{length, take, drop, get_or, set, length-drop, length-set, length-take, take-append-drop, drop_of_length-le}
-pub use lib.Seq.{take-suc, take_all, length-take-le, drop-cons, drop-drop, get_or-take, get_or-drop}
+pub use lib.Seq.{length-take-le, drop-cons, drop-drop, get_or-take, get_or-drop}
 pub use borrow.Author.Rules.{rules}
-pub use borrow.Author.Tests.{le-leb, lt-leb, not-true, eqb-false, ltb-true, ltb-false, not-false}
+pub use borrow.Author.Tests.{le-leb, lt-leb, not-true, eqb-false}
 pub use Rattle.lists.specs.Laws.Filter.{split, and_left, and_right, length_filter, count_le, filter_append, filter_yes}
 pub use Rattle.lists.specs.Laws.Parts.{splice_nil, splice_alike, set_splice, front_splice, drop_splice}
 pub use Rattle.lists.specs.Laws.Rising.{rising_at, filter_elem_comm, rising_drop, elem_at}
-pub use Rattle.lists.specs.Laws.Search.{not_below_le, not_below_past, not_below_mono, elem_not_below, elem_in_not_below, filter_within_places, put_more, filter_all_fail, not_below_below}
+pub use Rattle.lists.specs.Laws.Search.{not_below_le, not_below_past, not_below_mono, elem_not_below, elem_in_not_below, filter_within_places, filter_all_fail, not_below_below}
 pub use Rattle.lists.specs.Lists.{splice, rising, within}
 unfoldable pub use Rattle.lists.specs.Lists.{filter, elem}
 pub use Rattle.offsets.specs.Answers.{subset_of, Answered, intersect_refusal}

@@ -1,32 +1,26 @@
 -- Lists of similar length: the two halves of the test. Assumes nothing.
-use Rattle.offsets_intersect.proofs.Prelude.{ℕ, ◌*◌, ◌/◌, ◌≤◌, ◌<◌, ◌≡◌, sym, ◌∙◌, inl, inr, Bool, true, false, true≢false, ◌&&◌, dec_lt, arith, leb, le-leb, lt-leb, split, similar, MuchLonger}
+use Rattle.offsets_intersect.proofs.Prelude.{ℕ, ◌*◌, ◌/◌, ◌≤◌, ◌<◌, ◌≡◌, sym, ◌∙◌, ◌⊎◌, inl, inr, true, false, true≢false, ◌&&◌, dec_lt, arith, leb, le-leb, lt-leb, split, similar, MuchLonger}
 
 module _ (a b : ℕ) where
-  pub half_yes : (r : Bool) → a ≤ 16 → r ≡ leb b 16 → r ≡ (leb a 16 && leb b 16)
-  half_yes r h e = rw (le-leb a 16 h) e
+  -- not both are short
+  not_few : (a ≤ 16 × 16 < b) ⊎ (16 < a) → (leb a 16 && leb b 16) ≡ false
+  not_few h = elim h [ inl p ↦ rw (le-leb a 16 p.0, lt-leb b 16 p.1) | inr l ↦ rw (lt-leb a 16 l) ]
 
-  pub half_no : (r : Bool) → 16 < a → r ≡ leb a 16 → r ≡ (leb a 16 && leb b 16)
-  half_no r h e = e ∙ rw (lt-leb a 16 h)
-
-  pub similar_short : (r : Bool) → r ≡ (leb a 16 && leb b 16) → r ≡ true → r ≡ similar a b
+  pub similar_both : a ≤ 16 → b ≤ 16 → similar a b ≡ true
   unfolding similar
-  similar_short r e q = let z : (leb a 16 && leb b 16) ≡ true = sym e ∙ q in rw z q
+  similar_both h k = rw (le-leb a 16 h, le-leb b 16 k)
 
-  pub similar_upper : (r : Bool) → r ≡ (leb a 16 && leb b 16) → r ≡ false → a / 4 ≤ b → leb b (a * 4) ≡ similar a b
+  pub similar_upper : (a ≤ 16 × 16 < b) ⊎ (16 < a) → a / 4 ≤ b → leb b (a * 4) ≡ similar a b
   unfolding similar
-  similar_upper r e q h = let z : (leb a 16 && leb b 16) ≡ false = sym e ∙ q in rw (z, le-leb (a / 4) b h)
+  similar_upper e h = rw (not_few e, le-leb (a / 4) b h)
 
-  pub similar_not : (r : Bool) → r ≡ (leb a 16 && leb b 16) → r ≡ false → b < a / 4 → leb (a / 4) b ≡ similar a b
+  pub similar_not : (a ≤ 16 × 16 < b) ⊎ (16 < a) → b < a / 4 → leb (a / 4) b ≡ similar a b
   unfolding similar
-  similar_not r e q h = let z : (leb a 16 && leb b 16) ≡ false = sym e ∙ q in rw (z, lt-leb (a / 4) b h)
+  similar_not e h = rw (not_few e, lt-leb (a / 4) b h)
 
   similar_near : a / 4 ≤ b → b ≤ a * 4 → similar a b ≡ true
   unfolding similar
   similar_near h k = elim (split (leb a 16 && leb b 16)) [ inl e ↦ rw e | inr e ↦ rw (e, le-leb (a / 4) b h, le-leb b (a * 4) k) ]
-
-  similar_both : a ≤ 16 → b ≤ 16 → similar a b ≡ true
-  unfolding similar
-  similar_both h k = rw (le-leb a 16 h, le-leb b 16 k)
 
   -- lists of different length: the longer one is much longer
   module _ (e : similar a b ≡ false) where

@@ -1,0 +1,16 @@
+-- `offsets_intersect::intersect_ranges` meets its contract. Assumes nothing.
+use Rattle.offsets_intersect.proofs.Prelude.{◌∙◌, ap₂, max, Range}
+use Rattle.offsets_intersect.proofs.Answers.{ranges_first, ranges_second, ranges_answered}
+use Rattle.offsets_intersect.proofs.intersect_ranges.Goals as goal
+
+pub returns-then-b-a : goal.returns-then-b-a
+returns-then-b-a c = λ output. ranges_first _ _ _ _ output c.if-b-a.true
+
+pub returns-then-d-c : goal.returns-then-d-c
+returns-then-d-c c = λ output. ranges_second _ _ _ _ output c.if-b-a.false c.if-d-c.true
+
+pub returns : goal.returns
+returns c = λ output.
+    let s = c.larger-start.ensures in
+    let e = c.smaller-end.ensures in
+    rw (ap₂ Range s (c.larger.ensures ∙ ap₂ max s e)) (ranges_answered _ _ _ _ output c.if-b-a.false c.if-d-c.false)
