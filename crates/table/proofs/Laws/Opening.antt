@@ -1,6 +1,6 @@
 -- An opening and a clear: afterwards the stores show the empty plain table, or the same table without staged records. Assumes
 -- nothing.
-use Rattle.table.proofs.Laws.Prelude.{ℕ, zero, suc, ◌+◌, ◌*◌, ◌≤◌, ◌<◌, ◌≡◌, refl, sym, ap, ◌∙◌, ⊎_elim, true, false, List, [], ℕ_discrete, arith, length, length-replicate, lt-ltb, le-ltb, not-false, length_splice, some_number, zeros, EmptyIs, size_class_for, emptied, empty_sound, size_class_most, past_size_class, first_refusal_no, first_refusal_rest, opened_proper, unstaged_proper, Header, clear_refusal, Stores, stores, lengths, Represents, Opened, with_pending, Clearing, body}
+use Rattle.table.proofs.Laws.Prelude.{ℕ, zero, suc, ◌+◌, ◌*◌, ◌≤◌, ◌<◌, ◌≡◌, refl, sym, ap, ap₂, ◌∙◌, ⊎_elim, true, false, List, [], ℕ_discrete, arith, length, length-replicate, lt-ltb, le-ltb, not-false, length_splice, some_number, zeros, EmptyIs, size_class_for, emptied, empty_sound, size_class_most, past_size_class, first_refusal_no, first_refusal_rest, opened_proper, unstaged_proper, Header, clear_refusal, Stores, stores, lengths, Represents, Opened, with_pending, Clearing, body}
 use Rattle.lists.specs.Lists.{all, count, rows_of, flatten}
 use Rattle.refusals.specs.Refusals.{accepted, reply, outcome}
 use Rattle.sort_entries.specs.Entries.{entries_of, rebuilt_from, rebuilt}
@@ -177,7 +177,7 @@ module _ (h : Header) (keys : List ℕ) where
             let k : h.capacity ≡ p.opening.capacity = ap (λ (x : Header). x.capacity) t.shown.header in
             let fits : p.generation + 1 ≤ 4294967295 = next_fits p.generation h.rows t.proper.generation_fits (rw g at a.last_empty) some in
             record {
-              answers = rw (q, o, g) (ap accepted (header_opened p.opening (p.generation + 1)));
+              answers = rw q (ap₂ (λ (x : Opening) (n : ℕ). accepted (empty_header x (n + 1))) o g ∙ ap accepted (header_opened p.opening (p.generation + 1)));
               represents = rw q (empty_represents p.opening (p.generation + 1) rows keys keys' sorts pending t.proper.numbers fits t.long_enough (rw k at free));
             };
       }
