@@ -11,7 +11,7 @@
 -- The text U,4,2,3,1,0,3 D,2,7,1,163,12 is of the new form too, but numbers 0 and 1 have no row: its conversion to the old form is
 -- refused with 17.
 use Rattle.std.specs.Prelude.{ℕ, suc, ◌+◌, ◌≡◌, Bool, true, false, cond, not, ◌&&◌, List, [], ◌∷◌, ◌++◌, map, length, take, drop, get_or, leb, ltb, eqb}
-use Rattle.std.proofs.Math.Option.{Option, none, some, Option·elim}
+use Rattle.std.proofs.Math.Option.{Option, none, some, Option-elim}
 use Rattle.lists.specs.Lists.{splice, all, flatten, iota, rising, elem}
 use Rattle.refusals.specs.Refusals.{check, first_refusal, Reply, refused, accepted, Effect}
 use Rattle.plain_table.specs.Staged.{openable}
@@ -86,15 +86,15 @@ pub data ParsesAs (numbered : Bool) (text : List ℕ) : Option Listing → Type 
 
 -- "write each row's cells in turn, in the new form after its number"
 unfoldable pub listing_cells : Option Listing → List ℕ
-listing_cells listing = Option·elim listing [] (λ l. flatten l.rows)
+listing_cells listing = Option-elim listing [] (λ l. flatten l.rows)
 
 -- "11, a text not of the form named, .. then 2, an output shorter than what is to be written"
 unfoldable pub read_refusal : Option Listing → ℕ → ℕ
-read_refusal listing output = Option·elim listing 11 (λ l. first_refusal (check (ltb output (length (flatten l.rows))) 2 ∷ []))
+read_refusal listing output = Option-elim listing 11 (λ l. first_refusal (check (ltb output (length (flatten l.rows))) 2 ∷ []))
 
 -- "give the head's numbers"; the number of listed rows is added, so that the caller finds the end of the cells
 unfoldable pub read_words : Option Listing → List ℕ
-read_words listing = Option·elim listing [] (λ l. l.head ++ (length l.rows ∷ []))
+read_words listing = Option-elim listing [] (λ l. l.head ++ (length l.rows ∷ []))
 
 -- the reply that an answer represents
 unfoldable pub listing_view : ListingAnswer → Reply (List ℕ)
@@ -132,13 +132,13 @@ lacks_row l = not (all (λ n. elem n (row_numbers l.rows)) (iota 0 (get_or l.hea
 
 -- the text of a listing in the other form
 unfoldable pub converted_text : Bool → Option Listing → List ℕ
-converted_text numbered listing = Option·elim listing [] (λ l. cond numbered (listing_text false (from_numbered l)) (listing_text true (to_numbered l)))
+converted_text numbered listing = Option-elim listing [] (λ l. cond numbered (listing_text false (from_numbered l)) (listing_text true (to_numbered l)))
 
 -- "After 11, a text not of the form named, comes 17, given on the way to the old form exactly when some number below the count has
 -- no row, then 2, an output shorter than what is to be written"
 unfoldable pub convert_refusal : Bool → Option Listing → ℕ → ℕ
 convert_refusal numbered listing output =
-    Option·elim listing 11 (λ l. first_refusal (check (numbered && lacks_row l) 17 ∷ check (ltb output (length (converted_text numbered listing))) 2 ∷ []))
+    Option-elim listing 11 (λ l. first_refusal (check (numbered && lacks_row l) 17 ∷ check (ltb output (length (converted_text numbered listing))) 2 ∷ []))
 
 -- the reply that an answer represents: how many bytes were written, so that the caller finds the end of the text
 unfoldable pub text_view : TextAnswer → Reply ℕ

@@ -1,7 +1,6 @@
 // Answers of the functions that read and convert a listing.
 #![tactic(auto)]
 
-
 // The numbers of a head line, and how many rows are listed.
 #[derive(Clone, Copy)]
 pub struct ListingHead {

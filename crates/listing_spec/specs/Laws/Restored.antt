@@ -1,6 +1,6 @@
 -- A listing converted to the other form is of that form, and converting it back restores the text. Assumes nothing.
-use Rattle.listing_spec.specs.Laws.Prelude.{ℕ, zero, suc, ◌+◌, ◌-◌, ◌≤◌, ◌<◌, ◌≡◌, refl, sym, ap, ap₂, ◌∙◌, inl, inr, Bool, true, false, ◌&&◌, false≢true, List, [], ◌∷◌, ◌++◌, map, Option, none, some, dec_lt, arith, leb, ltb, length, take, drop, get_or, length-append, List·getD-append, List·getD-eq-default, get_or-take, length-take-le, get_or_at, eq-eqb, le-leb, lt-ltb, le-ltb, all_head, all_tail, all_cons, all_snoc, split, all_get_d, all_of, take_put, TextAnswer, Written}
-use Rattle.std.proofs.Math.Option.{Option·elim}
+use Rattle.listing_spec.specs.Laws.Prelude.{ℕ, zero, suc, ◌+◌, ◌-◌, ◌≤◌, ◌<◌, ◌≡◌, refl, sym, ap, ap₂, ◌∙◌, inl, inr, Bool, true, false, ◌&&◌, false≢true, List, [], ◌∷◌, ◌++◌, map, Option, none, some, arith, leb, ltb, length, take, drop, get_or, length-append, List·getD-append, List·getD-eq-default, get_or-take, length-take-le, get_or_at, eq-eqb, le-leb, lt-ltb, all_head, all_tail, all_cons, all_snoc, split, all_get_d, all_of, take_put, TextAnswer, Written}
+use Rattle.std.proofs.Math.Option.{Option-elim}
 use Rattle.lists.specs.Lists.{all, splice}
 use Rattle.refusals.specs.Refusals.{check, first_refusal, accepted, reply, Effect}
 use Rattle.listing_spec.specs.Listings.{Listing, head_width, prefix_width, listing_text, are_numbers, is_head, is_row, is_listing, ParsesAs, parses, numbered_from, to_numbered, from_numbered, lacks_row, converted_text, convert_refusal, text_view, ListingConverted, RestoresText}
@@ -147,7 +147,7 @@ module _ {numbered : Bool} {text output output' : List ℕ} {bytes : ℕ} (x : L
   converted_taken = rw (converted_bytes, x.effect.written accepted_conversion) (take_put output (converted_text numbered x.listing))
 
 none_missing : (l : Listing) (room : ℕ) → convert_refusal true (some l) room ≡ 0 → lacks_row l ≡ false
-unfolding convert_refusal Option·elim first_refusal
+unfolding convert_refusal Option-elim first_refusal
 none_missing l room given =
     elim (split (lacks_row l)) [
       | inl t ↦ absurd (let z : ◌≡◌ {A = ℕ} 17 0 = rw t at given in omega (arith, z))
@@ -164,12 +164,12 @@ record Back (numbered : Bool) (text : List ℕ) (m : Option Listing) : Type 0 wh
   pub number : (room : ℕ) → convert_refusal numbered m room ≡ short text room
 
 back_of : (numbered : Bool) (text : List ℕ) (l : Listing) → (numbered && lacks_row l) ≡ false → converted_text numbered (some l) ≡ text → Back numbered text (some l)
-back_of numbered text l full e = record { same = e; number = λ room. unfold convert_refusal Option·elim in rw e (unfold first_refusal in rw full) }
+back_of numbered text l full e = record { same = e; number = λ room. unfold convert_refusal Option-elim in rw e (unfold first_refusal in rw full) }
 
 come_back : (text : List ℕ) (k : Option Listing) (room : ℕ) → ParsesAs false text k → convert_refusal false k room ≡ 0 → (moved : List ℕ) → moved ≡ converted_text false k → (m : Option Listing) → ParsesAs true moved m
     → Back true text m
-unfolding converted_text Option·elim
-come_back text none room s given moved e m sm = absurd (unfold convert_refusal Option·elim in omega (arith, given))
+unfolding converted_text Option-elim
+come_back text none room s given moved e m sm = absurd (unfold convert_refusal Option-elim in omega (arith, given))
 come_back text (some l) room s given moved e m sm =
     let good = shown_listing s in
     let there : ParsesAs true moved (some (to_numbered l)) = parses (to_numbered l) (to_listing l good) e in
@@ -178,8 +178,8 @@ come_back text (some l) room s given moved e m sm =
 
 come_again : (text : List ℕ) (k : Option Listing) (room : ℕ) → ParsesAs true text k → convert_refusal true k room ≡ 0 → (moved : List ℕ) → moved ≡ converted_text true k → (m : Option Listing) → ParsesAs false moved m
     → Back false text m
-unfolding converted_text Option·elim
-come_again text none room s given moved e m sm = absurd (unfold convert_refusal Option·elim in omega (arith, given))
+unfolding converted_text Option-elim
+come_again text none room s given moved e m sm = absurd (unfold convert_refusal Option-elim in omega (arith, given))
 come_again text (some l) room s given moved e m sm =
     let good = shown_listing s in
     let there : ParsesAs false moved (some (from_numbered l)) = parses (from_numbered l) (from_listing l good) e in
