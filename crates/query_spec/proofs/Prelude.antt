@@ -6,8 +6,7 @@ pub use mathlib.Core.Logic.{inl, inr}
 pub use mathlib.Core.Path.{◌∙◌, ◌≡◌, ap, sym}
 pub use native.Mathlib.Omega.{arith}
 pub use lib.Dec.{ltb}
-pub use borrow.Author.Rules.{rules}
-pub use borrow.Author.Tests.{le-ltb, lt-ltb, not-false, not-true}
+pub use borrow.Author.Tests.{le-ltb, lt-ltb}
 pub use Rattle.constraints.specs.Constraints.{known}
 pub use Rattle.constraints.specs.declared.Constraint.{Constraint}
 pub use Rattle.lists.specs.Laws.Filter.{split}

@@ -1,6 +1,6 @@
 -- Queries on rows (document 01, "Operations": refine by one and by a list, any match, page). They use only the header and the row
 -- store, so their contracts hold for any table. A store without a primed name is lent shared and does not change. Assumes nothing.
-use Rattle.std.specs.Prelude.{ℕ, ◌+◌, ◌-◌, ◌<◌, min, ◌≡◌, Bool, cond, not, ◌||◌, List, [], ◌∷◌, ◌++◌, length, take, drop, ltb}
+use Rattle.std.specs.Prelude.{ℕ, ◌+◌, ◌-◌, min, ◌≡◌, Bool, cond, not, ◌||◌, List, [], ◌∷◌, ◌++◌, length, take, drop, ltb}
 use Rattle.std.proofs.Math.Option.{Option, none, some}
 use Rattle.lists.specs.Lists.{splice, filter, count, all, any, row_at}
 use Rattle.refusals.specs.Refusals.{Check, check, first_refusal, Reply, refused, accepted, reply, Effect}

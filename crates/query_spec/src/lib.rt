@@ -2,7 +2,6 @@
 // the refusals of each query; the queries themselves are in crates above. specs/Queries.antt has the definitions.
 #![tactic(auto)]
 
-
 pub mod refusing; // refusing.rt: the refusals of each query
 
 // Whether a row matches.
