@@ -2,9 +2,8 @@
 use mathlib.Core.Path.{refl}
 use Rattle.plain_table.specs.Staged.{openable}
 use Rattle.table.specs.Refusing.{outside}
-use Rattle.table_open.proofs.no_table.Statement.{statement}
-use Rattle.table_open.proofs.no_table.Tie as tie
+use Rattle.table_open.proofs.no_table.Goals as goal
 
-pub no_table_spec : {M : Type 1} → statement M
+pub returns : goal.returns
 unfolding outside openable
-no_table_spec = tie.close (tie.spec (λ c. refl))
+returns c = refl
