@@ -2,7 +2,7 @@
 -- contract, for an answer whose refusal number is returned and whose encoding is stored. Assumes nothing.
 use Rattle.std.specs.Prelude.{ℕ, ◌≡◌, Bool, true, false, cond, not, List, [], ◌∷◌, drop, get_or, leb, eqb}
 use Rattle.std.proofs.Math.Option
-use Rattle.std.proofs.Math.Option.{Option, none, some, Option·elim}
+use Rattle.std.proofs.Math.Option.{Option, none, some, Option-elim}
 use Rattle.refusals.specs.Refusals.{Reply, refused, accepted, if_accepted}
 use Rattle.offsets.specs.Subsets.{Subset, range, list}
 use Rattle.offsets.specs.declared.SubsetHead.{SubsetHead}
@@ -50,7 +50,7 @@ bit b = cond b 1 0
 
 -- 1 and the number, or 0 and 0 if there is none
 unfoldable pub encode_option : Option ℕ → List ℕ
-encode_option o = Option·elim o 0 (λ n. 1) ∷ Option.get_or o 0 ∷ []
+encode_option o = Option-elim o 0 (λ n. 1) ∷ Option.get_or o 0 ∷ []
 
 unfoldable pub encode_header : Header → List ℕ
 encode_header h =

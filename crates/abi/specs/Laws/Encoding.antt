@@ -1,7 +1,7 @@
 -- Decoding a header inverts its encoding, a subset answer decodes to the subset that it is, and a flag above 1 is refused. Assumes
 -- nothing.
 use Rattle.std.specs.Prelude.{ℕ, ◌<◌, ◌≡◌, refl, Bool, true, false, List, get_or}
-use Rattle.std.proofs.Math.Option.{Option·elim}
+use Rattle.std.proofs.Math.Option.{Option-elim}
 use Rattle.std.proofs.lemmas.Bool.{lt-leb}
 use Rattle.refusals.specs.Refusals.{Reply, if_accepted}
 use Rattle.offsets.specs.declared.SubsetHead.{SubsetHead}
@@ -16,7 +16,7 @@ use Rattle.abi.specs.Encoding.{decode_largest, decode_columns, decode_header, de
 -- by cases of the largest sort value
 numbers_decoded : (o : Opening) (rows dead entries pending generation : ℕ) (l : Largest)
     → decode_header (encode_header (header o rows dead entries pending generation l)) ≡ header o rows dead entries pending generation l
-unfolding decode_header encode_header encode_option largest_view decode_largest decode_columns Option·elim
+unfolding decode_header encode_header encode_option largest_view decode_largest decode_columns Option-elim
 numbers_decoded o rows dead entries pending generation NoLargest = refl
 numbers_decoded o rows dead entries pending generation (Value v) = refl
 
