@@ -1,0 +1,33 @@
+-- `table_read::get_row_column` meets its contract. Assumes nothing.
+use native.Mathlib.Omega.{arith}
+use Rattle.table_read.proofs.ReadingSteps.{CellIn, cell_pre, cell_refused, cell_in, cell_none, cell_found}
+use Rattle.table_read.proofs.get_row_column.Goals.{After-row_start}
+use Rattle.table_read.proofs.get_row_column.Goals as goal
+
+-- the cell of the row that was found
+there : (c : After-row_start) → let a = c.args in CellIn a.h a.rows.now c.in-At.row a.column
+there c =
+    cell_in _ _ _ _ _ _ _ c.index_shape.ensures c.compact_hash.ensures c.look_up-found.ensures _ _ c.cell_refusal-refusal.ensures c.if-refusal-ne-ACCEPTED.false _ _
+    c.in-At.is
+
+pub returns-then-refusal-ne-ACCEPTED : goal.returns-then-refusal-ne-ACCEPTED
+returns-then-refusal-ne-ACCEPTED c = cell_refused _ _ _ _ _ _ c.cell_refusal-refusal.ensures c.if-refusal-ne-ACCEPTED.true
+
+pub look_up-found-requires : goal.look_up-found-requires
+look_up-found-requires c = cell_pre _ _ _ c.args.key.now _ _ c.args.column c.index_shape.ensures c.cell_refusal-refusal.ensures c.if-refusal-ne-ACCEPTED.false
+
+pub overflow_add-at : goal.overflow_add-at
+overflow_add-at c = omega (arith, there c)
+
+pub offset_bounds-rows-at : goal.offset_bounds-rows-at
+offset_bounds-rows-at c = omega (arith, there c)
+
+pub bounds-rows-at : goal.bounds-rows-at
+bounds-rows-at c = omega (arith, there (goal.at.bounds-rows-at c).After-row_start)
+
+pub returns-in-None : goal.returns-in-None
+returns-in-None c = cell_none _ _ _ _ _ _ _ c.index_shape.ensures c.compact_hash.ensures c.look_up-found.ensures _ _ c.cell_refusal-refusal.ensures c.if-refusal-ne-ACCEPTED.false c.in-None.is
+
+pub returns-in-At : goal.returns-in-At
+returns-in-At c =
+    rw c.row_start.ensures (cell_found _ _ _ _ _ _ _ c.index_shape.ensures c.compact_hash.ensures c.look_up-found.ensures _ _ c.cell_refusal-refusal.ensures c.if-refusal-ne-ACCEPTED.false _ _ c.in-At.is)
