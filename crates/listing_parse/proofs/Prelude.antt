@@ -5,7 +5,7 @@ pub use mathlib.Core.Bool.{Bool, false, ◌&&◌, and-false, true, cond, not, fa
 pub use mathlib.Core.List.{List, [], ◌∷◌, ◌++◌, map, append-nil, append_assoc}
 pub use native.Mathlib.Omega.{arith}
 pub use lib.ListN.{length, drop, get_or, length-drop, drop_of_length-le, take, set, get_or-eq_default as List·getD-eq-default, length-take, length-map, length-append, length-set}
-pub use borrow.Author.Tests.{ne_eqb, lt-ltb, eq-eqb, le-leb, lt-leb, le-ltb, eqb-true, eqb-false, ltb-true, not-false, not-true}
+pub use borrow.Author.Tests.{ne_eqb, lt-ltb, eq-eqb, le-leb, lt-leb, le-ltb, eqb-true, eqb-false, ltb-true, not-false}
 pub use lib.Dec.{eqb, leb, ltb}
 pub use lib.Seq.{take-suc, take-suc-set, drop-cons, drop-drop, get_or-take, get_or_at, length-take-le}
 pub use borrow.Author.Rules.{rules}
@@ -20,7 +20,7 @@ pub use Rattle.listing_parse.specs.declared.Survey.{Survey}
 pub use native.Mathlib.Numerals.{add-one}
 pub use Rattle.listing_spec.specs.Laws.Texts.{good_last, good_more, no_row, rows_more, shown_text, text_shown}
 pub use Rattle.lists.specs.Laws.Rising.{bool_ext}
-pub use mathlib.Core.Logic.{◌⊎◌, inl, inr, ⊎_elim}
+pub use mathlib.Core.Logic.{◌⊎◌, inl, inr}
 pub use Rattle.levels_text.specs.Lines.{is_line, numbers}
 pub use Rattle.listing_spec.specs.Laws.Pieces.{joined_pieces, pieces_some}
 pub use Rattle.lists.specs.Laws.Filter.{and_left, and_right, split}
