@@ -37,7 +37,7 @@ batch_represents : {p : Plain} {s t : Stores} {rows : List (List ℕ)} → Repre
     → Represents (mergedPlain (batch rows p)).table t × ((mergedPlain (batch rows p)).status ≡ 0)
 unfolding batch
 batch_represents r (merge s rest pending w m b' w' c e) = let k = merge_represents s rest pending r c in (k.0, sym k.1 ∙ e)
-batch_represents r (stage s rest pending h pending' c more) = batch_represents (stage_represents s rest pending r c) more
+batch_represents {p = p} r (stage {row = row} s rest pending h pending' c more) = batch_represents {p = stagePlain p (insert row)} (stage_represents s rest pending r c) more
 
 -- ---- the theorem
 

@@ -145,7 +145,7 @@ step_represents r (called {s} rest more call) = called_represents s rest more r 
 pub steps_represents : {p : Plain} {s t : Stores} {cs : List LentCall} → Represents p s → Steps s cs t → Represents (after_all p cs) t
 unfolding after_all
 steps_represents r (end s) = r
-steps_represents r (next step steps) = steps_represents (step_represents r step) steps
+steps_represents {p = p} r (next {c = c} step steps) = steps_represents {p = after p c.lengths c.call} (step_represents r step) steps
 
 -- an accepted opening
 pub opened_represents : {o : Opening} {generation : ℕ} {calls : List LentCall} {s : Stores} (h : History o generation calls s) → Represents (opened o generation) (behind h.start h.rest h.pending)

@@ -2,7 +2,7 @@
 -- calls on two tables that differ only in the key store leave two tables that differ only there. Assumes nothing.
 use Rattle.history.proofs.Laws.Prelude.{ℕ, zero, suc, ◌<◌, ◌≡◌, refl, sym, ap, ◌∙◌, cond, List, [], ◌∷◌, ◌++◌, map, arith, eqb, length, take, drop, ne_eqb, splice, rows_of, flatten, Plain, applied, merged, compacted, Header, compact_refusal, row_store, sort_store, record_words, Stores, Body, body_of, joined, lengths_lent, Represents, merged_store, MergedTable, CompactedTable, stage_checks_lem, merge_checks_lem, compact_checks_lem, merge_accepted, compact_accepted, pending_part, body_part, refresh_view, found_records, passed, fed_written, lent_call, Called, stages, merges, compacts, clears, refreshes, refreshes_unsound, behind, Step, called, Steps, end, next}
 use Rattle.plain_table.specs.Refusing.{stores_short, words_short, compact_checks}
-use Rattle.plain_table.specs.Calls.{Call, staging, merging, compacting, clearing, refreshing, feeding, records_of, refusal, LentCall}
+use Rattle.plain_table.specs.Calls.{Call, staging, merging, compacting, clearing, refreshing, feeding, records_of, refusal, after, LentCall}
 use Rattle.history.proofs.Laws.Calls.{own_records, refresh_same, fed_right, step_represents}
 use Rattle.refusals.specs.Refusals.{if_accepted}
 
@@ -140,4 +140,4 @@ step_determined {p} {s} {s'} {t} {t'} {c} r r' same a b =
 
 pub steps_determined : {p : Plain} {s s' t t' : Stores} {cs : List LentCall} → Represents p s → Represents p s' → SameCells s s' → Steps s cs t → Steps s' cs t' → SameCells t t'
 steps_determined r r' same (end s) (end s') = same
-steps_determined r r' same (next a more) (next b more') = steps_determined (step_represents r a) (step_represents r' b) (step_determined r r' same a b) more more'
+steps_determined {p = p} r r' same (next {c = c} a more) (next b more') = steps_determined {p = after p c.lengths c.call} (step_represents r a) (step_represents r' b) (step_determined r r' same a b) more more'

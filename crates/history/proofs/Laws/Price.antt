@@ -138,9 +138,9 @@ record Accounted (p : Plain) (cs : List LentCall) (w : Wear) : Type 0 where
 steps_accounted : {p : Plain} {s t : Stores} {cs : List LentCall} → Represents p s → (steps : Steps s cs t) → Accounted p cs (wear_of_steps steps)
 unfolding wear_of_steps sum_over_merges after_all
 steps_accounted r (end s) = record { kept = refl; dropped = refl; fewer = omega arith; rows = omega arith }
-steps_accounted r (next (called {s} rest more call) steps) =
+steps_accounted {p = p} r (next {c = c} (called {s} rest more call) steps) =
     let a = called_balanced s rest more r call in
-    let b = steps_accounted (step_represents r (called rest more call)) steps in
+    let b = steps_accounted {p = after p c.lengths c.call} (step_represents r (called rest more call)) steps in
     record {
       kept = omega (arith, a.kept, b.kept);
       dropped = omega (arith, a.dropped, b.dropped);
