@@ -1,3 +1,2 @@
-// The paper's twelve examples, proved in specs/. No functions.
+// The paper's twelve examples, in specs/, proved in proofs/Laws. No functions.
 #![tactic(auto)]
-
