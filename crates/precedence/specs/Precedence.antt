@@ -1,7 +1,7 @@
 -- Before comes first (document 02, change 8): "A level after the diplexer counts only if the level before it was on file by then."
 -- Which live rows of a plain table fail a pair of values, and the answer of the check. Assumes nothing.
 use Rattle.std.specs.Prelude.{ℕ, suc, ◌+◌, ◌/◌, ◌%◌, ◌≡◌, Bool, cond, not, ◌&&◌, ◌||◌, List, [], ◌∷◌, ◌++◌, length, take, drop, get_or, leb, ltb, eqb}
-use Rattle.std.proofs.Math.Option.{Option, none, some, Option·elim}
+use Rattle.std.proofs.Math.Option.{Option, none, some, Option-elim}
 use Rattle.lists.specs.Lists.{any, same}
 use Rattle.refusals.specs.Refusals.{check, first_refusal, Reply, refused, accepted, reply, outcome}
 use Rattle.key_index.specs.Slots.{KeysSound}
@@ -56,7 +56,7 @@ pub record Failure : Type 0 where
 unfoldable pub failure_among : Plain → ℕ → List Pair → List Numbered → Option Failure
 failure_among p column pairs [] = none
 failure_among p column pairs (row ∷ rows) =
-    Option·elim (first_failing (meets_pair p column row.cells) 0 pairs) (failure_among p column pairs rows) (λ place. some (record { row = row.number; place = place }))
+    Option-elim (first_failing (meets_pair p column row.cells) 0 pairs) (failure_among p column pairs rows) (λ place. some (record { row = row.number; place = place }))
 
 -- "The answer is the lowest row that fails with the place, from 0, of the first pair it fails, or none"
 unfoldable pub precedence_failure : Plain → ℕ → List Pair → Option Failure

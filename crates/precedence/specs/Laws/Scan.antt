@@ -4,7 +4,7 @@ use Rattle.lists.specs.Lists.{any, same}
 use Rattle.plain_table.specs.Staged.{has_key}
 use Rattle.plain_table.specs.Plain.{Row, Plain, live_from}
 use Rattle.precedence.specs.Precedence.{Pair, pairs_of, other_key_cells, meets_pair, first_failing, Failure, failure_among}
-use Rattle.std.proofs.Math.Option.{Option·elim}
+use Rattle.std.proofs.Math.Option.{Option-elim}
 
 -- ---- live rows that pass a test of their cells
 
@@ -83,15 +83,15 @@ module _ (p : Plain) (column : ℕ) (pairs : List Pair) (n : ℕ) (row : Row) (r
   among n rows = failure_among p column pairs (live_from n rows)
 
   pub failure_here : (place : ℕ) → row.live ≡ true → failing_pair p column pairs row.cells ≡ some place → among n (row ∷ rows) ≡ some (record { row = n; place = place })
-  unfolding failure_among live_from Option·elim
+  unfolding failure_among live_from Option-elim
   failure_here place l e = rw (l, e)
 
   pub failure_later : row.live ≡ true → failing_pair p column pairs row.cells ≡ none → among n (row ∷ rows) ≡ among (suc n) rows
-  unfolding failure_among live_from Option·elim
+  unfolding failure_among live_from Option-elim
   failure_later l e = rw (l, e)
 
   pub failure_dead : row.live ≡ false → among n (row ∷ rows) ≡ among (suc n) rows
-  unfolding failure_among live_from Option·elim
+  unfolding failure_among live_from Option-elim
   failure_dead l = rw l
 
 -- ---- pairs in words

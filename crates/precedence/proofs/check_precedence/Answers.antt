@@ -1,0 +1,35 @@
+use Rattle.precedence.proofs.Prelude.{refl, sym, ◌∙◌, arith, length}
+use Rattle.precedence.proofs.Checks.{Accepted, passed_accepted, check_refused, check_met, check_fails}
+use Rattle.precedence.proofs.Steps.{rows_begin, row_fails, row_meets_lem, rows_end}
+use Rattle.precedence.proofs.check_precedence.Goals.{Else-refusal-ne-ACCEPTED}
+use Rattle.precedence.proofs.check_precedence.Goals as goal
+
+accepts : (c : Else-refusal-ne-ACCEPTED) → let a = c.args in Accepted a.h a.rows.now a.keys.now a.column (length a.pairs.now)
+accepts c = passed_accepted _ _ _ _ _ _ c.precedence_refusal-refusal.ensures c.if-refusal-ne-ACCEPTED.false
+
+pub returns-then-refusal-ne-ACCEPTED : goal.returns-then-refusal-ne-ACCEPTED
+returns-then-refusal-ne-ACCEPTED c = check_refused _ _ _ _ _ _ c.precedence_refusal-refusal.ensures c.if-refusal-ne-ACCEPTED.true
+
+pub loop-row-init : goal.loop-row-init
+loop-row-init c = (omega arith, λ sound differ. refl)
+
+pub failing_pair-place-requires : goal.failing_pair-place-requires
+failing_pair-place-requires c = let a = accepts (goal.at.failing_pair-place-requires c).Else-refusal-ne-ACCEPTED in (a.tested, a.column_key, c.loop-row-test.true)
+
+pub overflow_cast-result : goal.overflow_cast-result
+overflow_cast-result c = omega (arith, accepts (goal.at.overflow_cast-result c).Else-refusal-ne-ACCEPTED)
+
+pub returns-then-place-count : goal.returns-then-place-count
+returns-then-place-count c = check_fails _ _ _ _ _ _ c.precedence_refusal-refusal.ensures c.if-refusal-ne-ACCEPTED.false _ _ (λ sound differ. sym (row_fails _ _ _ _ _ c.loop-row-test.true _ ((c.failing_pair-place.ensures sound differ).fails c.if-place-count.true)) ∙ c.loop-row.invariant.1 sound differ ∙ rows_begin _ _ _ _)
+
+pub overflow_add-row : goal.overflow_add-row
+overflow_add-row c = omega (arith, accepts (goal.at.overflow_add-row c).Else-refusal-ne-ACCEPTED)
+
+pub loop-row-smaller : goal.loop-row-smaller
+loop-row-smaller c = omega arith
+
+pub loop-row-preserved : goal.loop-row-preserved
+loop-row-preserved c = (omega arith, λ sound differ. sym (row_meets_lem _ _ _ _ _ c.loop-row-test.true ((c.failing_pair-place.ensures sound differ).meets c.if-place-count.false)) ∙ c.loop-row.invariant.1 sound differ)
+
+pub returns : goal.returns
+returns c = check_met _ _ _ _ _ _ c.precedence_refusal-refusal.ensures c.if-refusal-ne-ACCEPTED.false (λ sound differ. sym (rows_end _ _ _ _ _ c.loop-row-test.false) ∙ c.loop-row.invariant.1 sound differ ∙ rows_begin _ _ _ _)
