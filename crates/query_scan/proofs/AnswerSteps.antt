@@ -12,7 +12,7 @@ use Rattle.offsets.specs.declared.SubsetAnswer.TheVariants.{Refused, Range, List
 use Rattle.offsets.specs.inner.Writing.{Wrote}
 use Rattle.offsets.specs.Laws.Answers.{answered_refused as refused-answered}
 use Rattle.offsets.specs.Laws.Retained.{grown_retains, listed_retains}
-use Rattle.query_scan.proofs.Visits.{up_to_nil, up_to_all, up_to_first, visited_none, length_visited, visited_all, visited_end}
+use Rattle.query_scan.proofs.Visits.{up_to_nil, up_to_all, up_to_one, visited_none, length_visited, visited_all, visited_end}
 
 -- ---- replies
 
@@ -102,7 +102,7 @@ module _ (h : Header) (rows : ℕ) (subset : Subset) (knows : Bool) (s : Scan) w
   unfolding refusal_of ids_visited first_place room_required
   match_opened number r z p output =
       opened_over Match h rows subset knows output number r.number_is s z (r.queryable z) 0 (size subset) 1 p (omega arith) (omega arith) (λ _. omega arith) (λ q. absurd (omega (arith, q))) refl
-      (λ test. rw (all_places subset) (up_to_first test (members subset))) (omega arith)
+      (λ test. rw (all_places subset) (up_to_one test (members subset))) (omega arith)
 
   pub page_opened : (start n output number : ℕ) → PageRefused h rows subset start n knows output number → number ≡ 0
       → BeginsAt subset 0 start (start + min n (size subset - start)) (min n (size subset - start)) s → ScanStarts (Page start n) h rows subset knows output s

@@ -1,5 +1,5 @@
 -- A page: what its end requires, and its answer. Assumes nothing.
-use Rattle.query_scan.proofs.Prelude.{ℕ, ◌+◌, ◌-◌, ◌≤◌, ◌<◌, min, ◌≡◌, refl, sym, ap, ap₂, ◌∙◌, Bool, false, cond, Option, List, dec_lt, ℕ_discrete, arith, ltb, length, lt-ltb, le-ltb, splice, filter, refused, accepted, reply_refused, reply_accepted, Constraint, Header, Scan, Page, matches, dead_among, page_refusal, visited, next_place, page_ids, PageResult, next_view, page_view, page_of, PageRead, first_place, room_required, refusal_of, ScanAnswered, CanWrite, Writes, next_at, PageClosed, ids_visited, NextPlace, None, At, PageAnswer}
+use Rattle.query_scan.proofs.Prelude.{ℕ, ◌+◌, ◌-◌, ◌≤◌, ◌<◌, min, ◌≡◌, refl, sym, ap, ap₂, ◌∙◌, Bool, false, Option, List, dec_lt, ℕ_discrete, arith, ltb, length, lt-ltb, le-ltb, splice, filter, refused, accepted, reply_refused, reply_accepted, Constraint, Header, Scan, Page, matches, dead_among, page_refusal, visited, next_place, page_ids, PageResult, next_view, page_view, page_of, PageRead, first_place, room_required, refusal_of, ScanAnswered, CanWrite, Writes, next_at, PageClosed, ids_visited, NextPlace, None, At, PageAnswer}
 use Rattle.offsets.specs.Subsets.{Subset, size}
 use Rattle.offsets.specs.inner.RetainBuilder.{Builds}
 use Rattle.query_spec.specs.declared.PageAnswer.TheVariants.{Refused as PageIsRefused, Page as Paged}

@@ -8,7 +8,6 @@ pub use native.Mathlib.Decide.{ℕ_discrete, dec_lt}
 pub use native.Mathlib.Omega.{arith}
 pub use lib.Dec.{eqb, ltb}
 pub use lib.ListN.{length, get_or, take, drop, length-take, length-drop}
-pub use borrow.Author.Rules.{rules}
 pub use borrow.Author.Tests.{eqb-true, eq-eqb, ltb-false, lt-ltb, le-ltb, not-true, not-false}
 pub use Rattle.constraints.specs.Constraints.{known, is_live, met}
 unfoldable pub use Rattle.constraints.specs.Constraints.{meets}
@@ -30,7 +29,7 @@ pub use Rattle.table.specs.declared.Header.{Header}
 pub use Rattle.query_spec.specs.declared.NextPlace.TheVariants.{At, None}
 pub use Rattle.query_spec.specs.declared.MatchAnswer.{MatchAnswer}
 pub use Rattle.query_spec.specs.declared.NextPlace.{NextPlace}
-pub use mathlib.Core.Option.{Option, none, some}
+pub use mathlib.Core.Option.{Option}
 pub use Rattle.query_spec.specs.declared.PageAnswer.{PageAnswer}
 pub use Rattle.query_scan.specs.declared.QueryKind.{QueryKind}
 pub use native.Mathlib.Numerals.{add-one}

@@ -31,10 +31,10 @@ module _ (test : ℕ → Bool) where
       ]
 
   -- up to the first
-  pub up_to_first : (ids : List ℕ) → up_to 1 test ids ≡ up_to_first test ids
+  pub up_to_one : (ids : List ℕ) → up_to 1 test ids ≡ up_to_first test ids
   unfolding up_to up_to_first
-  up_to_first [] = refl
-  up_to_first (x ∷ xs) = rw (up_to_first xs)
+  up_to_one [] = refl
+  up_to_one (x ∷ xs) = rw (up_to_one xs)
 
   -- whether any passes is seen by the first that does
   pub first_decides : (ids : List ℕ) → not (eqb (length (filter test (up_to_first test ids))) 0) ≡ any test ids
