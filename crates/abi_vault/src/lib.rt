@@ -1,4 +1,4 @@
-// Column order for the vault as C functions. They return the refusal's number, or 0 if the output was written.
+// Column order for the vault, for C (`abi_vault_c`). The functions return the refusal's number, or 0 if the output was written.
 #![tactic(auto)]
 
 ghost use Rattle.std.specs.Prelude.{◌≡◌};
@@ -18,16 +18,14 @@ fn number_of(answer: ColumnsAnswer) -> u32
     }
 }
 
-#[unsafe(no_mangle)]
-pub extern "C" fn mouldgrey_to_columns(width: u32, cells: &[u32], output: &mut [u32]) -> u32
+pub fn mouldgrey_to_columns(width: u32, cells: &[u32], output: &mut [u32]) -> u32
     ensures { (answer : ColumnsAnswer) × Rearranged to_columns width cells.now output.old answer output.new × (result ≡ returned (columns_view answer)) }
 {
     let answer = vault::to_columns(width, cells, output);
     number_of(answer)
 }
 
-#[unsafe(no_mangle)]
-pub extern "C" fn mouldgrey_from_columns(width: u32, cells: &[u32], output: &mut [u32]) -> u32
+pub fn mouldgrey_from_columns(width: u32, cells: &[u32], output: &mut [u32]) -> u32
     ensures { (answer : ColumnsAnswer) × Rearranged from_columns width cells.now output.old answer output.new × (result ≡ returned (columns_view answer)) }
 {
     let answer = vault::from_columns(width, cells, output);
