@@ -15,6 +15,7 @@ use levels_io::input::{Input, first_read, is_at_end, refill, take_line};
 use levels_io::output::{
     WriteResult, count, flush, is_written, make_room, no_write, report_failure,
 };
+use std::io::{Stdin, Stdout};
 use table::Header;
 use table_open::no_table;
 
@@ -52,6 +53,8 @@ struct LineProgress {
 
 // Writes all buffered bytes, then reads. Reads nothing if the write fails.
 fn flush_and_read(
+    stdin: Stdin,
+    stdout: Stdout,
     chunk: &mut [u8],
     text: &[u8],
     rest: Input,
@@ -63,9 +66,9 @@ fn flush_and_read(
     requires reads_nonzero { 0 < rest.reads }
     ensures { FlushedAndRead chunk.old rest length used chunk.new result }
 {
-    let handed = flush(text, used);
+    let handed = flush(stdout, text, used);
     if is_written(handed) {
-        let input = refill(chunk, rest);
+        let input = refill(stdin, chunk, rest);
         return LineProgress {
             input: input,
             length: length,
@@ -85,6 +88,7 @@ fn flush_and_read(
 
 // Makes room in the buffer for the answer of a line.
 fn make_room_for_answer(
+    stdout: Stdout,
     text: &[u8],
     rest: Input,
     length: usize,
@@ -94,7 +98,7 @@ fn make_room_for_answer(
     requires { used ≤ len text.now }
     ensures { RoomForAnswer (len text.now) rest length used is_last result }
 {
-    let handed = make_room(text, used, MOST_TEXT);
+    let handed = make_room(stdout, text, used, MOST_TEXT);
     if is_written(handed) {
         return LineProgress {
             input: rest,
@@ -115,6 +119,8 @@ fn make_room_for_answer(
 
 // Takes bytes of the line. If the line is complete, makes room for its answer; else reads more bytes, unless the input is over.
 fn advance(
+    stdin: Stdin,
+    stdout: Stdout,
     line: &mut [u8],
     chunk: &mut [u8],
     text: &[u8],
@@ -131,13 +137,13 @@ fn advance(
     let rest = taken.input;
     let kept = taken.length;
     if taken.is_whole {
-        return make_room_for_answer(text, rest, kept, used, false);
+        return make_room_for_answer(stdout, text, rest, kept, used, false);
     }
     if !is_at_end(rest) {
-        return flush_and_read(chunk, text, rest, kept, used);
+        return flush_and_read(stdin, stdout, chunk, text, rest, kept, used);
     }
     if kept > 0 {
-        return make_room_for_answer(text, rest, kept, used, true);
+        return make_room_for_answer(stdout, text, rest, kept, used, true);
     }
     LineProgress {
         input: rest,
@@ -167,6 +173,8 @@ struct StepDone {
 
 // One step of the loop: answers the line if it is complete, otherwise reads.
 fn step(
+    stdin: Stdin,
+    stdout: Stdout,
     state: State,
     line: &mut [u8; LINE_BYTES],
     chunk: &mut [u8; CHUNK_BYTES],
@@ -182,7 +190,16 @@ fn step(
 {
     let header = state.header;
     let from = state.input;
-    let progress = advance(line, chunk, text, from, state.length, state.used);
+    let progress = advance(
+        stdin,
+        stdout,
+        line,
+        chunk,
+        text,
+        from,
+        state.length,
+        state.used,
+    );
     let input = progress.input;
     let handed = progress.handed;
     let left = state.used - count(handed);
@@ -223,12 +240,12 @@ struct Ended {
 }
 
 // Writes the bytes that are still buffered, unless a write has failed.
-fn finish(state: State, handed: WriteResult, text: &[u8]) -> Ended
+fn finish(stdout: Stdout, state: State, handed: WriteResult, text: &[u8]) -> Ended
     requires { state.used ≤ len text.now }
     ensures { Finished state handed result }
 {
     if is_written(handed) {
-        let last = flush(text, state.used);
+        let last = flush(stdout, text, state.used);
         return Ended {
             state: state,
             handed: last,
@@ -242,6 +259,8 @@ fn finish(state: State, handed: WriteResult, text: &[u8]) -> Ended
 
 // Repeats `step` until the input is over or a write fails. Writes the remaining buffered bytes when the input is over.
 fn run(
+    stdin: Stdin,
+    stdout: Stdout,
     line: &mut [u8; LINE_BYTES],
     chunk: &mut [u8; CHUNK_BYTES],
     rows: &mut [u32; ROW_WORDS],
@@ -254,21 +273,23 @@ fn run(
 {
     let mut state = State {
         header: no_table(),
-        input: first_read(chunk),
+        input: first_read(stdin, chunk),
         length: 0,
         used: 0,
     };
     loop {
-        let made = step(state, line, chunk, rows, keys, sorts, pending, text);
+        let made = step(
+            stdin, stdout, state, line, chunk, rows, keys, sorts, pending, text,
+        );
         state = made.state;
         if made.is_over {
             let handed = made.handed;
-            return finish(state, handed, text);
+            return finish(stdout, state, handed, text);
         }
     }
 }
 
-fn main() {
+fn main(rt: HostRuntime) {
     let mut line = [0u8; LINE_BYTES];
     let mut chunk = [0u8; CHUNK_BYTES];
     let mut rows = [0u32; ROW_WORDS];
@@ -277,6 +298,8 @@ fn main() {
     let mut pending = [0u32; PENDING_WORDS];
     let mut text = [0u8; BUFFER];
     let ended = run(
+        rt.stdin(),
+        rt.stdout(),
         &mut line,
         &mut chunk,
         &mut rows,
@@ -286,6 +309,6 @@ fn main() {
         &mut text,
     );
     if !is_written(ended.handed) {
-        report_failure();
+        report_failure(rt.stderr());
     }
 }

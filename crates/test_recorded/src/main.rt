@@ -4,7 +4,8 @@
 #![tactic(auto)]
 
 use answers::Counts;
-use libc::{STDIN_FILENO, STDOUT_FILENO};
+use std::io;
+use std::io::{Read, Stdin};
 use steps::{State, step};
 use table_open::no_table;
 
@@ -15,20 +16,27 @@ mod lookups; // lookups.rt: its lookups, ranges and versions
 mod queries; // queries.rt: its queries
 mod steps; // steps.rt: a line and its answer
 
-fn write_count(count: u64, text: &[u8]) {
-    io::print_decimal(STDOUT_FILENO, count);
-    io::write_all(STDOUT_FILENO, text);
+// Reads until the text is full, the input is over or a read fails.
+fn read_text(mut stdin: Stdin, text: &mut [u8]) {
+    let mut done = 0;
+    while done < text.len() {
+        match stdin.read(&mut text[done..]) {
+            Ok(0) => return,
+            Ok(count) => done += count,
+            Err(_) => return,
+        }
+    }
 }
 
-fn write_counts(counts: Counts) {
-    write_count(counts.answers, b" recorded answers\n");
-    write_count(counts.compared, b" of them compared here\n");
-    write_count(counts.agreed, b" agreed\n");
+fn write_counts(rt: &impl Print, counts: Counts) -> io::Result<()> {
+    println!(rt; "{} recorded answers", counts.answers)?;
+    println!(rt; "{} of them compared here", counts.compared)?;
+    println!(rt; "{} agreed", counts.agreed)
 }
 
-fn main() {
+fn main(rt: HostRuntime) -> io::Result<()> {
     let mut text = [0u8; 65536];
-    io::read_full(STDIN_FILENO, &mut text);
+    read_text(rt.stdin(), &mut text);
     let mut rows = [0u32; 512];
     let mut keys = [0u32; 128];
     let mut sorts = [0u32; 128];
@@ -52,5 +60,5 @@ fn main() {
         steps -= 1;
     }
     let counts = state.counts;
-    write_counts(counts);
+    write_counts(&rt, counts)
 }
