@@ -90,7 +90,7 @@ module _ (o : Opening) (generation : ℕ) (rows : List Row) (b : Bounds o) (fits
       let r = le-leb o.rule 4294967295 (omega (arith, b.rule_known)) in
       let g = le-leb generation 4294967295 fits in
       let n = le-leb (length rows) 4294967295 (omega (arith, most)) in
-      elim numbered [ true ↦ rw (c, k, s, r, g, n) | false ↦ rw (c, k, s, r, g) ]
+      elim numbered as (λ m. are_numbers (head_numbers m o generation (length rows)) ≡ true) [ true ↦ rw (c, k, s, r, g, n) | false ↦ rw (c, k, s, r, g) ]
 
   head_good : (numbered : Bool) → is_head numbered (head_numbers numbered o generation (length rows)) ≡ true
   unfolding is_head head_width head_numbers

@@ -1,6 +1,6 @@
 -- A listing that is written is read back. Assumes nothing.
 use Rattle.listing_write.specs.Laws.Prelude.{ℕ, ◌≤◌, ◌<◌, ◌≡◌, ap, ◌∙◌, Bool, true, List, [], ◌∷◌, ◌++◌, Option, some, arith, ltb, length, take, lt-ltb, le-ltb, splice, flatten, Header, Written, parses_determined, ListingWritten}
-use Rattle.std.proofs.Math.Option.{Option·elim}
+use Rattle.std.proofs.Math.Option.{Option-elim}
 use Rattle.refusals.specs.Refusals.{check, first_refusal, Reply, reply}
 use Rattle.listing_spec.specs.Listings.{Listing, are_numbers, ParsesAs, listing_cells, read_refusal, read_words, ListingRead}
 use Rattle.listing_write.specs.Laws.Answers.{inside, stored, written_taken}
@@ -15,16 +15,16 @@ pub record ReadBack (l : Listing) (output : List ℕ) (view : Reply (List ℕ)) 
 
 module _ (l : Listing) (room : ℕ) where
   short_none : length (flatten l.rows) ≤ room → read_refusal (some l) room ≡ 0
-  unfolding read_refusal Option·elim first_refusal
+  unfolding read_refusal Option-elim first_refusal
   short_none long = rw (le-ltb room (length (flatten l.rows)) long)
 
   short_some : room < length (flatten l.rows) → 0 < read_refusal (some l) room
-  unfolding read_refusal Option·elim first_refusal
+  unfolding read_refusal Option-elim first_refusal
   short_some less = rw (lt-ltb room (length (flatten l.rows)) less) (omega arith)
 
 -- the listing of a text is read from it
 shown_read : {numbered : Bool} {text output output' : List ℕ} {view : Reply (List ℕ)} {l : Listing} → ParsesAs numbered text (some l) → ListingRead numbered text output view output' → ReadBack l output view output'
-unfolding read_refusal read_words listing_cells Option·elim
+unfolding read_refusal read_words listing_cells Option-elim
 shown_read {numbered} {output = output} {l = l} s x =
     let e : x.listing ≡ some l = parses_determined numbered x.shown s in
     let n : read_refusal x.listing (length output) ≡ read_refusal (some l) (length output) = ap (λ (k : Option Listing). read_refusal k (length output)) e in
