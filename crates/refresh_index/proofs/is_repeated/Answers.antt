@@ -1,0 +1,6 @@
+-- `refresh_index::is_repeated` meets its contract. Assumes nothing.
+use Rattle.refresh_index.proofs.Prelude.{refl}
+use Rattle.refresh_index.proofs.is_repeated.Goals as goal
+
+pub returns : goal.returns
+returns c = rw c.bucket_of-slot.ensures.0 (refl, refl)
