@@ -1,5 +1,5 @@
 -- The steps of a compaction: a row kept, the turns of the loops over the rows, and what the entry point answers. Assumes nothing.
-use Rattle.table_compact.proofs.Prelude.{ℕ, ◌+◌, ◌-◌, ◌*◌, ◌/◌, ◌%◌, ◌≤◌, ◌<◌, min, ◌≡◌, refl, sym, ap, ap₂, ◌∙◌, Bool, true, false, List, [], ◌∷◌, ◌++◌, add-zero, add-mul, mul-le-mul_right, arith, bit_and, count_trailing_zeros, length, take, drop, get_or, set, length-take, length-drop, length-set, length-append, drop-set-lt, map_front, splice_nil, get_d_splice_in, length_filter, row_in, is_live, live_first, Append, push, push_few, bitmap_word_same, onward, onward_all, Next, next_bit, no_more, IndexShape, slots, Fits, rows_in_lem, Inside, row_inside, fits_stores, size_class_most, fits_fewer, Rebuilt, renumbered, Ranked, below_number, live_among, outcome_refused, outcome_accepted, Header, KeptCounts, Lengths, compact_refusal, index_shape_of, full_index_shape_of, body, compaction_words, SamePast, lengths, Compacting, inside_full_shape, full_shape_fits, compact_accepted, Lendable, KeysUpdated, next_generation, Compaction, length_live, live_one, live_skip, later_row, close_one, entries_one, rebuild_one, Words, words_begin, words_next, words_number, compaction, none_compaction}
+use Rattle.table_compact.proofs.Prelude.{ℕ, ◌+◌, ◌-◌, ◌*◌, ◌/◌, ◌%◌, ◌≤◌, ◌<◌, min, ◌≡◌, refl, sym, ap, ap₂, ◌∙◌, Bool, true, false, List, [], ◌∷◌, ◌++◌, add-zero, add-mul, mul-le-mul_right, arith, bit_and, count_trailing_zeros, length, take, drop, get_or, set, length-take, length-drop, length-set, length-append, drop-set-lt, map_front, splice_nil, get_d_splice_in, length_filter, is_live, live_first, Append, push, push_few, bitmap_word_same, onward, onward_all, Next, next_bit, no_more, IndexShape, slots, Fits, rows_in_lem, Inside, row_inside, fits_stores, size_class_most, fits_fewer, Rebuilt, renumbered, Ranked, below_number, live_among, outcome_refused, outcome_accepted, Header, KeptCounts, Lengths, compact_refusal, index_shape_of, full_index_shape_of, body, compaction_words, SamePast, lengths, Compacting, inside_full_shape, full_shape_fits, compact_accepted, Lendable, KeysUpdated, next_generation, Compaction, length_live, live_one, live_skip, later_row, close_one, entries_one, rebuild_one, Words, words_begin, words_next, words_number, compaction, none_compaction}
 use Rattle.lists.specs.Lists.{splice, filter, row_at, rows_of, flatten}
 use Rattle.cells.specs.Cells.{is_dead}
 use Rattle.sort_entries.specs.Entries.{Entry, entry_words, rebuilt_from, rebuilt}

@@ -11,8 +11,8 @@ overflow_add-n c = omega (arith, c.requires.1)
 
 pub update_keys-requires : goal.update_keys-requires
 update_keys-requires c =
-    can_lead c.requires.0 c.close_up-kept.ensures c.rows-1.given refl c.live-1.given c.base-1.given
+    can_lead c.requires.0 c.close_up-kept.ensures c.close_up-kept.auto.rows refl c.close_up-kept.auto.live c.close_up-kept.auto.base
 
 pub returns : goal.returns
 returns c =
-    compact_end c.requires.0 c.requires.1 c.close_up-kept.ensures c.update_keys.ensures c.keys-1.given
+    compact_end c.requires.0 c.requires.1 c.close_up-kept.ensures c.update_keys.ensures c.update_keys.auto.keys
