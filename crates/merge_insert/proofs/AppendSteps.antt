@@ -31,6 +31,15 @@ entering {h} {rows} {keys} g room =
       width = g.width;
     }
 
+-- of an admission that gives the number of sort entries
+pub enters : {h : Header} {rows keys sorts cells : List ℕ} → CanAppend h rows keys sorts cells → (value : ℕ) (sorts' : List ℕ) (r : Admission) → AdmissionIs h sorts value sorts' r
+    → (n : ℕ) → r ≡ Entries n → Entering h rows keys cells
+enters g value sorts' r a n e = entering g (entered_of _ _ value sorts' r a n e).room
+
+-- the old row's place
+pub old_place : {h : Header} {rows keys cells : List ℕ} → Entering h rows keys cells → (old : ℕ) → old < h.rows → Placed h rows old
+old_place {h} {rows} {keys} e old k = placed h rows keys e.fits old (omega (arith, k, e.room))
+
 -- ---- the key store
 
 -- it can be rebuilt with the row, once that is written

@@ -1,0 +1,39 @@
+-- `merge_insert::row::insert_row` meets its contract. Assumes nothing.
+use Rattle.merge_insert.proofs.Prelude.{arith}
+use Rattle.merge_insert.proofs.InsertSteps.{inserts_skipped, findable, can_append, found_row, found_slot, inserts_new, inserts_known}
+use Rattle.merge_insert.proofs.row.insert_row.Goals as goal
+
+pub returns-then-is_stale : goal.returns-then-is_stale
+returns-then-is_stale c = let p = c.requires in inserts_skipped _ _ _ _ _ _ _ p.0 p.1 _ c.is_stale.ensures c.if-is_stale.true
+
+pub look_up-requires : goal.look_up-requires
+look_up-requires c =
+    findable _ _ _ _ _ _ c.args.hash c.requires.0 c.requires.1 _ c.index_shape.ensures
+
+pub slice_bounds-insert_new-end : goal.slice_bounds-insert_new-end
+slice_bounds-insert_new-end c = let p = c.requires in omega (arith, p.0.pending_fits, p.1)
+
+pub insert_new-requires : goal.insert_new-requires
+insert_new-requires c =
+    can_append _ _ _ _ _ _ c.args.hash c.requires.0 c.requires.1
+
+pub insert_known-requires : goal.insert_known-requires
+insert_known-requires c =
+    let p = c.requires in
+    let k = c.index_shape.ensures in
+    let f = c.look_up.ensures in
+    (p.0, p.1, found_row _ _ _ _ _ _ _ p.0 p.1 _ k _ f _ _ c.in-At.is, found_slot _ _ _ _ _ _ _ p.0 p.1 _ k _ f _ _ c.in-At.is)
+
+pub returns-in-None : goal.returns-in-None
+returns-in-None c =
+    let p = c.requires in
+    let d = c.insert_new in
+    inserts_new _ _ _ _ _ _ _ p.0 p.1 _ c.index_shape.ensures _ c.look_up.ensures _ c.is_stale.ensures c.if-is_stale.false
+    d.new.rows d.new.keys d.new.sorts c.in-None.is d.result d.ensures
+
+pub returns-in-At : goal.returns-in-At
+returns-in-At c =
+    let p = c.requires in
+    let d = c.insert_known in
+    inserts_known _ _ _ _ _ _ _ p.0 p.1 _ c.index_shape.ensures _ c.look_up.ensures _ c.is_stale.ensures c.if-is_stale.false
+    d.new.rows d.new.keys d.new.sorts _ _ c.in-At.is d.result d.ensures
