@@ -1,4 +1,2 @@
-pub mod Lent
 pub mod LoopSteps
 pub mod Prelude
-pub mod ScanCall

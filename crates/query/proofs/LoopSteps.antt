@@ -1,13 +1,7 @@
--- Conditions met one after another from the front, and the orders by which the loops with manual proofs end. Assumes nothing.
-use Rattle.manual_proofs.proofs.Prelude.{ℕ, zero, suc, ◌+◌, ◌-◌, ◌<◌, ◌≡◌, refl, sym, ap, ◌∙◌, Bool, true, false, ◌&&◌, false≢true, List, [], ◌∷◌, add-one, ltb, length, get_or, take, take_all, take-suc, ltb-false, inl, inr, WellFounded, InvImage·wf, Nat·lt-wfRel}
-use Rattle.query.proofs.Prelude.{and_left, and_right, Constraint, Header, Scan, Known, Row, matches, starts, passes, all_pass, all_more, all_head, all_tail, all_cons}
+-- Conditions met one after another from the front, and what it means that all of them pass. Assumes nothing.
+use Rattle.query.proofs.Prelude.{ℕ, zero, suc, ◌+◌, ◌<◌, ◌≡◌, refl, sym, ap, ◌∙◌, Bool, true, false, ◌&&◌, false≢true, List, [], ◌∷◌, add-one, ltb, length, get_or, take, take_all, take-suc, ltb-false, inl, inr, split, and_left, and_right, Constraint, Header, Known, Row, matches, starts, passes, all_pass, all_more, all_head, all_tail, all_cons}
 use Rattle.lists.specs.Lists.{all}
-use Rattle.lists.specs.Laws.Filter.{split}
 use Rattle.constraints.specs.Constraints.{known, meets}
-
--- what is read past the end of a list of conditions
-abbrev pub none : Constraint
-none = record { kind = 0; column = 0; value = 0 }
 
 module _ (start : Bool) (test : Constraint → Bool) (cs : List Constraint) where
   -- the first i conditions pass
@@ -19,10 +13,10 @@ module _ (start : Bool) (test : Constraint → Bool) (cs : List Constraint) wher
   passed_none = elim (split start) [ inl e ↦ rw e | inr e ↦ rw e ]
 
   -- where they do, the first i + 1 do if the next does
-  pub passed_next : (i : ℕ) → i < length cs → passed i ≡ true → test (get_or cs i none) ≡ passed (i + 1)
-  passed_next i l e =
-      let more : all test (take (i + 1) cs) ≡ (all test (take i cs) && test (get_or cs i none)) =
-      ap (λ (k : ℕ). all test (take k cs)) (add-one i) ∙ ap (all test) (take-suc cs i none l) ∙ all_more test (take i cs) (get_or cs i none) in
+  pub passed_next : (d : Constraint) (i : ℕ) → i < length cs → passed i ≡ true → test (get_or cs i d) ≡ passed (i + 1)
+  passed_next d i l e =
+      let more : all test (take (i + 1) cs) ≡ (all test (take i cs) && test (get_or cs i d)) =
+      ap (λ (k : ℕ). all test (take k cs)) (add-one i) ∙ ap (all test) (take-suc cs i d l) ∙ all_more test (take i cs) (get_or cs i d) in
       rw (more, and_left start (all test (take i cs)) e, and_right start (all test (take i cs)) e)
 
   every_take : (i : ℕ) (l : List Constraint) → all test l ≡ true → all test (take i l) ≡ true
@@ -44,20 +38,6 @@ module _ (start : Bool) (test : Constraint → Bool) (cs : List Constraint) wher
             | inl y ↦ absurd (false≢true (sym n ∙ rw (and_left start (all test cs) y) (every_take i cs (and_right start (all test cs) y))))
             | inr m ↦ m
           ]
-
--- i' is nearer n than i
-abbrev pub Up : ℕ → ℕ → ℕ → Type 0
-Up n i' i = n - i' < n - i
-
-pub up_wf : (n : ℕ) → WellFounded (Up n)
-up_wf n = InvImage·wf (λ (i : ℕ). n - i) Nat·lt-wfRel.wf
-
--- fewer places are left to a scan, which is a part of a loop's state
-abbrev pub Fewer : (S : Type 0) → (S → Scan) → S → S → Type 0
-Fewer S at t' t = (at t').end - (at t').next < (at t).end - (at t).next
-
-pub fewer_wf : (S : Type 0) (at : S → Scan) → WellFounded (Fewer S at)
-fewer_wf S at = InvImage·wf (λ (t : S). (at t).end - (at t).next) Nat·lt-wfRel.wf
 
 -- what it means that all conditions pass: they are known, or the row matches
 pub all_known : (h : Header) (rows : List ℕ) (cs : List Constraint) → all_pass Known h rows cs ≡ all (known h.columns) cs
