@@ -1,4 +1,4 @@
-// The precedence check as a C function.
+// The precedence check, for C (`abi_precedence_c`).
 #![tactic(auto)]
 
 ghost use Rattle.precedence.specs.Precedence.{precedence_view, PrecedenceChecked};
@@ -26,8 +26,7 @@ fn store_failure(answer: PrecedenceAnswer, failure: &mut [u32; 3]) -> u32
 }
 
 // The answer is three words: found, row, pair.
-#[unsafe(no_mangle)]
-pub extern "C" fn mouldgrey_check_precedence(
+pub fn mouldgrey_check_precedence(
     header: &[u32; 12],
     rows: &[u32],
     keys: &[u32],

@@ -1,4 +1,4 @@
-// The reads of a table as C functions: one cell, fast range, versions; and the intersection of two subsets.
+// The reads of a table, for C (`abi_read_c`): one cell, fast range, versions; and the intersection of two subsets.
 #![tactic(auto)]
 
 ghost use Rattle.std.specs.Prelude.{ℕ, List, length, get_or};
@@ -15,8 +15,7 @@ use abi::{
 };
 
 // The answer is two words: found, cell.
-#[unsafe(no_mangle)]
-pub extern "C" fn mouldgrey_get_row_column(
+pub fn mouldgrey_get_row_column(
     header: &[u32; 12],
     rows: &[u32],
     keys: &[u32],
@@ -31,8 +30,7 @@ pub extern "C" fn mouldgrey_get_row_column(
 }
 
 // The condition is three words: kind, column, value. The answer is three words: found, start, end.
-#[unsafe(no_mangle)]
-pub extern "C" fn mouldgrey_fast_subset(
+pub fn mouldgrey_fast_subset(
     header: &[u32; 12],
     sorts: &[u32],
     condition: &[u32; 3],
@@ -46,8 +44,7 @@ pub extern "C" fn mouldgrey_fast_subset(
 }
 
 // The answer is three words: found, start, end.
-#[unsafe(no_mangle)]
-pub extern "C" fn mouldgrey_updates_since(header: &[u32; 12], row: u32, range: &mut [u32; 3]) -> u32
+pub fn mouldgrey_updates_since(header: &[u32; 12], row: u32, range: &mut [u32; 3]) -> u32
     ensures { Answers (λ answer. RowsSince (decode_header header.now) row answer) range_view encode_range range.old result range.new }
 {
     let answer = table_read::updates_since(decode_header(header), row);
@@ -55,8 +52,7 @@ pub extern "C" fn mouldgrey_updates_since(header: &[u32; 12], row: u32, range: &
 }
 
 // The version is two words: generation, rows. The answer is three words: found, start, end.
-#[unsafe(no_mangle)]
-pub extern "C" fn mouldgrey_rows_since_version(
+pub fn mouldgrey_rows_since_version(
     header: &[u32; 12],
     version: &[u32; 2],
     range: &mut [u32; 3],
@@ -68,8 +64,7 @@ pub extern "C" fn mouldgrey_rows_since_version(
 }
 
 // The answer is two words: generation, rows.
-#[unsafe(no_mangle)]
-pub extern "C" fn mouldgrey_table_version(header: &[u32; 12], version: &mut [u32; 2]) -> u32
+pub fn mouldgrey_table_version(header: &[u32; 12], version: &mut [u32; 2]) -> u32
     ensures { Answers (λ answer. VersionRead (decode_header header.now) answer) version_view encode_version version.old result version.new }
 {
     let answer = table_read::version(decode_header(header));
@@ -77,8 +72,7 @@ pub extern "C" fn mouldgrey_table_version(header: &[u32; 12], version: &mut [u32
 }
 
 // The common ids of two subsets. A subset is three words, as an argument and as an answer: dense, start, end.
-#[unsafe(no_mangle)]
-pub extern "C" fn mouldgrey_intersect(
+pub fn mouldgrey_intersect(
     first: &[u32; 3],
     first_ids: &[u32],
     second: &[u32; 3],
@@ -95,8 +89,7 @@ pub extern "C" fn mouldgrey_intersect(
 }
 
 // The common ids of two ranges, as `mouldgrey_intersect` returns them for any output. The arguments fit in registers.
-#[unsafe(no_mangle)]
-pub extern "C" fn mouldgrey_intersect_ranges(
+pub fn mouldgrey_intersect_ranges(
     start: u32,
     end: u32,
     other_start: u32,

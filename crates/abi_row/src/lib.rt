@@ -1,5 +1,4 @@
-// Key lookup as a C function, in a library object of its own: `look_up` is long, and the compiler inlines it only where an object
-// calls it once.
+// Key lookup, for C (`abi_row_c`).
 #![tactic(auto)]
 
 ghost use Rattle.table.specs.Numbers.{row_view};
@@ -9,8 +8,7 @@ ghost use Rattle.abi.specs.Encoding.{decode_header, encode_option, Answers};
 use abi::{decode_header, store_row};
 
 // The answer is two words: found, row.
-#[unsafe(no_mangle)]
-pub extern "C" fn mouldgrey_get_row(
+pub fn mouldgrey_get_row(
     header: &[u32; 12],
     rows: &[u32],
     keys: &[u32],
