@@ -1,7 +1,7 @@
 -- What `levels` prints (document 01, "The program `levels`"): the text that a line prints and the table after it, as a function of
 -- the line and the table before it. Defined over the plain table; bytes are numbers, in ASCII. Assumes nothing.
 use Rattle.std.specs.Prelude.{ℕ, Bool, true, false, cond, List, [], ◌∷◌, length, drop, get_or, ltb, eqb}
-use Rattle.std.proofs.Math.Option.{Option, none, some, Option·elim}
+use Rattle.std.proofs.Math.Option.{Option, none, some, Option-elim}
 use Rattle.offsets.specs.Subsets.{Subset, range, list}
 use Rattle.constraints.specs.declared.Constraint.{Constraint}
 use Rattle.constraints.specs.Constraints.{known}
@@ -83,7 +83,7 @@ served l p letter ns =
 -- prints X,1"
 unfoldable pub result : Lengths → Option Plain → ℕ → List ℕ → LineResult
 result l t letter ns =
-    cond (eqb letter 79) (opens l t (opening_in ns) (get_or ns 5 0)) (Option·elim t (printing (replied 1 []) none) (λ p. served l p letter ns))
+    cond (eqb letter 79) (opens l t (opening_in ns) (get_or ns 5 0)) (Option-elim t (printing (replied 1 []) none) (λ p. served l p letter ns))
 
 -- any line, given as bytes: "11 is a line not of these forms"
 unfoldable pub line_result : Lengths → Option Plain → List ℕ → LineResult

@@ -18,7 +18,7 @@ use Rattle.listing_spec.specs.Listings.{head_letter, listing_text, from_numbered
 use Rattle.listing_write.specs.Writing.{table_listing}
 use Rattle.levels_spec.specs.Session.{lines_in, session, printed}
 use Rattle.levels_spec.specs.Response.{replied, open_number, opens, calls, queries, merge_text, fast_subset_of, range_text, list_text, served, result, line_result}
-use Rattle.std.proofs.Math.Option.{Option·elim}
+use Rattle.std.proofs.Math.Option.{Option-elim}
 
 -- one line each: `O,4,2,3,1,100,0` `I,7,1,160,10` `I,7,2,148,10` `M` `I,7,1,163,12` `R,7,2` `M` `F,1,3,10` `V` `L`
 unfoldable pub input : List ℕ
@@ -47,5 +47,5 @@ output =
     ∷ []
 
 pub example : printed input ≡ output
-unfolding printed session lines_in prepend_to_first input output flatten all same count filter iota find elem first_refusal reply is_dead ruled_column signed smaller larger taken made_cell made_from changes_from ruled known rebuilt_from rebuilt first_row entries_from by_kind fast_range openable words_of words_all inserts has_key skipped compaction_due stores_short words_short wrong_width no_such_row overfull open_refusal stage_checks merge_checks live_from live_rows lookup dead opened stage live_with_key kill_if without_key without_row removed below stop raised append upsert insertion insert_all applied added compacted unstaged compacts_after merged refusal done after entries fields value_from is_decimal is_line letter numbers is_form of_forms digits_in decimal field text_line replied open_number opens calls queries merge_text fast_subset_of fast_among range_text list_text listing_text head_letter table_listing from_numbered served Option·elim result line_result
+unfolding printed session lines_in prepend_to_first input output flatten all same count filter iota find elem first_refusal reply is_dead ruled_column signed smaller larger taken made_cell made_from changes_from ruled known rebuilt_from rebuilt first_row entries_from by_kind fast_range openable words_of words_all inserts has_key skipped compaction_due stores_short words_short wrong_width no_such_row overfull open_refusal stage_checks merge_checks live_from live_rows lookup dead opened stage live_with_key kill_if without_key without_row removed below stop raised append upsert insertion insert_all applied added compacted unstaged compacts_after merged refusal done after entries fields value_from is_decimal is_line letter numbers is_form of_forms digits_in decimal field text_line replied open_number opens calls queries merge_text fast_subset_of fast_among range_text list_text listing_text head_letter table_listing from_numbered served Option-elim result line_result
 example = refl

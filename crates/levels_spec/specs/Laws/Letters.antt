@@ -2,11 +2,11 @@
 use Rattle.levels_spec.specs.Laws.Prelude.{ℕ, ◌≡◌, cond, List, [], ◌∷◌, Option, none, length, drop, get_or, known, condition_in, insert, remove_key, remove_row, Lengths, Plain, staging, merging, compacting, clearing, true, false, text_line}
 use Rattle.levels_spec.specs.Response.{LineResult, printing, replied, opens, calls, queries, merge_text, fast_subset_of, range_text, list_text, served, result}
 use Rattle.plain_table.specs.Staged.{opening_in}
-use Rattle.std.proofs.Math.Option.{Option·elim}
+use Rattle.std.proofs.Math.Option.{Option-elim}
 
 -- a line on a table, refused with 1 if there is none
 abbrev pub on_table : Option Plain → (Plain → LineResult) → LineResult
-on_table t line = Option·elim t (printing (replied 1 []) none) line
+on_table t line = Option-elim t (printing (replied 1 []) none) line
 
 module _ (l : Lengths) (t : Option Plain) {letter : ℕ} (ns : List ℕ) where
   pub result_open : letter ≡ 79 → result l t letter ns ≡ opens l t (opening_in ns) (get_or ns 5 0)

@@ -13,7 +13,7 @@ use Rattle.levels_spec.specs.Laws.Letters.{on_table}
 use Rattle.levels_spec.specs.Session.{program_lengths, lines_in, session, printed}
 use Rattle.levels_spec.specs.Laws.Listings.{listing_of, plain_text_parses, numbered_text_parses}
 use Rattle.levels_spec.specs.Laws.Cells.{Fits, opened_fits, staged_fits, merged_fits, compacted_fits, cleared_fits, after_fits}
-use Rattle.std.proofs.Math.Option.{Option·elim}
+use Rattle.std.proofs.Math.Option.{Option-elim}
 
 -- the table after lines
 unfoldable pub table_after : Option Plain → List (List ℕ) → Option Plain
@@ -99,7 +99,7 @@ module _ (Q : Option Plain → Type 0) (every-table : (p : Plain) → Listable p
       ]
 
   on_table_lem : {t : Option Plain} (letter : ℕ) (ns : List ℕ) → are_numbers ns ≡ true → OfSession t → Q t → Q (on_table t (λ p. served l p letter ns)).table
-  unfolding Option·elim
+  unfolding Option-elim
   on_table_lem letter ns f no_table here = here
   on_table_lem letter ns f (a_table k) here = served_table letter ns k f
 
@@ -162,7 +162,7 @@ abbrev pub list_line : Bool → List ℕ
 list_line numbered = cond numbered 85 76 ∷ []
 
 line_lists : (numbered : Bool) (p : Plain) → line_result program_lengths (some p) (list_line numbered) ≡ printing (list_text numbered p) (some p)
-unfolding line_result of_forms is_line is_form elem fields prepend_to_first letter numbers all is_decimal result Option·elim served queries replied
+unfolding line_result of_forms is_line is_form elem fields prepend_to_first letter numbers all is_decimal result Option-elim served queries replied
 line_lists true p = refl
 line_lists false p = refl
 

@@ -4,7 +4,7 @@ use Rattle.refusals.specs.Refusals.{Reply, refused, accepted, reply, outcome}
 use Rattle.levels_spec.specs.Response.{LineResult, printing, replied, calls, queries}
 use Rattle.levels_spec.specs.Laws.Letters.{on_table}
 use Rattle.levels_spec.specs.inner.Responses.{text_of, response_of, nothing_response, Responds}
-use Rattle.std.proofs.Math.Option.{Option·elim}
+use Rattle.std.proofs.Math.Option.{Option-elim}
 
 -- ---- the response
 
@@ -60,7 +60,7 @@ pub record Does (line : Plain → LineResult) (s s' : Stores) (response : Respon
   pub result_done : (p : Plain) → Represents p s → n ≡ 0 → Responds (line p) s' response
 
 pub does_respond : {line : Plain → LineResult} {s s' : Stores} {response : Response} {n : ℕ} → Does line s s' response n → (t : Option Plain) → Held t s → Responds (on_table t line) s' response
-unfolding Option·elim
+unfolding Option-elim
 does_respond {line} {s} {s'} {response} {n} d none (no_table e) =
     let one : n ≡ 1 = d.outside_first e in
     let more : 0 < n = omega arith in
