@@ -1,2 +1,0 @@
-pub mod BorrowedSteps
-pub mod Prelude
