@@ -1,6 +1,6 @@
 -- The rows that mention a value: how the passes that set their bits make one, and that the records of the rows in the bitmap
 -- are those of the rows found. Assumes nothing.
-use Rattle.refresh.proofs.Prelude.{ℕ, suc, ◌+◌, ◌*◌, ◌/◌, ◌%◌, ◌≤◌, ◌<◌, ◌≡◌, refl, sym, ap, ◌∙◌, inl, inr, Bool, true, false, not, ◌&&◌, ◌||◌, false≢true, List, [], ◌∷◌, map, add-zero, dec_lt, arith, leb, ltb, eqb, length, take, drop, get_or, leb-true, ltb-true, eqb-true, le-leb, lt-ltb, and_both, or_right, split, and_left, and_right, is_live, below_bitmap_word, Bitmap, Summarised, Marked, marked_then, marked_weaker, marked_few, count_none, no_row, Header, opening_of, outside, rows_in, row_of_cells, length_rows_in, get_d_rows_in, outside_inside, rows_seen, IndexSound, Scannable, UpToDate, usable_index, RowsFound}
+use Rattle.refresh.proofs.Prelude.{ℕ, suc, ◌+◌, ◌*◌, ◌/◌, ◌%◌, ◌≤◌, ◌<◌, ◌≡◌, refl, sym, ap, ◌∙◌, inl, inr, Bool, true, false, not, ◌&&◌, ◌||◌, false≢true, List, [], ◌∷◌, map, add-zero, dec_lt, arith, leb, ltb, length, get_or, leb-true, ltb-true, le-leb, lt-ltb, and_both, or_right, split, and_left, and_right, is_live, below_bitmap_word, Bitmap, Summarised, Marked, marked_then, marked_weaker, marked_few, count_none, no_row, Header, opening_of, outside, rows_in, row_of_cells, length_rows_in, get_d_rows_in, outside_inside, rows_seen, IndexSound, Scannable, UpToDate, usable_index, RowsFound}
 use Rattle.lists.specs.Lists.{filter, same, row_at, iota}
 use Rattle.row_buffer.specs.Ranks.{set_below, bitmap_word, count_to}
 use Rattle.plain_table.specs.Plain.{Row, Numbered, live_from, live_rows}
