@@ -1,6 +1,6 @@
 -- `key_index::find_far` meets its contract. The loop's invariant: each slot passed leads to no row with the key.
 -- Assumes nothing.
-use Rattle.key_index.proofs.Prelude.{◌-◌, slots, home_slot}
+use Rattle.key_index.proofs.Prelude.{◌-◌, home_slot}
 use Rattle.key_index.proofs.ScanSteps.{ScannedSlots}
 use Rattle.key_index.proofs.FindSteps.{Past}
 use Rattle.key_index.proofs.find_far.Given as goal

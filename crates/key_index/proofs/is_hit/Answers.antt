@@ -1,5 +1,5 @@
 -- `key_index::is_hit` meets its contract. Assumes nothing.
-use Rattle.key_index.proofs.Prelude.{ℕ, ◌-◌, ◌*◌, ◌%◌, ◌^◌, ◌≤◌, refl, sym, ap, ◌∙◌, List, arith, take, drop, not-false, same, key_row}
+use Rattle.key_index.proofs.Prelude.{ℕ, ◌-◌, ◌*◌, ◌%◌, ◌^◌, ◌≤◌, refl, sym, ap, ◌∙◌, List, arith, take, drop, same, key_row}
 use Rattle.key_index.proofs.WordSteps.{Named, named, hit_bits, hit_nameless, hit_cells}
 use Rattle.key_index.proofs.is_hit.Goals.{Else-not-names_row, Start}
 use Rattle.key_index.proofs.is_hit.Goals as goal

@@ -1,5 +1,5 @@
 -- `key_index::next_slot` meets its contract. Assumes nothing.
-use Rattle.key_index.proofs.Prelude.{sym, arith, rules, slot_low, slot_wraps}
+use Rattle.key_index.proofs.Prelude.{sym, arith, slot_low, slot_wraps}
 use Rattle.key_index.proofs.next_slot.Goals as goal
 
 pub returns-then-up-slots : goal.returns-then-up-slots

@@ -1,4 +1,4 @@
-use Rattle.key_index.proofs.Prelude.{◌+◌, ◌≡◌, refl, arith, length, length-set, slots, home_slot}
+use Rattle.key_index.proofs.Prelude.{◌+◌, ◌≡◌, refl, length, length-set, slots, home_slot}
 use Rattle.key_index.proofs.ScanSteps.{ScannedSlots, begin_past, on, on_run}
 use Rattle.key_index.proofs.PutSteps.{put_here, put_none}
 use Rattle.key_index.proofs.WindowSteps.{Taken}

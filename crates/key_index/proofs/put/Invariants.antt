@@ -1,5 +1,5 @@
 -- `key_index::put` meets its contract. The loop's invariant: nothing is written, and no slot passed is free. Assumes nothing.
-use Rattle.key_index.proofs.Prelude.{◌-◌, ◌≡◌, length, slots, home_slot}
+use Rattle.key_index.proofs.Prelude.{◌-◌, ◌≡◌, length, home_slot}
 use Rattle.key_index.proofs.ScanSteps.{ScannedSlots}
 use Rattle.key_index.proofs.WindowSteps.{Taken}
 use Rattle.key_index.proofs.put.Given as goal

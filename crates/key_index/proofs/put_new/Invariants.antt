@@ -1,6 +1,6 @@
 -- `key_index::put_new` meets its contract. The loop's invariant: nothing is written, and each slot passed is taken and leads to no row
 -- with the key. Assumes nothing.
-use Rattle.key_index.proofs.Prelude.{◌-◌, ◌≡◌, length, slots, home_slot}
+use Rattle.key_index.proofs.Prelude.{◌-◌, ◌≡◌, length, home_slot}
 use Rattle.key_index.proofs.ScanSteps.{ScannedSlots}
 use Rattle.key_index.proofs.NewPutSteps.{Other}
 use Rattle.key_index.proofs.put_new.Given as goal

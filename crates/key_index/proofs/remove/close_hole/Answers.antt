@@ -1,4 +1,4 @@
-use Rattle.key_index.proofs.Prelude.{sym, ◌∙◌, arith, not-false, rows_in_lem}
+use Rattle.key_index.proofs.Prelude.{sym, ◌∙◌, arith, rows_in_lem}
 use Rattle.key_index.proofs.ShiftSteps.{begin, finish, stop, turn}
 use Rattle.key_index.proofs.remove.close_hole.Goals as goal
 
