@@ -4,7 +4,7 @@
 -- is 0 while the value is not 0; the text is too long, or a byte after it is not 0); 20, an image of a table that is not sound; 21, a
 -- text to be written of more than 4,096 bytes. Assumes nothing.
 use Rattle.std.specs.Prelude.{ℕ, ◌*◌, ◌<◌, ◌≡◌, Bool, true, false, cond, not, ◌||◌, List, [], ◌∷◌, length, ltb, eqb}
-use Rattle.std.proofs.Math.Option.{Option, none, some, Option·elim}
+use Rattle.std.proofs.Math.Option.{Option, none, some, Option-elim}
 use Rattle.lists.specs.Lists.{splice}
 use Rattle.refusals.specs.Refusals.{Check, check, first_refusal, Reply, refused, accepted, reply, outcome, Effect}
 use Rattle.key_index.specs.Slots.{KeysSound}
@@ -66,7 +66,7 @@ with_capacity h capacity = header (resized_opening (opening_of h) capacity) h.ro
 
 -- *Check image*: 19, 20; else the image's header
 unfoldable pub check_reply : Option Image → Bool → Reply Header
-check_reply image sound = Option·elim image (refused 19) (λ i. reply (first_refusal (check (not sound) 20 ∷ [])) i.header)
+check_reply image sound = Option-elim image (refused 19) (λ i. reply (first_refusal (check (not sound) 20 ∷ [])) i.header)
 
 pub record ImageChecked (words : List ℕ) (answer : TableAnswer) : Type 0 where
   pub decoded : Decoded words
@@ -82,7 +82,7 @@ stores_checks h capacity b pending =
 -- *Read image*: 19, 20, then those of the caller's capacity and stores
 unfoldable pub read_refusal : Option Image → Bool → ℕ → Body → List ℕ → ℕ
 read_refusal image sound capacity b pending =
-    Option·elim image 19 (λ i. first_refusal (check (not sound) 20 ∷ stores_checks i.header capacity b pending))
+    Option-elim image 19 (λ i. first_refusal (check (not sound) 20 ∷ stores_checks i.header capacity b pending))
 
 -- The stores begin with the image's words, and cells past them are unchanged. The key store is sound; its slots are the program's
 -- choice.
@@ -105,10 +105,10 @@ pub record ImageRead (words : List ℕ) (capacity : ℕ) (b : Body) (pending : L
 -- *Read text*: 19; 2 for an output shorter than the text; else the text's bytes at the start of the output. The text of an image of an
 -- unsound table can be read too.
 unfoldable pub text_refusal : Option Image → ℕ → ℕ
-text_refusal image output = Option·elim image 19 (λ i. first_refusal (check (ltb output (length i.text)) 2 ∷ []))
+text_refusal image output = Option-elim image 19 (λ i. first_refusal (check (ltb output (length i.text)) 2 ∷ []))
 
 unfoldable pub text_of : Option Image → List ℕ
-text_of image = Option·elim image [] (λ i. i.text)
+text_of image = Option-elim image [] (λ i. i.text)
 
 pub record TextRead (words output : List ℕ) (answer : LengthAnswer) (output' : List ℕ) : Type 0 where
   pub image : Option Image

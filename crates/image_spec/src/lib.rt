@@ -2,7 +2,6 @@
 // contracts are in specs/.
 #![tactic(auto)]
 
-
 // "MGTB" as a word, lowest byte first.
 pub const MAGIC: u32 = 0x4254_474d;
 
