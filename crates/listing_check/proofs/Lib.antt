@@ -4,4 +4,3 @@ pub mod Conditions
 pub mod Risen
 pub mod Rows
 pub mod Steps
-pub mod Values

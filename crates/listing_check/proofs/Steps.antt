@@ -1,5 +1,5 @@
 -- The transitions of the scan: its start, one row processed, and its final state. Assumes nothing.
-use Rattle.listing_check.proofs.Prelude.{ℕ, suc, ◌+◌, ◌-◌, ◌≤◌, ◌<◌, ◌≡◌, refl, sym, ap, ◌∙◌, Bool, true, false, cond, not, Bool·beq, false≢true, List, [], ◌∷◌, dec_lt, ℕ_discrete, arith, lt-ltb, le-ltb, eq-eqb, ne_eqb, eqb-true, length, take, drop, get_or, drop_of_length-le, List·getD-eq-default, drop-cons, Option, none, some, add-one, eqb, above_head, above_cons, above_weaker, Constraint, text_good, listing_in, text_shown, text_wrong, shown_listing, Survey, Right, Misplaced, Wrong, CheckAnswer, Refused, Checked, CheckScan, misplaced_none, above_kept, right_rising}
+use Rattle.listing_check.proofs.Prelude.{ℕ, suc, ◌+◌, ◌≤◌, ◌<◌, ◌≡◌, refl, sym, ap, ◌∙◌, Bool, true, false, cond, not, Bool·beq, false≢true, List, [], ◌∷◌, dec_lt, ℕ_discrete, arith, lt-ltb, le-ltb, eq-eqb, ne_eqb, eqb-true, length, take, drop, get_or, drop_of_length-le, List·getD-eq-default, drop-cons, Option, none, some, add-one, eqb, above_head, above_cons, above_weaker, Constraint, text_good, listing_in, text_shown, text_wrong, shown_listing, Survey, Right, Misplaced, Wrong, CheckAnswer, Refused, Checked, CheckScan, misplaced_none, above_kept, right_rising}
 use mathlib.Core.Option.{Option-elim}
 use Rattle.lists.specs.Lists.{filter, all, above}
 use Rattle.refusals.specs.Refusals.{check, first_refusal, accepted, reply}
@@ -208,15 +208,17 @@ module _ {given : List ℕ} {at : CheckScan} {row : Row} {meets-all : Bool} {nex
     nearer = λ l f. omega arith;
   })
 
-  pub step_on : not (Bool·beq (eqb next row.number) meets-all) ≡ false → eqb next row.number ≡ true → Stepped given at row meets-all (onward at row (at.place + 1))
-  step_on o t = record {
-    keeps = λ columns text conditions w l r m. row_given w l r m (rw e at t) (alike (eqb next row.number) meets-all o ∙ t);
+  pub step_on : not (Bool·beq (eqb next row.number) meets-all) ≡ false → next ≡ row.number → Stepped given at row meets-all (onward at row (at.place + 1))
+  step_on o s = record {
+    keeps = λ columns text conditions w l r m.
+        let t = eq-eqb next row.number s in
+        row_given w l r m (rw e at t) (alike (eqb next row.number) meets-all o ∙ t);
     nearer = λ l f. omega arith;
   }
 
-  pub step_past : not (Bool·beq (eqb next row.number) meets-all) ≡ false → eqb next row.number ≡ false → Stepped given at row meets-all (onward at row at.place)
-  step_past o t = record {
-    keeps = λ columns text conditions w l r m. row_passed w l r m (alike (eqb next row.number) meets-all o ∙ t);
+  pub step_past : not (Bool·beq (eqb next row.number) meets-all) ≡ false → (next ≡ row.number → ⊥) → Stepped given at row meets-all (onward at row at.place)
+  step_past o d = record {
+    keeps = λ columns text conditions w l r m. row_passed w l r m (alike (eqb next row.number) meets-all o ∙ ne_eqb next row.number d);
     nearer = λ l f. omega arith;
   }
 

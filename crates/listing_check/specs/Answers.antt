@@ -2,7 +2,7 @@
 -- that the laboratory gives. Assumes nothing.
 use Rattle.std.specs.Prelude.{ℕ, suc, min, ◌≡◌, true, cond, not, drop, get_or, ltb}
 use mathlib.Core.List.{List, [], ◌∷◌, ◌++◌, foldl}
-use Rattle.std.proofs.Math.Option.{Option, none, some, Option·elim}
+use Rattle.std.proofs.Math.Option.{Option, none, some, Option-elim}
 use Rattle.lists.specs.Lists.{filter, all, elem}
 use Rattle.refusals.specs.Refusals.{check, first_refusal, Reply, refused, accepted, reply}
 use Rattle.constraints.specs.declared.Constraint.{Constraint}
@@ -44,7 +44,7 @@ pub data Finding : Type 0 where
 
 -- "or, if the list is not strictly rising, the place"; else "the lowest row number wrongly present or absent", and yes if there is none
 unfoldable pub finding_on : List ℕ → List ℕ → Finding
-finding_on given right = Option·elim (misplaced given) (Option·elim (lowest (wrong_numbers given right)) correct lowest_wrong) out_of_order
+finding_on given right = Option-elim (misplaced given) (Option-elim (lowest (wrong_numbers given right)) correct lowest_wrong) out_of_order
 
 -- the finding that each case of the enum represents
 unfoldable pub verdict_view : Verdict → Finding
@@ -60,7 +60,7 @@ check_view (Checked verdict) = accepted (verdict_view verdict)
 -- "After 11 comes 6, as for any condition"
 unfoldable pub check_reply : Option Listing → List Constraint → List ℕ → Reply Finding
 check_reply listing conditions given =
-    Option·elim listing (refused 11) (λ l. reply (first_refusal (check (not (all (known (get_or l.head 0 0)) conditions)) 6 ∷ [])) (finding_on given (right_numbers conditions l)))
+    Option-elim listing (refused 11) (λ l. reply (first_refusal (check (not (all (known (get_or l.head 0 0)) conditions)) 6 ∷ [])) (finding_on given (right_numbers conditions l)))
 
 -- The contract of the check. It writes to no store.
 pub record AnswersChecked (text : List ℕ) (conditions : List Constraint) (given : List ℕ) (answer : CheckAnswer) : Type 0 where

@@ -1,6 +1,6 @@
 -- What each verdict implies about the numbers given and the right ones. Assumes nothing.
 use Rattle.listing_check.specs.Laws.Prelude.{ℕ, ◌≡◌, refl, ◌∙◌, inl, inr, Bool, true, List, [], ◌∷◌, Option, none, some, arith, drop, get_or, split, above_head, above_tail, above_cons, above_weaker, above_rising, rising_ext, Constraint, met, rising_from_lem, listing_parts}
-use Rattle.std.proofs.Math.Option.{Option·elim}
+use Rattle.std.proofs.Math.Option.{Option-elim}
 use Rattle.lists.specs.Lists.{filter, all, above, rising}
 use Rattle.listing_spec.specs.Listings.{Listing, row_numbers, is_listing}
 use Rattle.listing_check.specs.Answers.{right_numbers, misplaced, wrong_numbers, lowest, Finding, correct, out_of_order, lowest_wrong, finding_on}
@@ -37,23 +37,23 @@ right_rising conditions l e =
 
 -- by the place of the first number out of place, and by the lowest wrong number
 abbrev pub verdict_for : Option ℕ → Option ℕ → Finding
-verdict_for o w = Option·elim o (Option·elim w correct lowest_wrong) out_of_order
+verdict_for o w = Option-elim o (Option-elim w correct lowest_wrong) out_of_order
 
 finding_right : (o w : Option ℕ) → verdict_for o w ≡ correct → (o ≡ none) × (w ≡ none)
-unfolding Option·elim
+unfolding Option-elim
 finding_right none none e = (refl, refl)
 finding_right none (some m) e = absurd (let z : ◌≡◌ {A = ℕ} 0 1 = cc in omega arith)
 finding_right (some m) w e = absurd (let z : ◌≡◌ {A = ℕ} 0 1 = cc in omega arith)
 
 module _ (n : ℕ) where
   finding_wrong : (o w : Option ℕ) → verdict_for o w ≡ lowest_wrong n → w ≡ some n
-  unfolding Option·elim
+  unfolding Option-elim
   finding_wrong none none e = absurd (let z : ◌≡◌ {A = ℕ} 0 1 = cc in omega arith)
   finding_wrong none (some m) e = cc
   finding_wrong (some m) w e = absurd (let z : ◌≡◌ {A = ℕ} 0 1 = cc in omega arith)
 
   finding_misplaced : (o w : Option ℕ) → verdict_for o w ≡ out_of_order n → o ≡ some n
-  unfolding Option·elim
+  unfolding Option-elim
   finding_misplaced none none e = absurd (let z : ◌≡◌ {A = ℕ} 0 1 = cc in omega arith)
   finding_misplaced none (some m) e = absurd (let z : ◌≡◌ {A = ℕ} 0 1 = cc in omega arith)
   finding_misplaced (some m) w e = cc
@@ -66,7 +66,7 @@ module _ (given right : List ℕ) where
     λ e.
         let s = finding_right (misplaced given) (lowest (wrong_numbers given right)) e in
         rising_ext given right (misplaced_none given s.0) rises (wrong_none given right s.1),
-    λ e. rw (e, misplaced_rising right rises, wrong_same right) (unfold Option·elim in refl),
+    λ e. rw (e, misplaced_rising right rises, wrong_same right) (unfold Option-elim in refl),
   )
 
   -- "the lowest row number wrongly present or absent"
@@ -81,7 +81,7 @@ module _ (given right : List ℕ) where
 
   pub first_misplaced : {place : ℕ} → FirstNotAbove given place → finding_on given right ≡ out_of_order place
   unfolding finding_on
-  first_misplaced {place} f = rw (misplaced_at given f) (unfold Option·elim in refl)
+  first_misplaced {place} f = rw (misplaced_at given f) (unfold Option-elim in refl)
 
 -- the same for a listing
 pub yes_exactly : (conditions : List Constraint) (l : Listing) (given : List ℕ) → is_listing true l ≡ true
