@@ -1,7 +1,7 @@
 -- The contract determines the outcome. Assumes nothing.
 use Rattle.std.specs.Prelude.{ℕ, ◌≡◌, refl, List}
 use Rattle.std.proofs.Common.{sym, ◌∙◌, inl, inr}
-use Rattle.std.proofs.Math.Option.{Option, none, some, Option·elim}
+use Rattle.std.proofs.Math.Option.{Option, none, some, Option-elim}
 use Rattle.lists.specs.Laws.Filter.{split}
 use Rattle.table.specs.declared.TableAnswer.{TableAnswer}
 use Rattle.table.proofs.Laws.Answers.{table_view_injective}
@@ -29,7 +29,7 @@ module _ {words : List ℕ} (a b : Decoded words) where
       ]
 
 check_same : {words : List ℕ} (a b : Decoded words) (x : Option Image) → a.image ≡ x → check_reply a.image a.sound ≡ check_reply b.image b.sound
-unfolding check_reply Option·elim
+unfolding check_reply Option-elim
 check_same a b none e = rw (e, sym (same_image a b) ∙ e)
 check_same a b (some i) e = rw (e, sym (same_image a b) ∙ e, same_sound a b i e)
 
