@@ -1,7 +1,6 @@
 // The queries over a subset as C functions: refine by one and by a list, any match, page. A subset is three words, dense, start and
 // end, with the list of ids passed separately; they make the struct that `query_borrowed` takes. A condition of a list is a struct
-// of three words, so a list of them is lent without a conversion. The proof of each function is
-// manual: the function decodes, queries and stores.
+// of three words, so a list of them is lent without a conversion. Each function decodes, queries and stores.
 #![tactic(auto)]
 
 ghost use Rattle.offsets.specs.Answers.{subset_of};
