@@ -2,7 +2,7 @@
 -- 2 × capacity, of which soundness is promised. Assumes nothing.
 use Rattle.std.specs.Prelude.{ℕ, ◌*◌, ◌<◌, ◌≡◌, refl, Bool, List, length, drop}
 use Rattle.std.proofs.Common.{sym, ap, ◌∙◌, ⊎_elim, arith}
-use Rattle.std.proofs.Math.Option.{Option, none, some, Option·elim}
+use Rattle.std.proofs.Math.Option.{Option, none, some, Option-elim}
 use Rattle.lists.specs.Lists.{splice}
 use Rattle.refusals.specs.Refusals.{Reply, refused, accepted, reply}
 use Rattle.refusals.specs.Laws.Replies.{some_number}
@@ -47,13 +47,13 @@ text_read_determined {words} {output} {a = a} {b = b} x y =
 -- both are refused with the same number, or both accepted
 refusal_alike : {words : List ℕ} (a b : Decoded words) (capacity : ℕ) (s : Body) (pending : List ℕ) (x : Option Image) → a.image ≡ x
     → read_refusal a.image a.sound capacity s pending ≡ read_refusal b.image b.sound capacity s pending
-unfolding read_refusal Option·elim
+unfolding read_refusal Option-elim
 refusal_alike a b capacity s pending none e = rw (e, sym (same_image a b) ∙ e)
 refusal_alike a b capacity s pending (some i) e = rw (e, sym (same_image a b) ∙ e, same_sound a b i e)
 
 -- words that are not refused are an image
 refusal_some : (x : Option Image) (sound : Bool) (capacity : ℕ) (s : Body) (pending : List ℕ) → read_refusal x sound capacity s pending ≡ 0 → (i : Image) × (x ≡ some i)
-unfolding read_refusal Option·elim
+unfolding read_refusal Option-elim
 refusal_some none sound capacity s pending z = absurd (omega arith)
 refusal_some (some i) sound capacity s pending z = (i, refl)
 
