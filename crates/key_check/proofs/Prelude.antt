@@ -18,6 +18,6 @@ pub use Rattle.key_index.specs.Laws.Places.{Inside, key_part, row_inside}
 pub use Rattle.key_index.specs.Slots.{LiveAt, slots}
 pub use Rattle.key_index.specs.declared.IndexShape.{IndexShape}
 pub use Rattle.key_index.specs.inner.Index.{Fits, Leads}
-pub use Rattle.key_index.specs.inner.Ring.{home_slot, slot_word}
+pub use Rattle.key_index.specs.inner.Ring.{spread, tagged}
 pub use Rattle.lists.specs.Laws.Parts.{part_width}
 pub use Rattle.sort_entries.specs.inner.Checks.{Decides, decides_no, decides_yes}

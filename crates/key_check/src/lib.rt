@@ -7,7 +7,7 @@
 ghost use Rattle.std.specs.Prelude.{◌≡◌, ◌≤◌, ◌<◌, length};
 ghost use Rattle.sort_entries.specs.inner.Checks.{Decides};
 ghost use Rattle.key_index.specs.inner.Index.{RowsIn, Fits};
-ghost use Rattle.key_check.specs.inner.Check.{is_live_row, taken_count, Reached, FoundByOwnKey, KeyStoreSound};
+ghost use Rattle.key_check.specs.inner.Check.{is_live_row, taken_count, Reached, Own, KeyStoreSound};
 
 use key_index::{IndexShape, home_slot, slot_word};
 use row_buffer::row_start;
@@ -68,7 +68,7 @@ fn is_reached(t: IndexShape, rows: &[u32], store: &[u32], key: &[u32], hash: u32
 // Whether a row is reached from the home of its own key.
 fn is_found(t: IndexShape, rows: &[u32], store: &[u32], row: u32) -> bool
     requires { (Fits t rows.now store.now) × (row < t.rows) }
-    ensures { Decides (FoundByOwnKey t rows.now store.now row) result }
+    ensures { Decides (Own t rows.now store.now row) result }
 {
     let from = row_start(row, t.columns);
     let to = from + t.keys as usize;

@@ -1,6 +1,6 @@
 -- The answers of `find` and `look_up`, one law for each return path: at a free slot, after a full round, and at a slot that leads
 -- to the row; and how `look_up` reaches a slot. Assumes nothing.
-use Rattle.key_index.proofs.Prelude.{ℕ, ◌+◌, ◌/◌, ◌%◌, ◌^◌, ◌≤◌, ◌<◌, ◌≡◌, sym, ap, ◌∙◌, List, add-zero, arith, get_or, dec_lt, ℕ_discrete, IndexShape, None, At, LiveAt, key_at, slots, word, home, slot_from, ReachableAt, KeysSound, home_slot, home_slot_home, slot_word_word, word_some, word_same, slot_word_row, Leads, FoundAt, FoundIs, Ahead}
+use Rattle.key_index.proofs.Prelude.{ℕ, ◌+◌, ◌/◌, ◌%◌, ◌^◌, ◌≤◌, ◌<◌, ◌≡◌, sym, ap, ◌∙◌, List, add-zero, arith, get_or, dec_lt, ℕ_discrete, IndexShape, None, At, LiveAt, key_at, slots, word, home, slot_from, ReachableAt, KeysSound, spread, home_spread, word_tagged, word_some, word_same, tagged_row, Leads, FoundAt, FoundIs, Ahead}
 use Rattle.cells.specs.Cells.{compact_hash, key_hash}
 use Rattle.key_index.proofs.ScanSteps.{ScannedSlots, begin_past}
 use Rattle.key_index.proofs.WordSteps.{leads_bits}
@@ -15,20 +15,20 @@ past_bits t rows key hash w few other = record { other = λ i l. other (leads_bi
 
 -- a word that leads to a row determines it
 pub leads_some : (t : IndexShape) (rows key : List ℕ) (hash w row : ℕ) → t.rows ≤ 65536 → Leads t rows key hash w row → 0 < w % 2 ^ 17
-leads_some t rows key hash w row few l = omega (arith, ap (λ (x : ℕ). x % 2 ^ 17) l.tag, slot_word_row hash row (omega (arith, l.below)))
+leads_some t rows key hash w row few l = omega (arith, ap (λ (x : ℕ). x % 2 ^ 17) l.tag, tagged_row hash row (omega (arith, l.below)))
 
 none_at : (row slot : ℕ) → None ≡ At row slot → ⊥
 none_at row slot e = let z : ◌≡◌ {A = ℕ} 0 1 = cc in omega arith
 
 module _ (t : IndexShape) (rows store key : List ℕ) (hash : ℕ) (few : t.rows ≤ 65536) where
   abbrev Passed : ℕ → ℕ → Type 0
-  Passed at passed = ScannedSlots (slots t) store (Past t rows key hash) (home_slot (slots t) hash) at passed
+  Passed at passed = ScannedSlots (slots t) store (Past t rows key hash) (spread (slots t) hash) at passed
 
   -- the slot of a live row with the key leads to it
   stands_leads : hash ≡ compact_hash (key_hash key) → (i d : ℕ) → LiveAt t rows i → key_at t rows i ≡ key → ReachableAt (slots t) store key i d
-      → Leads t rows key hash (get_or store (slot_from (slots t) (home_slot (slots t) hash) d) 0) i
+      → Leads t rows key hash (get_or store (slot_from (slots t) (spread (slots t) hash) d) 0) i
   stands_leads e i d live k s =
-      record { tag = rw (home_slot_home (slots t) hash key e) s.there ∙ sym (slot_word_word hash i key e); below = live.0; cells = k }
+      record { tag = rw (home_spread (slots t) hash key e) s.there ∙ sym (word_tagged hash i key e); below = live.0; cells = k }
 
   -- so no scan passed it
   not_passed : (at passed : ℕ) → Passed at passed → hash ≡ compact_hash (key_hash key) → (i d : ℕ) → LiveAt t rows i → key_at t rows i ≡ key
@@ -53,7 +53,7 @@ module _ (t : IndexShape) (rows store key : List ℕ) (hash : ℕ) (few : t.rows
     -- the scan reached a free slot
     pub found_free : get_or store at 0 ≡ 0 → FoundIs t rows store key hash None
     found_free z = found_none (λ e i d h s.
-        let f : get_or store (slot_from (slots t) (home (slots t) key) passed) 0 ≡ 0 = rw (← home_slot_home (slots t) hash key e, ← w.here) z in
+        let f : get_or store (slot_from (slots t) (home (slots t) key) passed) 0 ≡ 0 = rw (← home_spread (slots t) hash key e, ← w.here) z in
         elim (ℕ_discrete passed d) [
           | yes q ↦ let g : word key i ≡ 0 = sym s.there ∙ rw (← q) f in omega (arith, word_some key i)
           | no q ↦ s.way passed (omega arith) f
@@ -64,10 +64,10 @@ module _ (t : IndexShape) (rows store key : List ℕ) (hash : ℕ) (few : t.rows
     found_round m = found_none (λ e i d h s. omega (arith, s.below))
 
   -- the home slot leads to no row with the key, and no slot between it and the d-th has the hash's bits
-  pub passed_to : (start d : ℕ) → start ≡ home_slot (slots t) hash → ((i : ℕ) → Leads t rows key hash (get_or store start 0) i → ⊥)
+  pub passed_to : (start d : ℕ) → start ≡ spread (slots t) hash → ((i : ℕ) → Leads t rows key hash (get_or store start 0) i → ⊥)
       → Ahead (slots t) store start hash d → Passed (start + d) d
   passed_to start d e no_row a =
-      begin_past (slots t) store (Past t rows key hash) (home_slot (slots t) hash) start d e a.below past
+      begin_past (slots t) store (Past t rows key hash) (spread (slots t) hash) start d e a.below past
     where
       past : (k : ℕ) → k < d → Past t rows key hash (get_or store (start + k) 0)
       past k h =
@@ -93,6 +93,6 @@ module _ (t : IndexShape) (rows store key : List ℕ) (hash : ℕ) (few : t.rows
       the_one : hash ≡ compact_hash (key_hash key) → KeysSound t rows store → FoundAt t rows store key row at
       the_one e sound =
           let o = sound.only_live at walked.inside some in
-          let w : get_or store at 0 ≡ word key row = l.tag ∙ slot_word_word hash row key e in
+          let w : get_or store at 0 ≡ word key row = l.tag ∙ word_tagged hash row key e in
           let q : o.0 ≡ row = word_same _ _ o.0 row (omega (arith, o.1.0)) (omega (arith, l.below)) (sym o.2 ∙ w) in
           record { live = rw q at o.1; key_is = l.cells; slot_in = walked.inside; word_is = w }

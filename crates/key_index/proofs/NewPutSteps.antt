@@ -1,5 +1,5 @@
 -- The answers of `put_new`, one law for each return path. Assumes nothing.
-use Rattle.key_index.proofs.Prelude.{ℕ, ◌*◌, ◌≤◌, ◌<◌, ◌≡◌, refl, sym, true, false, false≢true, List, arith, get_or, set, IndexShape, slots, slot_met, home_slot, slot_word, Leads, RowsFit, NewPutIs, free_slot, padded_rows, padded_rows_fits, keys_longer, zeros}
+use Rattle.key_index.proofs.Prelude.{ℕ, ◌*◌, ◌≤◌, ◌<◌, ◌≡◌, refl, sym, true, false, false≢true, List, arith, get_or, set, IndexShape, slots, slot_met, spread, tagged, Leads, RowsFit, NewPutIs, free_slot, roomy, roomy_fits, keys_longer, zeros}
 use Rattle.key_index.proofs.ScanSteps.{ScannedSlots}
 use Rattle.key_index.proofs.FindSteps.{Past, found_free, found_row}
 use Rattle.key_index.proofs.PutSteps.{put_here}
@@ -12,15 +12,15 @@ pub record Other (t : IndexShape) (rows key : List ℕ) (hash w : ℕ) : Type 0 
 
 module _ (t : IndexShape) (rows store key : List ℕ) (hash : ℕ) (few : t.rows ≤ 65536) where
   abbrev Walked : ℕ → ℕ → Type 0
-  Walked at passed = ScannedSlots (slots t) store (Other t rows key hash) (home_slot (slots t) hash) at passed
+  Walked at passed = ScannedSlots (slots t) store (Other t rows key hash) (spread (slots t) hash) at passed
 
-  past_all : (at passed : ℕ) → Walked at passed → ScannedSlots (slots t) store (Past t rows key hash) (home_slot (slots t) hash) at passed
+  past_all : (at passed : ℕ) → Walked at passed → ScannedSlots (slots t) store (Past t rows key hash) (spread (slots t) hash) at passed
   past_all at passed w = record { here = w.here; inside = w.inside; each = λ e h. (w.each e h).past }
 
-  taken_all : (at passed : ℕ) → Walked at passed → ScannedSlots (slots t) store Taken (home_slot (slots t) hash) at passed
+  taken_all : (at passed : ℕ) → Walked at passed → ScannedSlots (slots t) store Taken (spread (slots t) hash) at passed
   taken_all at passed w = record { here = w.here; inside = w.inside; each = λ e h. (w.each e h).taken }
 
-  pub new_put : (at passed row : ℕ) → Walked at passed → passed < slots t → get_or store at 0 ≡ 0 → (word : ℕ) → word ≡ slot_word hash row
+  pub new_put : (at passed row : ℕ) → Walked at passed → passed < slots t → get_or store at 0 ≡ 0 → (word : ℕ) → word ≡ tagged hash row
       → NewPutIs t rows store key hash row true (set store at word)
   new_put at passed row w h free word e =
       record {
@@ -47,7 +47,7 @@ module _ (t : IndexShape) (rows store key : List ℕ) (hash : ℕ) (few : t.rows
         put = λ e. absurd (false≢true e);
         new = λ e. absurd (false≢true e);
         known = λ _ hash-is sound.
-            let z = free_slot t (padded_rows t rows) store (padded_rows_fits t rows store f) (keys_longer t rows (zeros (t.room * t.columns)) f.within store sound) in
-            let m = slot_met (slots t) (omega (arith, z.1)) (home_slot (slots t) hash) z.0 z.1 in
+            let z = free_slot t (roomy t rows) store (roomy_fits t rows store f) (keys_longer t rows (zeros (t.room * t.columns)) f.within store sound) in
+            let m = slot_met (slots t) (omega (arith, z.1)) (spread (slots t) hash) z.0 z.1 in
             absurd ((w.each m.0 (omega (arith, m.1))).taken (rw m.2 z.2));
       }

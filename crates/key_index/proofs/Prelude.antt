@@ -22,14 +22,14 @@ pub use borrow.Author.Count.{below_more}
 pub use native.Mathlib.Decide.{dec_lt, ℕ_discrete}
 pub use lib.Seq.{drop-set-lt, get_or-set_other, get_or-set_same, set-get_or}
 pub use Rattle.lists.specs.Laws.Parts.{drop_splice, length_splice, set_splice, splice_nil, splice_then}
-pub use Rattle.key_index.specs.Laws.Ring.{home_slot_home, names_none, names_number, names_yes, slot_below, slot_low, slot_met, slot_then, slot_wraps, slot_zero, home_slot_below, slot_word_bits, slot_word_of, slot_word_row, word_same, word_some, slot_word_word}
+pub use Rattle.key_index.specs.Laws.Ring.{home_spread, names_none, names_number, names_yes, slot_below, slot_low, slot_met, slot_then, slot_wraps, slot_zero, spread_below, tagged_bits, tagged_of, tagged_row, word_same, word_some, word_tagged}
 pub use mathlib.Core.Logic.{inl, inr}
 pub use Rattle.row_buffer.specs.Laws.Rows.{key_row}
 pub use lib.Dec.{eqb, leb}
 pub use Rattle.lists.specs.Laws.All.{or_no_left, or_no_right, or_second}
 pub use Rattle.key_index.specs.Laws.Index.{free_slot, rows_in_lem}
-pub use Rattle.key_index.specs.Laws.Longer.{keys_longer, padded_rows, padded_rows_fits}
+pub use Rattle.key_index.specs.Laws.Longer.{keys_longer, roomy, roomy_fits}
 pub use Rattle.lists.specs.Lists.{same, splice}
 pub use Rattle.lists.specs.Laws.Rising.{same_eq, same_refl}
 pub use Rattle.lists.specs.Laws.Filter.{split}
-pub use Rattle.key_index.specs.inner.Ring.{cyclic_distance, home_slot, slot_word}
+pub use Rattle.key_index.specs.inner.Ring.{away, spread, tagged}

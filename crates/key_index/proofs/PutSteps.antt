@@ -1,11 +1,11 @@
 -- The answers of `put`, one law for each return path, and the loop iterations of `empty`, each of which frees one slot. Assumes
 -- nothing.
-use Rattle.key_index.proofs.Prelude.{ℕ, ◌+◌, ◌*◌, ◌≤◌, ◌<◌, ◌≡◌, refl, sym, ap, ◌∙◌, true, false, false≢true, List, [], ◌∷◌, arith, length, get_or, set, drop, length-replicate, replicate-append-replicate, drop-set-lt, splice, drop_splice, length_splice, splice_nil, splice_then, set_splice, slot_met, home_slot, slot_word, PutIs, zeros, EmptyIs}
+use Rattle.key_index.proofs.Prelude.{ℕ, ◌+◌, ◌*◌, ◌≤◌, ◌<◌, ◌≡◌, refl, sym, ap, ◌∙◌, true, false, false≢true, List, [], ◌∷◌, arith, length, get_or, set, drop, length-replicate, replicate-append-replicate, drop-set-lt, splice, drop_splice, length_splice, splice_nil, splice_then, set_splice, slot_met, spread, tagged, PutIs, zeros, EmptyIs}
 use Rattle.key_index.proofs.ScanSteps.{ScannedSlots}
 use Rattle.key_index.proofs.WindowSteps.{Taken}
 
 module _ (n : ℕ) (store : List ℕ) (hash row : ℕ) where
-  pub put_here : (at passed : ℕ) → ScannedSlots n store Taken (home_slot n hash) at passed → passed < n → get_or store at 0 ≡ 0 → (w : ℕ) → w ≡ slot_word hash row
+  pub put_here : (at passed : ℕ) → ScannedSlots n store Taken (spread n hash) at passed → passed < n → get_or store at 0 ≡ 0 → (w : ℕ) → w ≡ tagged hash row
       → PutIs n store hash row true (set store at w)
   put_here at passed walk h z w e =
       record {
@@ -15,14 +15,14 @@ module _ (n : ℕ) (store : List ℕ) (hash row : ℕ) where
         tail = drop-set-lt n store at w walk.inside;
       }
 
-  pub put_none : (at passed : ℕ) → ScannedSlots n store Taken (home_slot n hash) at passed → n ≤ passed → PutIs n store hash row false store
+  pub put_none : (at passed : ℕ) → ScannedSlots n store Taken (spread n hash) at passed → n ≤ passed → PutIs n store hash row false store
   put_none at passed walk h =
       record { yes = λ f. absurd (false≢true f); full = λ _. each; kept = λ _. refl; tail = refl }
     where
       each : (slot : ℕ) → slot < n → get_or store slot 0 ≡ 0 → ⊥
       each slot k z =
           let some : 0 < n = omega arith in
-          let m = slot_met n some (home_slot n hash) slot k in
+          let m = slot_met n some (spread n hash) slot k in
           walk.each m.0 (omega (arith, m.1)) (rw m.2 z)
 
 -- one more slot is made free

@@ -1,20 +1,20 @@
 -- The steps of `remove_row`: distances on the ring, the home of a word's row, and the scan that closes the hole. Assumes nothing.
-use Rattle.key_index.proofs.Prelude.{ℕ, ◌+◌, ◌-◌, ◌%◌, ◌^◌, ◌≤◌, ◌<◌, ◌≡◌, refl, sym, ap, ◌∙◌, true, false, cond, inl, inr, List, mod-eq_of_lt, add-mod_right, ℕ_discrete, arith, length, get_or, set, length-set, leb, set-get_or, get_or-set_same, get_or-set_other, leb-true, leb-false, split, IndexShape, key_at, slots, slot_from, home_slot_home, backward_shift, Shifted, RowRemoved, backward_shift_spent, backward_shift_stop, backward_shift_stay, backward_shift_move, backward_shift_length, backward_shift_rest, remove_row_sound}
+use Rattle.key_index.proofs.Prelude.{ℕ, ◌+◌, ◌-◌, ◌%◌, ◌^◌, ◌≤◌, ◌<◌, ◌≡◌, refl, sym, ap, ◌∙◌, true, false, cond, inl, inr, List, mod-eq_of_lt, add-mod_right, ℕ_discrete, arith, length, get_or, set, length-set, leb, set-get_or, get_or-set_same, get_or-set_other, leb-true, leb-false, split, IndexShape, key_at, slots, slot_from, home_spread, backward_shift, Shifted, RowRemoved, backward_shift_spent, backward_shift_stop, backward_shift_stay, backward_shift_move, backward_shift_length, backward_shift_rest, remove_row_sound}
 use Rattle.cells.specs.Cells.{compact_hash, key_hash}
-use Rattle.key_index.specs.inner.Ring.{home_slot, row_named, names_row, cyclic_distance}
+use Rattle.key_index.specs.inner.Ring.{spread, row_named, names_row, away}
 use Rattle.key_index.specs.inner.Index.{Fits, home_of}
 
 -- ---- distances
 
-pub distance_ahead : (n a b : ℕ) → b < n → a ≤ b → b - a ≡ cyclic_distance n a b
-unfolding cyclic_distance
+pub distance_ahead : (n a b : ℕ) → b < n → a ≤ b → b - a ≡ away n a b
+unfolding away
 distance_ahead n a b h k =
     let e : b + (n - a) ≡ b - a + n = omega arith in
     let i : b - a < n = omega arith in
     sym (rw e (add-mod_right (b - a) n ∙ mod-eq_of_lt i))
 
-pub distance_behind : (n a b : ℕ) → a < n → b < a → b + n - a ≡ cyclic_distance n a b
-unfolding cyclic_distance
+pub distance_behind : (n a b : ℕ) → a < n → b < a → b + n - a ≡ away n a b
+unfolding away
 distance_behind n a b h k =
     let e : b + (n - a) ≡ b + n - a = omega arith in
     let i : b + n - a < n = omega arith in
@@ -23,9 +23,9 @@ distance_behind n a b h k =
 -- ---- homes
 
 -- the home slot of the hash of its row's key
-pub home_hash : (t : IndexShape) (rows : List ℕ) (w hash : ℕ) → hash ≡ compact_hash (key_hash (key_at t rows (w % 2 ^ 17 - 1))) → home_slot (slots t) hash ≡ home_of t rows w
+pub home_hash : (t : IndexShape) (rows : List ℕ) (w hash : ℕ) → hash ≡ compact_hash (key_hash (key_at t rows (w % 2 ^ 17 - 1))) → spread (slots t) hash ≡ home_of t rows w
 unfolding home_of row_named
-home_hash t rows w hash e = home_slot_home (slots t) hash (key_at t rows (w % 2 ^ 17 - 1)) e
+home_hash t rows w hash e = home_spread (slots t) hash (key_at t rows (w % 2 ^ 17 - 1)) e
 
 -- ---- the scan that closes a hole
 
@@ -51,7 +51,7 @@ module _ (t : IndexShape) (rows store₀ : List ℕ) (slot : ℕ) (store : List 
 
     module _ (long : slots t ≤ length store₀) (e : names_row t (get_or store next 0) ≡ true) where
       -- the word next stays, and the hole's own is written again
-      stay : cyclic_distance (slots t) (home_of t rows (get_or store next 0)) next < gap + 1
+      stay : away (slots t) (home_of t rows (get_or store next 0)) next < gap + 1
           → ShiftInvariant t rows store₀ slot (set store hole held) hole held (gap + 1) next (left - 1)
       stay h =
           let kept : set store hole held ≡ store = ap (set store hole) s.holds ∙ set-get_or store hole 0 in
@@ -66,7 +66,7 @@ module _ (t : IndexShape) (rows store₀ : List ℕ) (slot : ℕ) (store : List 
           })
 
       -- it moves into the hole; what it leaves is the hole, and still has it
-      move : gap + 1 ≤ cyclic_distance (slots t) (home_of t rows (get_or store next 0)) next
+      move : gap + 1 ≤ away (slots t) (home_of t rows (get_or store next 0)) next
           → ShiftInvariant t rows store₀ slot (set store hole (get_or store next 0)) next (get_or store next 0) 0 next (left - 1)
       move h =
           record {
@@ -83,7 +83,7 @@ module _ (t : IndexShape) (rows store₀ : List ℕ) (slot : ℕ) (store : List 
           moved_holds (no q) = get_or-set_other store hole next (get_or store next 0) 0 q
 
       -- in both cases; `far` is the distance from its home to it
-      pub turn : (far held' hole' gap' : ℕ) → far ≡ cyclic_distance (slots t) (home_of t rows (get_or store next 0)) next
+      pub turn : (far held' hole' gap' : ℕ) → far ≡ away (slots t) (home_of t rows (get_or store next 0)) next
           → held' ≡ cond (leb (gap + 1) far) (get_or store next 0) held → hole' ≡ cond (leb (gap + 1) far) next hole → gap' ≡ cond (leb (gap + 1) far) 0 (gap + 1)
           → ShiftInvariant t rows store₀ slot (set store hole held') hole' held' gap' next (left - 1)
       turn far held' hole' gap' d a b c =

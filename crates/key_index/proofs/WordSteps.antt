@@ -1,7 +1,7 @@
 -- Decoding a slot's word: whether it has a row's number, the position of that row, and whether the row has a key. One law for each
 -- return path of `names_row` and `is_hit`. Assumes nothing.
-use Rattle.key_index.proofs.Prelude.{ℕ, ◌+◌, ◌-◌, ◌*◌, ◌/◌, ◌%◌, ◌^◌, ◌≤◌, ◌<◌, ◌≡◌, sym, ap, ◌∙◌, Bool, true, false, false≢true, List, arith, length, lt-ltb, leb, same, same_refl, same_eq, IndexShape, key_at, slot_word_row, slot_word_bits, slot_word_of, names_yes, names_number, row_inside, RowsIn, Leads, HitIs}
-use Rattle.key_index.specs.inner.Ring.{slot_word, names_row}
+use Rattle.key_index.proofs.Prelude.{ℕ, ◌+◌, ◌-◌, ◌*◌, ◌/◌, ◌%◌, ◌^◌, ◌≤◌, ◌<◌, ◌≡◌, sym, ap, ◌∙◌, Bool, true, false, false≢true, List, arith, length, lt-ltb, leb, same, same_refl, same_eq, IndexShape, key_at, tagged_row, tagged_bits, tagged_of, names_yes, names_number, row_inside, RowsIn, Leads, HitIs}
+use Rattle.key_index.specs.inner.Ring.{tagged, names_row}
 
 pub names_some : (t : IndexShape) (w : ℕ) → (w % 2 ^ 17 ≡ 0 → ⊥) → leb (w % 2 ^ 17) t.rows ≡ names_row t w
 unfolding names_row
@@ -23,7 +23,7 @@ named t rows w f e =
 
 -- a word that leads to a row has the hash's bits
 pub leads_bits : (t : IndexShape) (rows key : List ℕ) (hash w i : ℕ) → t.rows ≤ 65536 → Leads t rows key hash w i → w / 2 ^ 17 ≡ hash % 2 ^ 15
-leads_bits t rows key hash w i few l = ap (λ (x : ℕ). x / 2 ^ 17) l.tag ∙ slot_word_bits hash i (omega (arith, l.below))
+leads_bits t rows key hash w i few l = ap (λ (x : ℕ). x / 2 ^ 17) l.tag ∙ tagged_bits hash i (omega (arith, l.below))
 
 module _ (t : IndexShape) (rows key : List ℕ) (hash w row : ℕ) (few : t.rows ≤ 65536) where
   pub hit_bits : (w / 2 ^ 17 ≡ hash % 2 ^ 15 → ⊥) → HitIs t rows key hash w row false
@@ -31,7 +31,7 @@ module _ (t : IndexShape) (rows key : List ℕ) (hash w row : ℕ) (few : t.rows
 
   -- the word determines its row
   the_row : (i : ℕ) → Leads t rows key hash w i → w % 2 ^ 17 ≡ i + 1
-  the_row i l = ap (λ (x : ℕ). x % 2 ^ 17) l.tag ∙ slot_word_row hash i (omega (arith, l.below))
+  the_row i l = ap (λ (x : ℕ). x % 2 ^ 17) l.tag ∙ tagged_row hash i (omega (arith, l.below))
 
   pub hit_nameless : names_row t w ≡ false → HitIs t rows key hash w row false
   hit_nameless e =
@@ -44,7 +44,7 @@ module _ (t : IndexShape) (rows key : List ℕ) (hash w row : ℕ) (few : t.rows
       → HitIs t rows key hash w row r
   hit_cells bits some e h r q =
       record {
-        yes = λ y. record { tag = slot_word_of hash w bits some ∙ ap (slot_word hash) (sym e); below = h; cells = same_eq _ _ (sym q ∙ y) };
+        yes = λ y. record { tag = tagged_of hash w bits some ∙ ap (tagged hash) (sym e); below = h; cells = same_eq _ _ (sym q ∙ y) };
         no = λ z i l.
             let f : i ≡ row = omega (arith, the_row i l) in
             false≢true (sym z ∙ q ∙ ap (λ (k : List ℕ). same k key) (ap (key_at t rows) (sym f) ∙ l.cells) ∙ same_refl key);

@@ -6,7 +6,7 @@
 ghost use Rattle.std.specs.Prelude.{◌≡◌, ℕ, ◌+◌, ◌-◌, ◌/◌, ◌%◌, ◌^◌, ◌≤◌, ◌<◌, true, length, get_or, set};
 ghost use Rattle.cells.specs.Cells.{compact_hash, key_hash};
 ghost use Rattle.key_index.specs.Slots.{key_at, size_class, size_class_for, slots, slot_from};
-ghost use Rattle.key_index.specs.inner.Ring.{home_slot, slot_word, names_row};
+ghost use Rattle.key_index.specs.inner.Ring.{spread, tagged, names_row};
 ghost use Rattle.key_index.specs.inner.Index.{SlotsFit, RowsIn, Fits, RowsFit, HitIs, FoundIs, PutIs, NewPutIs, EmptyIs};
 ghost use Rattle.key_index.specs.inner.Window.{is_free, has_bits, some_of, Ahead, FreeSoon, TakenRun, OtherRun};
 
@@ -81,7 +81,7 @@ pub fn size_class_for(capacity: u32, rows: u32) -> u32
 // a remainder operation.
 pub fn home_slot(slots: u32, hash: u32) -> u32
     requires { 0 < slots }
-    ensures value { result ≡ home_slot slots hash }
+    ensures value { result ≡ spread slots hash }
     ensures upper_bound { result < slots }
 {
     (hash as u64 * slots as u64 / 0x1_0000_0000) as u32
@@ -89,7 +89,7 @@ pub fn home_slot(slots: u32, hash: u32) -> u32
 
 pub fn slot_word(hash: u32, row: u32) -> u32
     requires { row < 65536 }
-    ensures { result ≡ slot_word hash row }
+    ensures { result ≡ tagged hash row }
 {
     hash % HASH_RANGE * ROW_RANGE + (row + 1)
 }
@@ -467,7 +467,7 @@ pub fn put_new(
 // Writes another row's number to the slot of a known key.
 pub fn replace(store: &mut [u32], slot: u32, hash: u32, row: u32)
     requires { (slot < length store.old) × (row < 65536) }
-    ensures { store.new ≡ set store.old slot (slot_word hash row) }
+    ensures { store.new ≡ set store.old slot (tagged hash row) }
 {
     store[slot as usize] = slot_word(hash, row);
 }

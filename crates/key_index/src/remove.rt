@@ -3,16 +3,16 @@
 // as a row number.
 ghost use Rattle.std.specs.Prelude.{◌≡◌, true, cond, ◌≤◌, ◌<◌};
 ghost use Rattle.key_index.specs.Slots.{slots};
-ghost use Rattle.key_index.specs.inner.Ring.{names_row, cyclic_distance};
+ghost use Rattle.key_index.specs.inner.Ring.{names_row, away};
 ghost use Rattle.key_index.specs.inner.Index.{RowsIn, Fits, home_of};
 ghost use Rattle.key_index.specs.inner.BackwardShift.{Shifted, RowRemoved};
 
 use super::{IndexShape, ROW_RANGE, home_slot, names_row, next_slot};
 
 // The cyclic distance from slot `from` to slot `to`.
-fn cyclic_distance(n: u32, from: u32, to: u32) -> u32
+fn slots_away(n: u32, from: u32, to: u32) -> u32
     requires { (from < n) × (to < n) × (n ≤ 131072) }
-    ensures { result ≡ cyclic_distance n from to }
+    ensures { result ≡ away n from to }
 {
     if from <= to {
         return to - from;
@@ -21,14 +21,14 @@ fn cyclic_distance(n: u32, from: u32, to: u32) -> u32
 }
 
 // The distance from the home of the row in a word to slot `at`.
-fn distance_from_home(t: IndexShape, rows: &[u32], word: u32, at: u32) -> u32
+fn home_away(t: IndexShape, rows: &[u32], word: u32, at: u32) -> u32
     requires { (RowsIn t rows.now) × (names_row t word ≡ true) × (at < slots t) }
-    ensures { result ≡ cyclic_distance (slots t) (home_of t rows.now word) at }
+    ensures { result ≡ away (slots t) (home_of t rows.now word) at }
 {
     let hash = super::row_hash(t, rows, word % ROW_RANGE - 1);
     let n = 2 * t.room;
     let home = home_slot(n, hash);
-    cyclic_distance(n, home, at)
+    slots_away(n, home, at)
 }
 
 // Branch-free select. The condition depends on a hash, so a branch would be unpredictable.
@@ -61,7 +61,7 @@ fn close_hole(t: IndexShape, rows: &[u32], store: &mut [u32], slot: u32) -> u32
         }
         gap += 1;
         left -= 1;
-        let moves = gap <= distance_from_home(t, rows, word, at);
+        let moves = gap <= home_away(t, rows, word, at);
         held = select(moves, word, held);
         store[hole as usize] = held;
         hole = select(moves, at, hole);

@@ -22,7 +22,7 @@ pub use Rattle.constraints.specs.Laws.Rows.{live_first}
 pub use Rattle.key_index.specs.Laws.Index.{emptied, empty_sound, keys_same, put_sound, rows_in_lem}
 pub use Rattle.key_index.specs.Laws.Places.{Inside, fits_stores, key_part, row_inside}
 pub use Rattle.key_index.specs.Laws.Ring.{names_number}
-pub use Rattle.key_index.specs.Laws.Longer.{keys_longer, padded_rows, padded_rows_fits, same_row_lem}
+pub use Rattle.key_index.specs.Laws.Longer.{keys_longer, roomy, roomy_fits, same_row_lem}
 pub use Rattle.key_index.specs.Laws.Rows.{grown_rows}
 pub use Rattle.key_index.specs.Laws.SizeClasses.{fits_fewer}
 pub use Rattle.key_index.specs.Slots.{KeysSound, LiveAt, key_at, slots}

@@ -1,5 +1,5 @@
 -- The steps of `put_new_row`, one law for each return path, and the loop iterations of `build_unique`. Assumes nothing.
-use Rattle.key_rebuild.proofs.Prelude.{ℕ, ◌+◌, ◌*◌, ◌≤◌, ◌<◌, ◌≡◌, refl, ap, sym, ◌∙◌, Bool, true, false, not, false≢true, List, mul-le-mul_right, dec_lt, arith, length, get_or, row_at, is_live, live_first, IndexShape, LiveAt, key_at, slots, KeysSound, RowsFit, KeysDiffer, NewPutIs, EmptyIs, empty_sound, emptied, put_sound, grown_rows, same_row_lem, keys_longer, padded_rows, padded_rows_fits, zeros, first_rows, NewRowPut, UniqueBuilt}
+use Rattle.key_rebuild.proofs.Prelude.{ℕ, ◌+◌, ◌*◌, ◌≤◌, ◌<◌, ◌≡◌, refl, ap, sym, ◌∙◌, Bool, true, false, not, false≢true, List, mul-le-mul_right, dec_lt, arith, length, get_or, row_at, is_live, live_first, IndexShape, LiveAt, key_at, slots, KeysSound, RowsFit, KeysDiffer, NewPutIs, EmptyIs, empty_sound, emptied, put_sound, grown_rows, same_row_lem, keys_longer, roomy, roomy_fits, zeros, first_rows, NewRowPut, UniqueBuilt}
 use Rattle.cells.specs.Cells.{is_dead, compact_hash, key_hash}
 use Rattle.key_rebuild.proofs.RebuildSteps.{dead_sound}
 
@@ -55,8 +55,8 @@ module _ (t : IndexShape) (rows store : List ℕ) (row : ℕ) (f : RowsFit t row
         let u = first_rows t row in
         let fit = earlier_fit t rows store f row (omega arith) in
         let more = zeros (u.room * u.columns) in
-        put_sound u (first_rows t (row + 1)) (padded_rows u rows) rows store store' hash true (padded_rows_fits u rows store fit) (keys_longer u rows more fit.within store s)
-        (grown_rows u (first_rows t (row + 1)) (padded_rows u rows) rows (record { columns = refl; keys = refl; room = refl; count = refl }) (omega (arith, f.within.count)) (λ i k. sym (same_row_lem u rows more fit.within i k)) live)
+        put_sound u (first_rows t (row + 1)) (roomy u rows) rows store store' hash true (roomy_fits u rows store fit) (keys_longer u rows more fit.within store s)
+        (grown_rows u (first_rows t (row + 1)) (roomy u rows) rows (record { columns = refl; keys = refl; room = refl; count = refl }) (omega (arith, f.within.count)) (λ i k. sym (same_row_lem u rows more fit.within i k)) live)
         is (p.put q)
 
     apart : r ≡ true → KeysSound (first_rows t row) rows store → KeysDiffer (first_rows t row) rows → KeysDiffer (first_rows t (row + 1)) rows

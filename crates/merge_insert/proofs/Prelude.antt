@@ -18,7 +18,7 @@ pub use Rattle.key_index.specs.declared.Found.TheVariants.{At, None}
 pub use Rattle.key_index.specs.declared.Found.{Found}
 pub use Rattle.key_index.specs.declared.IndexShape.{IndexShape}
 pub use Rattle.key_index.specs.inner.Index.{Fits, FoundIs, PutIs}
-pub use Rattle.key_index.specs.inner.Ring.{slot_word}
+pub use Rattle.key_index.specs.inner.Ring.{tagged}
 pub use Rattle.key_rebuild.specs.inner.Rebuilding.{Rebuilt}
 pub use Rattle.lists.specs.Laws.Parts.{part_splice, part_width}
 pub use Rattle.lists.specs.Laws.Rows.{row_in}
@@ -31,7 +31,7 @@ pub use Rattle.merge_insert.specs.declared.append.Admission.TheVariants.{Entries
 pub use Rattle.merge_insert.specs.declared.append.Admission.{Admission}
 pub use Rattle.merge_insert.specs.declared.append.Insertion.TheVariants.{Appended, Stopped, Unchanged}
 pub use Rattle.merge_insert.specs.declared.append.Insertion.{Insertion}
-pub use Rattle.merge_insert.specs.inner.Appending.{AdmissionIs, Entered, NewRowAppended, CanAppend, KeysAfterAppend, NewIs, Rebuildable, RebuiltAfterAppend, ReplaceIs, Replaced, UnchangedByStop, Stops, header_after_append, needs_more_slots}
+pub use Rattle.merge_insert.specs.inner.Appending.{AdmissionIs, Entered, Grew, Growable, KeysGrown, NewIs, Rebuildable, RebuiltGrown, ReplaceIs, Replaced, Stayed, Stops, grown_to, outgrown}
 pub use Rattle.merge_insert.specs.inner.Inserting.{InsertAgrees, Inserting}
 pub use Rattle.merge_insert.specs.inner.Insertions.{FirstInsert, InsertGoes, InsertNext, InsertedNext, InsertedTable, Insertions}
 pub use Rattle.merge_pending.specs.Laws.Steps.{recounted_capacity, recounted_refl, recounted_then, recounted_waiting, steps_refl, steps_then, waiting_cells, waiting_hash, waiting_kind, waiting_next, waiting_start, words_some}

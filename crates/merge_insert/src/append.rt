@@ -3,7 +3,7 @@
 ghost use Rattle.std.specs.Prelude.{◌≡◌, ◌≤◌, ◌+◌, ◌<◌};
 ghost use Rattle.key_index.specs.Slots.{slots};
 ghost use Rattle.table.specs.Sound.{index_shape_of};
-ghost use Rattle.merge_insert.specs.inner.Appending.{Enterable, AdmissionIs, header_after_append, needs_more_slots, Rebuildable, RebuiltAfterAppend, CanAppend, NewIs, ReplaceIs};
+ghost use Rattle.merge_insert.specs.inner.Appending.{Enterable, AdmissionIs, grown_to, outgrown, Rebuildable, RebuiltGrown, Growable, NewIs, ReplaceIs};
 
 use refusals::{OLD_SORT_VALUE, TABLE_FULL};
 use row_buffer::row_start;
@@ -40,9 +40,9 @@ fn admit(h: Header, sorts: &mut [u32], value: u32) -> Admission
 }
 
 // The header with one more row, whose sort value is now the largest.
-fn header_after_append(h: Header, died: u32, entries: u32, value: u32) -> Header
+fn grown(h: Header, died: u32, entries: u32, value: u32) -> Header
     requires { (h.rows < 65536) × (h.dead + died ≤ 4294967295) }
-    ensures { result ≡ header_after_append h (h.dead + died) entries value }
+    ensures { result ≡ grown_to h (h.dead + died) entries value }
 {
     let mut n = h;
     n.rows = h.rows + 1;
@@ -55,16 +55,16 @@ fn header_after_append(h: Header, died: u32, entries: u32, value: u32) -> Header
 }
 
 // Whether one more row needs more slots in the key store.
-fn needs_more_slots(h: Header) -> bool
+fn is_outgrown(h: Header) -> bool
     requires { h.rows < 65536 }
-    ensures { result ≡ needs_more_slots h }
+    ensures { result ≡ outgrown h }
 {
     key_index::size_class_for(h.capacity, h.rows + 1)
         != key_index::size_class_for(h.capacity, h.rows)
 }
 
 // Rebuilds the key store after a row that needs more slots was written.
-fn rebuild_after_append(
+fn rebuild_grown(
     h: Header,
     rows: &[u32],
     keys: &mut [u32],
@@ -73,9 +73,9 @@ fn rebuild_after_append(
     value: u32,
 ) -> Insertion
     requires { Rebuildable h rows.now keys.old died }
-    ensures { RebuiltAfterAppend h rows.now keys.old died entries value result keys.new }
+    ensures { RebuiltGrown h rows.now keys.old died entries value result keys.new }
 {
-    let n = header_after_append(h, died, entries, value);
+    let n = grown(h, died, entries, value);
     key_rebuild::rebuild(index_shape(n), rows, keys);
     Insertion::Appended(n)
 }
@@ -89,7 +89,7 @@ pub fn insert_new(
     cells: &[u32],
     hash: u32,
 ) -> Insertion
-    requires { CanAppend h rows.old keys.old sorts.old cells.now }
+    requires { Growable h rows.old keys.old sorts.old cells.now }
     ensures { NewIs h rows.old keys.old sorts.old cells.now hash rows.new keys.new sorts.new result }
 {
     let value = cells[h.sort as usize];
@@ -97,11 +97,11 @@ pub fn insert_new(
         Admission::Stop(number) => Insertion::Stopped(number),
         Admission::Entries(entries) => {
             row_buffer::write_row(rows, row_start(h.rows, h.columns), cells);
-            if needs_more_slots(h) {
-                return rebuild_after_append(h, rows, keys, 0, entries, value);
+            if is_outgrown(h) {
+                return rebuild_grown(h, rows, keys, 0, entries, value);
             }
             key_index::put(index_shape(h), keys, hash, h.rows);
-            Insertion::Appended(header_after_append(h, 0, entries, value))
+            Insertion::Appended(grown(h, 0, entries, value))
         }
     }
 }
@@ -117,7 +117,7 @@ pub fn replace_row(
     old: u32,
     slot: u32,
 ) -> Insertion
-    requires { CanAppend h rows.old keys.old sorts.old cells.now × (old < h.rows) × (slot < slots (index_shape_of h)) }
+    requires { Growable h rows.old keys.old sorts.old cells.now × (old < h.rows) × (slot < slots (index_shape_of h)) }
     ensures { ReplaceIs h rows.old keys.old sorts.old cells.now hash old slot rows.new keys.new sorts.new result }
 {
     let value = cells[h.sort as usize];
@@ -126,11 +126,11 @@ pub fn replace_row(
         Admission::Entries(entries) => {
             row_buffer::set_stale(rows, row_start(old, h.columns));
             row_buffer::write_row(rows, row_start(h.rows, h.columns), cells);
-            if needs_more_slots(h) {
-                return rebuild_after_append(h, rows, keys, 1, entries, value);
+            if is_outgrown(h) {
+                return rebuild_grown(h, rows, keys, 1, entries, value);
             }
             key_index::replace(keys, slot, hash, h.rows);
-            Insertion::Appended(header_after_append(h, 1, entries, value))
+            Insertion::Appended(grown(h, 1, entries, value))
         }
     }
 }

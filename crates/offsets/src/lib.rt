@@ -160,7 +160,7 @@ pub enum BoundsAnswer {
     Ends(u64, u64),
 }
 
-fn widen(id: u32) -> u64
+fn wide(id: u32) -> u64
     ensures { (result ≡ id) × (result < 4294967296) }
 {
     id as u64
@@ -171,13 +171,13 @@ pub fn bounds(head: SubsetHead, ids: &[u32]) -> BoundsAnswer
     ensures { bounds_view result ≡ ends.bounds (subset_of head ids.now) }
 {
     if head.dense {
-        return BoundsAnswer::Ends(widen(head.start), widen(head.end));
+        return BoundsAnswer::Ends(wide(head.start), wide(head.end));
     }
     let count = ids.len();
     if count == 0 {
         return BoundsAnswer::None;
     }
-    let first = widen(ids[0]);
-    let last = widen(ids[count - 1]);
+    let first = wide(ids[0]);
+    let last = wide(ids[count - 1]);
     BoundsAnswer::Ends(first, last + 1)
 }

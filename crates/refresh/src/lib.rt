@@ -103,13 +103,13 @@ fn mark_mentioning(
     index: &[u32],
     columns: &[u32],
     values: &[u32],
-    index_usable: bool,
+    goes_on: bool,
     words: &mut [u64],
 ) -> u32
     requires { Lendable h rows.now columns.now index.now × (index_usable ≡ usable h columns.now index.now) × Bitmap words.old (λ i. false) }
     ensures { RowsFound h rows.now index.now columns.now values.now words.old words.new result }
 {
-    if !index_usable {
+    if !goes_on {
         return mark_unlisted(h, rows, 0, columns, values, words);
     }
     let seen = index[ROWS_SEEN];
@@ -253,7 +253,7 @@ fn stage_marked(
 }
 
 // Whether the free pending words do not suffice for the records of all rows. If they do, test 7 refuses no refresh.
-fn is_overfull_for_all_rows(h: Header, pending: usize) -> bool
+fn is_tight(h: Header, pending: usize) -> bool
     requires { outside h ≡ false }
     ensures { result ≡ overfull h.pending pending (h.rows * (h.keys + 3) + h.rows * (h.columns + 2)) }
 {
@@ -275,12 +275,12 @@ fn refresh_by_index(
     columns: &[u32],
     values: &[u32],
     stamp: u32,
-    index_usable: bool,
+    goes_on: bool,
 ) -> Refreshed
     requires { Accepted h rows.now pending.old index.old columns.now stamp index_usable × (overfull h.pending (length pending.old) (h.rows * (h.keys + 3) + h.rows * (h.columns + 2)) ≡ false) }
     ensures { Refreshing h rows.now pending.old index.old (record { columns = columns.entry.now; values = values.now; stamp = stamp }) (RefreshDone result) pending.new index.new }
 {
-    catch_up(h, rows, index, columns, index_usable);
+    catch_up(h, rows, index, columns, goes_on);
     let mut words = [0u64; WORDS];
     let count = mark_listed(h, rows, index, columns, values, &mut words);
     stage_marked(h, rows, pending, &words, count, stamp)
@@ -295,19 +295,19 @@ fn refresh_by_scan(
     columns: &[u32],
     values: &[u32],
     stamp: u32,
-    index_usable: bool,
+    goes_on: bool,
 ) -> RefreshAnswer
     requires { Accepted h rows.now pending.old index.old columns.now stamp index_usable }
     ensures { Refreshing h rows.now pending.old index.old (record { columns = columns.entry.now; values = values.now; stamp = stamp }) result pending.new index.new }
 {
     let mut words = [0u64; WORDS];
-    let count = mark_mentioning(h, rows, index, columns, values, index_usable, &mut words);
+    let count = mark_mentioning(h, rows, index, columns, values, goes_on, &mut words);
     let removals = count * (h.keys + ROW_RECORD_HEAD);
     let inserts = count * (h.columns + RECORD_HEAD);
     if is_overfull(h.pending, pending.len(), removals, inserts) {
         return RefreshAnswer::Refused(PENDING_FULL);
     }
-    catch_up(h, rows, index, columns, index_usable);
+    catch_up(h, rows, index, columns, goes_on);
     RefreshAnswer::Refreshed(stage_marked(h, rows, pending, &words, count, stamp))
 }
 
@@ -328,28 +328,10 @@ pub fn refresh_rows_for_values(
     if refusal != ACCEPTED {
         return RefreshAnswer::Refused(refusal);
     }
-    let index_usable = is_usable(h, index, columns);
-    if is_overfull_for_all_rows(h, pending.len()) {
-        return refresh_by_scan(
-            h,
-            rows,
-            pending,
-            index,
-            columns,
-            values,
-            stamp,
-            index_usable,
-        );
+    let goes_on = is_usable(h, index, columns);
+    if is_tight(h, pending.len()) {
+        return refresh_by_scan(h, rows, pending, index, columns, values, stamp, goes_on);
     }
-    let refreshed = refresh_by_index(
-        h,
-        rows,
-        pending,
-        index,
-        columns,
-        values,
-        stamp,
-        index_usable,
-    );
+    let refreshed = refresh_by_index(h, rows, pending, index, columns, values, stamp, goes_on);
     RefreshAnswer::Refreshed(refreshed)
 }

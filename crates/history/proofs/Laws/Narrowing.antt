@@ -7,28 +7,28 @@ use Rattle.history.specs.Claim.{satisfies, wanted}
 -- ---- tests of an id
 
 -- a live row
-unfoldable pub is_live_id : Stores → ℕ → Bool
-is_live_id s id = ltb id s.header.rows && is_live (row_at s.header.columns id s.rows)
+unfoldable pub alive : Stores → ℕ → Bool
+alive s id = ltb id s.header.rows && is_live (row_at s.header.columns id s.rows)
 
 -- the row satisfies all accepted queries
 unfoldable pub fits : Stores → List Query → ℕ → Bool
 fits s accepted id = all (satisfies id (row_at s.header.columns id s.rows)) accepted
 
-pub is_live_id_of : (s : Stores) (id : ℕ) → id < s.header.rows → is_live (row_at s.header.columns id s.rows) ≡ true → is_live_id s id ≡ true
-unfolding is_live_id
-is_live_id_of s id h e = rw (lt-ltb _ _ h, e)
+pub alive_of : (s : Stores) (id : ℕ) → id < s.header.rows → is_live (row_at s.header.columns id s.rows) ≡ true → alive s id ≡ true
+unfolding alive
+alive_of s id h e = rw (lt-ltb _ _ h, e)
 
-pub is_live_id_below : (s : Stores) (id : ℕ) → is_live_id s id ≡ true → id < s.header.rows
-unfolding is_live_id
-is_live_id_below s id e = ltb-true _ _ (and_left _ _ e)
+pub alive_below : (s : Stores) (id : ℕ) → alive s id ≡ true → id < s.header.rows
+unfolding alive
+alive_below s id e = ltb-true _ _ (and_left _ _ e)
 
-pub is_live_id_live : (s : Stores) (id : ℕ) → is_live_id s id ≡ true → is_live (row_at s.header.columns id s.rows) ≡ true
-unfolding is_live_id
-is_live_id_live s id e = and_right (ltb id s.header.rows) _ e
+pub alive_live : (s : Stores) (id : ℕ) → alive s id ≡ true → is_live (row_at s.header.columns id s.rows) ≡ true
+unfolding alive
+alive_live s id e = and_right (ltb id s.header.rows) _ e
 
 -- the wanted ids are the live ones that fit
-wanted_is : (s : Stores) (accepted : List Query) (id : ℕ) → wanted s accepted id ≡ (is_live_id s id && fits s accepted id)
-unfolding wanted is_live_id fits
+wanted_is : (s : Stores) (accepted : List Query) (id : ℕ) → wanted s accepted id ≡ (alive s id && fits s accepted id)
+unfolding wanted alive fits
 wanted_is s accepted id = refl
 
 and_assoc : (a b c : Bool) → ((a && b) && c) ≡ (a && (b && c))
@@ -57,11 +57,11 @@ any_both test (x ∷ xs) ys = rw (any_both test xs ys) (sym (or_assoc (test x) (
 
 pub record Narrows (s : Stores) (before after : List ℕ) (accepted : List Query) : Type 0 where
   -- of the live rows, those that fit
-  pub live : (id : ℕ) → is_live_id s id ≡ true → elem id after ≡ (elem id before && fits s accepted id)
+  pub live : (id : ℕ) → alive s id ≡ true → elem id after ≡ (elem id before && fits s accepted id)
   -- no id is added
   pub among : (id : ℕ) → elem id after ≡ true → elem id before ≡ true
   -- after refining only live rows are left
-  pub only_live : any refines accepted ≡ true → (id : ℕ) → elem id after ≡ true → is_live_id s id ≡ true
+  pub only_live : any refines accepted ≡ true → (id : ℕ) → elem id after ≡ true → alive s id ≡ true
   -- an accepted query takes rising ids and leaves rising ids, any other leaves them unchanged
   pub rises : rising after ≡ rising before
   pub rising_before : any refines accepted ≡ true → rising before ≡ true
@@ -80,8 +80,8 @@ narrows_not s ids =
 
 -- a query was accepted: of rising ids it left those that pass a test
 pub narrows_filter : {s : Stores} {before after : List ℕ} {q : Query} (test : ℕ → Bool) → rising before ≡ true → after ≡ filter test before
-    → ((id : ℕ) → is_live_id s id ≡ true → test id ≡ satisfies id (row_at s.header.columns id s.rows) q)
-    → (refines q ≡ true → (id : ℕ) → elem id before ≡ true → test id ≡ true → is_live_id s id ≡ true)
+    → ((id : ℕ) → alive s id ≡ true → test id ≡ satisfies id (row_at s.header.columns id s.rows) q)
+    → (refines q ≡ true → (id : ℕ) → elem id before ≡ true → test id ≡ true → alive s id ≡ true)
     → Narrows s before after (q ∷ [])
 unfolding fits all any
 narrows_filter {before = before} {after = after} {q} test up left passes only =
@@ -128,7 +128,7 @@ module _ {s : Stores} {before after : List ℕ} {accepted : List Query} (n : Nar
 
   left_wanted : (id : ℕ) → elem id after ≡ (elem id before && wanted s accepted id)
   left_wanted id =
-      elim (split (is_live_id s id)) [
+      elim (split (alive s id)) [
         | inl e ↦ n.live id e ∙ ap (λ (b : Bool). elem id before && b) (sym (wanted_is s accepted id ∙ rw e))
         | inr e ↦
             none (λ q. false≢true (sym e ∙ n.only_live r id q))

@@ -11,7 +11,7 @@ use Rattle.table.specs.Outcomes.{Stores, Represents, fast_subset, fast_among, Ra
 use Rattle.query_spec.specs.Queries.{matches, past_rows, query_checks, refine_refusal, refine_one_reply, refine_list_reply}
 use Rattle.history.specs.Runs.{Query, refines, Outcome, by_reply, Intersected, Queried, one_refined, list_refined, intersected, range_intersected, range_nothing}
 use Rattle.history.specs.Claim.{satisfies}
-use Rattle.history.proofs.Laws.Narrowing.{is_live_id, is_live_id_of, is_live_id_below, is_live_id_live, Narrows, narrows_not, narrows_filter}
+use Rattle.history.proofs.Laws.Narrowing.{alive, alive_of, alive_below, alive_live, Narrows, narrows_not, narrows_filter}
 use Rattle.refusals.specs.Refusals.{if_accepted}
 
 -- ---- an answer, read from its output
@@ -85,10 +85,10 @@ module _ (s : Stores) (lent : ℕ) (a : Subset) (cs : List Constraint) (output :
       → Narrows s (members a) (members v) (q ∷ [])
   refined_narrows v is satisfies-is =
       narrows_filter test (rising_members a m.formed) is
-      (λ id e. rw (satisfies-is id (row_at s.header.columns id s.rows)) (test_is id (is_live_id_below s id e) ∙ (unfold meets in rw (is_live_id_live s id e))))
+      (λ id e. rw (satisfies-is id (row_at s.header.columns id s.rows)) (test_is id (alive_below s id e) ∙ (unfold meets in rw (alive_live s id e))))
       (λ r id e q.
       let h = elem_below s.header _ a output m id e in
-      is_live_id_of s id h (unfold meets in and_left _ _ (sym (test_is id h) ∙ q)))
+      alive_of s id h (unfold meets in and_left _ _ (sym (test_is id h) ∙ q)))
 
 -- its answer fits the output
 pub refined_fit : {h : Header} {rows : ℕ} (a : Subset) (output : ℕ) → Refinable h rows a output → (test : ℕ → Bool) (v : Subset) → members v ≡ filter test (members a)
@@ -151,7 +151,7 @@ entries_lent n lent sorts h = entries_of_same n (take lent sorts) sorts (take-ta
 module _ {p : Plain} {s : Stores} (r : Represents p s) (c : Constraint) (lent : ℕ) (answer : RangeAnswer) (b : Subset) (m : RangeRead s.header (take lent s.sorts) c answer)
     (q : range_view answer ≡ accepted (some b)) where
   -- a live row is in the range exactly if it meets the condition: its sort cell is the value recorded for it
-  range_met : (id : ℕ) → is_live_id s id ≡ true → elem id (members b) ≡ met (row_at s.header.columns id s.rows) c
+  range_met : (id : ℕ) → alive s id ≡ true → elem id (members b) ≡ met (row_at s.header.columns id s.rows) c
   range_met id e =
       let sound = represents_sound r in
       let n = outcome_accepted (range_view answer) (some b) _ m.refusal q in
@@ -166,8 +166,8 @@ module _ {p : Plain} {s : Stores} (r : Represents p s) (c : Constraint) (lent : 
       let compared = g.compared in
       let above : 1 ≤ c.kind = omega arith in
       rw is
-      (fast_range_lem (entries_of s.header.entries s.sorts) s.header.rows c.kind c.value sound.contents.entries_rise above few id (is_live_id_below s id e)
-      ∙ rw (met_compared (row_at s.header.columns id s.rows) c compared, g.sorted, sound.contents.sorted id (is_live_id_below s id e, is_live_id_live s id e)))
+      (fast_range_lem (entries_of s.header.entries s.sorts) s.header.rows c.kind c.value sound.contents.entries_rise above few id (alive_below s id e)
+      ∙ rw (met_compared (row_at s.header.columns id s.rows) c compared, g.sorted, sound.contents.sorted id (alive_below s id e, alive_live s id e)))
     where
       same : {x y : Option Subset} → accepted x ≡ accepted y → x ≡ y
       same f = cc

@@ -10,11 +10,11 @@ use Rattle.lists.specs.Laws.Filter.{split}
 use Rattle.cells.specs.Cells.{compact_hash, key_hash}
 use Rattle.key_index.specs.declared.IndexShape.{IndexShape}
 use Rattle.key_index.specs.Slots.{LiveAt, key_at, slots, word, home, slot_from, ReachableAt, KeysSound}
-use Rattle.key_index.specs.inner.Ring.{home_slot, row_named}
+use Rattle.key_index.specs.inner.Ring.{spread, row_named}
 use Rattle.key_index.specs.inner.Index.{Fits, KeysDiffer, Leads, FirstHit}
-use Rattle.key_index.specs.Laws.Ring.{home_slot_home, home_below, slot_below, slot_one, slot_word_word, word_some, word_row, word_same}
+use Rattle.key_index.specs.Laws.Ring.{home_spread, home_below, slot_below, slot_one, word_tagged, word_some, word_row, word_same}
 use Rattle.key_index.specs.Laws.Index.{first_one}
-use Rattle.key_check.specs.inner.Check.{is_live_row, tally, live_count, is_taken, taken_count, FoundByOwnKey, KeyStoreSound}
+use Rattle.key_check.specs.inner.Check.{is_live_row, tally, live_count, is_taken, taken_count, Own, KeyStoreSound}
 
 module _ (test : ℕ → Bool) (n : ℕ) where
   suc_yes : test n ≡ true → tally test (suc n) ≡ suc (tally test n)
@@ -127,15 +127,15 @@ module _ (t : IndexShape) (rows store : List ℕ) (f : Fits t rows store) where
 
   -- ---- from the check to soundness
 
-  module _ (count : taken_count store (slots t) ≡ live_count t rows) (own : (row : ℕ) → LiveAt t rows row → FoundByOwnKey t rows store row) where
+  module _ (count : taken_count store (slots t) ≡ live_count t rows) (own : (row : ℕ) → LiveAt t rows row → Own t rows store row) where
     reachable : (row : ℕ) → LiveAt t rows row → (d : ℕ) × ReachableAt (slots t) store (key_at t rows row) row d
     reachable row live =
         let o = own row live in
-        let e = home_slot_home (slots t) _ (key_at t rows row) refl in (
+        let e = home_spread (slots t) _ (key_at t rows row) refl in (
           o.0,
           record {
             below = o.1.below;
-            there = rw (← e) (o.1.there ∙ slot_word_word _ row (key_at t rows row) refl);
+            there = rw (← e) (o.1.there ∙ word_tagged _ row (key_at t rows row) refl);
             way = λ d h. rw (← e) (o.1.taken d h);
           },
         )
@@ -236,15 +236,15 @@ module _ (t : IndexShape) (rows store : List ℕ) (f : Fits t rows store) where
       abbrev from : ℕ → ℕ
       from d = slot_from (slots t) (home (slots t) key) d
 
-      same_home : home_slot (slots t) (compact_hash (key_hash key)) ≡ home (slots t) key
-      same_home = home_slot_home (slots t) _ key refl
+      same_home : spread (slots t) (compact_hash (key_hash key)) ≡ home (slots t) key
+      same_home = home_spread (slots t) _ key refl
 
       -- no slot before the row's own leads to a row with its key: that row would be live, so it would be the same row
       first : (d : ℕ) → ReachableAt (slots t) store key row d → (e : ℕ) → e < d → (i : ℕ) → Leads t rows key (compact_hash (key_hash key)) (get_or store (from e) 0) i → ⊥
       first d p e h i l =
           let some : 0 < slots t = omega (arith, f.some) in
           let b = slot_below (slots t) (home (slots t) key) e some in
-          let w : get_or store (from e) 0 ≡ word key i = l.tag ∙ slot_word_word _ i key refl in
+          let w : get_or store (from e) 0 ≡ word key i = l.tag ∙ word_tagged _ i key refl in
           let o = k.only_live (from e) b (rw w (word_some key i)) in
           let q : o.0 ≡ i = word_same _ _ o.0 i (omega (arith, o.1.0, f.count, f.most)) (omega (arith, l.below, f.count, f.most)) (sym o.2 ∙ w) in
           let z : i ≡ row = s.keys_differ i row (rw q at o.1) live l.cells in
@@ -252,13 +252,13 @@ module _ (t : IndexShape) (rows store : List ℕ) (f : Fits t rows store) where
           let x : e ≡ d = slot_one (slots t) (home (slots t) key) e d (home_below (slots t) key some) (omega (arith, p.below)) p.below same in
           omega arith
 
-      pub sound_own : FoundByOwnKey t rows store row
+      pub sound_own : Own t rows store row
       sound_own =
           let p = k.leads row live in (
             p.0,
             record {
               below = p.1.below;
-              there = rw same_home (p.1.there ∙ sym (slot_word_word _ row key refl));
+              there = rw same_home (p.1.there ∙ sym (word_tagged _ row key refl));
               taken = λ e h. rw same_home (p.1.way e h);
               others = λ e h i. rw same_home (first p.0 p.1 e h i);
             },

@@ -7,7 +7,7 @@ use Rattle.cells.specs.Cells.{compact_hash, key_hash}
 use Rattle.constraints.specs.Constraints.{is_live}
 use Rattle.key_index.specs.declared.IndexShape.{IndexShape}
 use Rattle.key_index.specs.Slots.{key_at, slots, slot_from, KeysSound}
-use Rattle.key_index.specs.inner.Ring.{home_slot, slot_word}
+use Rattle.key_index.specs.inner.Ring.{spread, tagged}
 use Rattle.key_index.specs.inner.Index.{Leads, KeysDiffer}
 
 -- ---- counts
@@ -35,16 +35,16 @@ taken_count store n = tally (is_taken store) n
 -- the slot d after the hash's home has the row's word, and no slot before it is free or leads to a row with the key
 pub record ReachedAt (t : IndexShape) (rows store key : List ℕ) (hash row d : ℕ) : Type 0 where
   pub below : d < slots t
-  pub there : get_or store (slot_from (slots t) (home_slot (slots t) hash) d) 0 ≡ slot_word hash row
-  pub taken : (e : ℕ) → e < d → get_or store (slot_from (slots t) (home_slot (slots t) hash) e) 0 ≡ 0 → ⊥
-  pub others : (e : ℕ) → e < d → (i : ℕ) → Leads t rows key hash (get_or store (slot_from (slots t) (home_slot (slots t) hash) e) 0) i → ⊥
+  pub there : get_or store (slot_from (slots t) (spread (slots t) hash) d) 0 ≡ tagged hash row
+  pub taken : (e : ℕ) → e < d → get_or store (slot_from (slots t) (spread (slots t) hash) e) 0 ≡ 0 → ⊥
+  pub others : (e : ℕ) → e < d → (i : ℕ) → Leads t rows key hash (get_or store (slot_from (slots t) (spread (slots t) hash) e) 0) i → ⊥
 
 abbrev pub Reached : IndexShape → List ℕ → List ℕ → List ℕ → ℕ → ℕ → Type 0
 Reached t rows store key hash row = (d : ℕ) × ReachedAt t rows store key hash row d
 
 -- a row is reached from the home of its own key
-abbrev pub FoundByOwnKey : IndexShape → List ℕ → List ℕ → ℕ → Type 0
-FoundByOwnKey t rows store row = Reached t rows store (key_at t rows row) (compact_hash (key_hash (key_at t rows row))) row
+abbrev pub Own : IndexShape → List ℕ → List ℕ → ℕ → Type 0
+Own t rows store row = Reached t rows store (key_at t rows row) (compact_hash (key_hash (key_at t rows row))) row
 
 -- ---- the whole store
 

@@ -1,12 +1,12 @@
 -- `key_index::find` meets its contract. The loop's invariant: each slot passed leads to no row with the key.
 -- Assumes nothing.
-use Rattle.key_index.proofs.Prelude.{◌-◌, home_slot}
+use Rattle.key_index.proofs.Prelude.{◌-◌, spread}
 use Rattle.key_index.proofs.ScanSteps.{ScannedSlots}
 use Rattle.key_index.proofs.FindSteps.{Past}
 use Rattle.key_index.proofs.find.Given as goal
 
 abbrev pub invariant-loop-passed : goal.invariant-loop-passed
-invariant-loop-passed l = ScannedSlots l.slots l.store (Past l.t l.rows l.key l.hash) (home_slot l.slots l.hash) l.at l.passed
+invariant-loop-passed l = ScannedSlots l.slots l.store (Past l.t l.rows l.key l.hash) (spread l.slots l.hash) l.at l.passed
 
 abbrev pub decreases-loop-passed : goal.decreases-loop-passed
 decreases-loop-passed l = l.slots - l.passed

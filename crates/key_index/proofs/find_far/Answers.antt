@@ -1,4 +1,4 @@
-use Rattle.key_index.proofs.Prelude.{◌+◌, ◌≤◌, arith, slots, home_slot, rows_in_lem}
+use Rattle.key_index.proofs.Prelude.{◌+◌, ◌≤◌, arith, slots, spread, rows_in_lem}
 use Rattle.key_index.proofs.ScanSteps.{ScannedSlots, begin, on, on_run}
 use Rattle.key_index.proofs.FindSteps.{Past, past_bits, leads_some, found_free, found_round, found_row}
 use Rattle.key_index.proofs.find_far.Goals.{After-next_slot-at, Start}
@@ -10,7 +10,7 @@ few s = omega (arith, s.requires)
 -- the invariant after one more slot
 passed_one : (c : After-next_slot-at)
     → let a = c.args in
-    ScannedSlots (slots a.t) a.store.now (Past a.t a.rows.now a.key.now a.hash) (home_slot (slots a.t) a.hash) c.next_slot-at.result (c.loop-passed.passed + 1)
+    ScannedSlots (slots a.t) a.store.now (Past a.t a.rows.now a.key.now a.hash) (spread (slots a.t) a.hash) c.next_slot-at.result (c.loop-passed.passed + 1)
 passed_one c =
     let l = c.loop-passed in
     let p : Past _ _ _ _ _ = record { other = c.is_hit.ensures.no c.if-is_hit.false } in

@@ -1,6 +1,6 @@
 -- `key_index::home_slot` meets its contract. Assumes nothing.
-use Rattle.key_index.proofs.Prelude.{◌≤◌, refl, mul-le-mul, arith, rules, home_slot_below}
-use Rattle.key_index.specs.inner.Ring.{home_slot}
+use Rattle.key_index.proofs.Prelude.{◌≤◌, refl, mul-le-mul, arith, rules, spread_below}
+use Rattle.key_index.specs.inner.Ring.{spread}
 use Rattle.key_index.proofs.home_slot.Goals as goal
 
 pub overflow_mul-result : goal.overflow_mul-result
@@ -10,9 +10,9 @@ overflow_mul-result c =
     record { fits = omega (arith, mul-le-mul h k) }
 
 pub overflow_cast-result-3 : goal.overflow_cast-result-3
-unfolding home_slot
-overflow_cast-result-3 c = omega (arith, home_slot_below c.args.slots c.args.hash c.requires c.ranges.hash.fits)
+unfolding spread
+overflow_cast-result-3 c = omega (arith, spread_below c.args.slots c.args.hash c.requires c.ranges.hash.fits)
 
 pub returns : goal.returns
-unfolding home_slot
-returns c = record { value = refl; upper_bound = home_slot_below c.args.slots c.args.hash c.requires c.ranges.hash.fits }
+unfolding spread
+returns c = record { value = refl; upper_bound = spread_below c.args.slots c.args.hash c.requires c.ranges.hash.fits }

@@ -1,4 +1,4 @@
-use Rattle.key_index.proofs.Prelude.{◌+◌, ◌≡◌, refl, length, length-set, slots, home_slot}
+use Rattle.key_index.proofs.Prelude.{◌+◌, ◌≡◌, refl, length, length-set, slots, spread}
 use Rattle.key_index.proofs.ScanSteps.{ScannedSlots, begin_past, on, on_run}
 use Rattle.key_index.proofs.PutSteps.{put_here, put_none}
 use Rattle.key_index.proofs.WindowSteps.{Taken}
@@ -9,7 +9,7 @@ use Rattle.key_index.proofs.put.Goals as goal
 passed_one : (c : After-next_slot-place)
     → let a = c.args in
     (length c.loop-taken.store ≡ length a.store.now) × (c.loop-taken.store ≡ a.store.now)
-    × ScannedSlots (slots a.t) a.store.now Taken (home_slot (slots a.t) a.hash) c.next_slot-place.result (c.loop-taken.taken + 1)
+    × ScannedSlots (slots a.t) a.store.now Taken (spread (slots a.t) a.hash) c.next_slot-place.result (c.loop-taken.taken + 1)
 passed_one c = (
   c.loop-taken.invariant.0,
   c.loop-taken.invariant.1,

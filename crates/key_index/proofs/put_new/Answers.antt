@@ -1,4 +1,4 @@
-use Rattle.key_index.proofs.Prelude.{◌+◌, ◌≡◌, ◌≤◌, refl, arith, length, length-set, slots, home_slot}
+use Rattle.key_index.proofs.Prelude.{◌+◌, ◌≡◌, ◌≤◌, refl, arith, length, length-set, slots, spread}
 use Rattle.key_index.proofs.ScanSteps.{ScannedSlots, begin, on, on_run}
 use Rattle.key_index.proofs.FindSteps.{past_bits}
 use Rattle.key_index.proofs.NewPutSteps.{Other, new_put, new_known, new_none}
@@ -12,7 +12,7 @@ few s = omega (arith, s.requires.0.within)
 passed_one : (c : After-next_slot-at)
     → let a = c.args in
     (length c.loop-passed.store ≡ length a.store.now) × (c.loop-passed.store ≡ a.store.now)
-    × ScannedSlots (slots a.t) a.store.now (Other a.t a.rows.now a.key.now a.hash) (home_slot (slots a.t) a.hash) c.next_slot-at.result (c.loop-passed.passed + 1)
+    × ScannedSlots (slots a.t) a.store.now (Other a.t a.rows.now a.key.now a.hash) (spread (slots a.t) a.hash) c.next_slot-at.result (c.loop-passed.passed + 1)
 passed_one c =
     let l = c.loop-passed in
     let p : Other _ _ _ _ _ = record { taken = c.if-word-eq0.false; past = record { other = c.is_hit.ensures.no c.if-is_hit.false } } in

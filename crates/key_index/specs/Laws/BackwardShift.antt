@@ -18,8 +18,8 @@ use Rattle.cells.specs.Cells.{is_dead}
 use Rattle.constraints.specs.Constraints.{is_live}
 use Rattle.key_index.specs.declared.IndexShape.{IndexShape}
 use Rattle.key_index.specs.Slots.{LiveAt, key_at, slots, word, home, slot_from, KeysSound}
-use Rattle.key_index.specs.inner.Ring.{row_named, names_row, cyclic_distance}
-use Rattle.key_index.specs.Laws.Ring.{word_some, word_row, word_same, names_none, names_word, home_below, slot_below, slot_then, slot_zero, slot_round, distance_below, distance_slot, distance_line}
+use Rattle.key_index.specs.inner.Ring.{row_named, names_row, away}
+use Rattle.key_index.specs.Laws.Ring.{word_some, word_row, word_same, names_none, names_word, home_below, slot_below, slot_then, slot_zero, slot_round, away_below, away_slot, away_line}
 use Rattle.key_index.specs.inner.Index.{Fits, home_of}
 use Rattle.key_index.specs.inner.BackwardShift.{backward_shift}
 use Rattle.key_index.specs.Laws.Index.{free_slot}
@@ -34,7 +34,7 @@ module _ (t : IndexShape) (rows : List ℕ) where
   after at = slot_from (slots t) at 1
 
   abbrev pub moved : ℕ → List ℕ → ℕ
-  moved at store = cyclic_distance (slots t) (home_of t rows (get_or store (after at) 0)) (after at)
+  moved at store = away (slots t) (home_of t rows (get_or store (after at) 0)) (after at)
 
   module _ (left hole gap at : ℕ) (store : List ℕ) where
     pub backward_shift_spent : left ≤ 0 → backward_shift t rows left hole gap at store ≡ set store hole 0
@@ -85,12 +85,12 @@ module _ (t : IndexShape) (rows : List ℕ) where
 
   module _ (Held : ℕ → Type 0) (names : (w : ℕ) → Held w → names_row t w ≡ true) (z : ℕ) (b : z < slots t) (m : Small t) where
     -- the distance from a word's home to a position of the line
-    word_far : (w a : ℕ) → line_home t rows z w ≤ a → a < slots t → cyclic_distance (slots t) (home_of t rows w) (slot_from (slots t) z a) ≡ a - line_home t rows z w
+    word_far : (w a : ℕ) → line_home t rows z w ≤ a → a < slots t → away (slots t) (home_of t rows w) (slot_from (slots t) z a) ≡ a - line_home t rows z w
     unfolding line_home home_of
     word_far w a i h =
         let key = key_at t rows (row_named w) in
-        let e = distance_slot (slots t) z (home (slots t) key) b (home_below (slots t) key (omega arith)) in
-        ap (λ (k : ℕ). cyclic_distance (slots t) k (slot_from (slots t) z a)) (sym e) ∙ distance_line (slots t) z (cyclic_distance (slots t) z (home (slots t) key)) a b i h
+        let e = away_slot (slots t) z (home (slots t) key) b (home_below (slots t) key (omega arith)) in
+        ap (λ (k : ℕ). away (slots t) k (slot_from (slots t) z a)) (sym e) ∙ away_line (slots t) z (away (slots t) z (home (slots t) key)) a b i h
 
     -- after a scan up to position a of a line with a hole at position g, the rest of the scan leaves a line without a hole
     ShiftCloses : ℕ → Type 0
@@ -128,7 +128,7 @@ module _ (t : IndexShape) (rows : List ℕ) where
             let ne : a + 1 ≡ g → ⊥ = omega (arith, s.order) in
             let n = names w (rw (← there) at (s.only (a + 1) h ne c)) in
             let i : k ≤ a + 1 = rw (← there) at (s.after (a + 1) h ne c) in
-            let q : d ≡ a + 1 - k = ap (cyclic_distance (slots t) (home_of t rows w)) next ∙ word_far w (a + 1) i h in
+            let q : d ≡ a + 1 - k = ap (away (slots t) (home_of t rows w)) next ∙ word_far w (a + 1) i h in
             elim (dec_lt d (gap + 1)) [
               | yes v ↦
                   let j : g < line_home t rows z (line (slots t) z store (a + 1)) = rw (← there) (omega arith) in
@@ -219,10 +219,10 @@ module _ (t : IndexShape) (rows store : List ℕ) (f : Fits t rows store) (r : �
       let b = free.1 in
       let m = small t rows store f in
       let rows' = set rows (r * t.columns) 4294967295 in
-      let g = cyclic_distance (slots t) z slot in
-      let at : slot_from (slots t) z g ≡ slot = distance_slot (slots t) z slot b h in
+      let g = away (slots t) z slot in
+      let at : slot_from (slots t) z g ≡ slot = away_slot (slots t) z slot b h in
       let there : line (slots t) z store g ≡ word (key_at t rows r) r = line_at (slots t) z store g slot at ∙ e in
-      let gap = hole_open (slots t) (line_home t rows z) (Stored t rows) (Stored t rows') (line (slots t) z store) g (distance_below (slots t) z slot (omega arith)) (rw there (word_some (key_at t rows r) r))
+      let gap = hole_open (slots t) (line_home t rows z) (Stored t rows) (Stored t rows') (line (slots t) z store) g (away_below (slots t) z slot (omega arith)) (rw there (word_some (key_at t rows r) r))
       (λ w q ne. stored_on w q (λ v. ne (v ∙ sym there))) (λ w q. stored_back w q) (λ q. stored_out (rw there at q)) (unroll t m rows z b store s free.2) in
       let done = shift_closes t rows (Stored t rows') (λ w q. stored_names w q) z b m (slots t) g g slot 0 slot store f.long (sym at) (omega arith) (sym at) (omega arith) gap in
       roll t m rows' z b (backward_shift t rows (slots t) slot 0 slot store) (line_homes (slots t) (line_home t rows z) (Stored t rows') (line_home t rows' z) _ (λ w q. same_home z w q) done)

@@ -2,8 +2,8 @@
 -- Assumes nothing.
 use Rattle.key_index.specs.Laws.Prelude.{ℕ, zero, suc, ◌+◌, ◌*◌, ◌≤◌, ◌<◌, ◌≡◌, refl, sym, ap, ◌∙◌, ◌⊎◌, inl, inr, Bool, true, List, zero-add, mul-le-mul_right, dec_lt, ℕ_discrete, arith, length, drop, get_or, set, length-replicate, get_or-replicate, drop-set-lt, get_or-set_same, get_or-set_other, splice, same, split, get_d_splice_in, IndexShape, LiveAt, key_at, slots, word, home, slot_from, ReachableAt, KeysSound, RowsIn, Fits, FirstFree, FoundAt, FirstHit, PutIs, zeros, EmptyIs}
 use Rattle.cells.specs.Cells.{compact_hash, key_hash}
-use Rattle.key_index.specs.inner.Ring.{slot_word, row_named}
-use Rattle.key_index.specs.Laws.Ring.{home_slot_home, slot_word_word, word_some, word_row, word_same, slot_below}
+use Rattle.key_index.specs.inner.Ring.{tagged, row_named}
+use Rattle.key_index.specs.Laws.Ring.{home_spread, word_tagged, word_some, word_row, word_same, slot_below}
 use Rattle.key_index.specs.Laws.Pigeonhole.{pigeonhole}
 
 pub rows_in_lem : (t : IndexShape) (rows store : List ℕ) → Fits t rows store → RowsIn t rows
@@ -203,9 +203,9 @@ put_sound t t' rows rows' store store' hash r fits sound grown e put =
     let p = put.yes (put_succeeds t rows store fits sound hash t.rows r store' put) in
     let key = key_at t' rows' t.rows in
     let n = slots t in
-    let f : FirstFree n store (home n key) p.0 = rw (home_slot_home n hash key e) at p.1 in
+    let f : FirstFree n store (home n key) p.0 = rw (home_spread n hash key e) at p.1 in
     let slot = slot_from n (home n key) p.0 in
-    let s : store' ≡ set store slot (word key t.rows) = p.2 ∙ rw (home_slot_home n hash key e, slot_word_word hash t.rows key e) in
+    let s : store' ≡ set store slot (word key t.rows) = p.2 ∙ rw (home_spread n hash key e, word_tagged hash t.rows key e) in
     let no : (i : ℕ) → get_or store slot 0 ≡ word (key_at t rows i) i → ⊥ = λ i q. let z : word (key_at t rows i) i ≡ 0 = sym q ∙ f.free in omega (arith, word_some (key_at t rows i) i) in
     let turned : SlotReplaced t t' rows rows' store slot =
     record {
@@ -233,7 +233,7 @@ pub record Swapped (t t' : IndexShape) (rows rows' : List ℕ) (old : ℕ) : Typ
   pub new_key : key_at t' rows' t.rows ≡ key_at t rows old
 
 pub replace_sound : (t t' : IndexShape) (rows rows' store store' key : List ℕ) (hash old slot : ℕ) → Fits t rows store → KeysSound t rows store → Swapped t t' rows rows' old
-    → FoundAt t rows store key old slot → hash ≡ compact_hash (key_hash key) → store' ≡ set store slot (slot_word hash t.rows) → KeysSound t' rows' store'
+    → FoundAt t rows store key old slot → hash ≡ compact_hash (key_hash key) → store' ≡ set store slot (tagged hash t.rows) → KeysSound t' rows' store'
 replace_sound t t' rows rows' store store' key hash old slot fits sound swapped found e s =
     let k : key_at t' rows' t.rows ≡ key = swapped.new_key ∙ found.key_is in
     let n = slots t in
@@ -254,14 +254,14 @@ replace_sound t t' rows rows' store store' key hash old slot fits sound swapped 
       only = λ i live. elim (swapped.only i live) [ inl o ↦ inl (o.0, λ q. o.1 (mine i o.0.0 q)) | inr q ↦ inr q ];
       key = λ i live ne. swapped.key i live (its i ne);
     } in
-    let w : store' ≡ set store slot (word (key_at t' rows' t.rows) t.rows) = s ∙ ap (set store slot) (slot_word_word hash t.rows key e ∙ ap (λ (l : List ℕ). word l t.rows) (sym k)) in
+    let w : store' ≡ set store slot (word (key_at t' rows' t.rows) t.rows) = s ∙ ap (set store slot) (word_tagged hash t.rows key e ∙ ap (λ (l : List ℕ). word l t.rows) (sym k)) in
     rw w (slot_replaced_sound t t' rows rows' store fits sound slot turned found.slot_in d.0 d.1.below (rw swapped.new_key at) (rw swapped.new_key d.1.way))
 
 -- ---- two lookups of one key
 
-slot_word_one : (hash i j : ℕ) → slot_word hash i ≡ slot_word hash j → i ≡ j
-unfolding slot_word
-slot_word_one hash i j e = omega arith
+tagged_one : (hash i j : ℕ) → tagged hash i ≡ tagged hash j → i ≡ j
+unfolding tagged
+tagged_one hash i j e = omega arith
 
 -- two lookups of one key find the same row, on any store
 pub first_one : (t : IndexShape) (rows store key : List ℕ) (hash i j d e : ℕ) → FirstHit t rows store key hash i d → FirstHit t rows store key hash j e → i ≡ j
@@ -270,6 +270,6 @@ first_one t rows store key hash i j d e f g =
       | yes h ↦ absurd (g.way d h i f.leads)
       | no h ↦ elim (dec_lt e d) [
         | yes k ↦ absurd (f.way e k j g.leads)
-        | no k ↦ let z : e ≡ d = omega arith in slot_word_one hash i j (sym f.leads.tag ∙ rw z at g.leads.tag)
+        | no k ↦ let z : e ≡ d = omega arith in tagged_one hash i j (sym f.leads.tag ∙ rw z at g.leads.tag)
       ]
     ]

@@ -1,6 +1,6 @@
 -- A sound key store as a line of slots that starts at a free slot: the ring unrolled, and the converse. Assumes nothing.
-use Rattle.key_index.specs.Laws.Prelude.{ℕ, ◌+◌, ◌-◌, ◌^◌, ◌≤◌, ◌<◌, ◌≡◌, refl, sym, ap, ◌∙◌, List, dec_lt, ℕ_discrete, arith, get_or, IndexShape, LiveAt, key_at, slots, word, home, slot_from, ReachableAt, KeysSound, cyclic_distance}
-use Rattle.key_index.specs.Laws.Ring.{word_some, word_row, home_below, slot_below, slot_then, slot_zero, slot_round, slot_one, distance_below, distance_slot}
+use Rattle.key_index.specs.Laws.Prelude.{ℕ, ◌+◌, ◌-◌, ◌^◌, ◌≤◌, ◌<◌, ◌≡◌, refl, sym, ap, ◌∙◌, List, dec_lt, ℕ_discrete, arith, get_or, IndexShape, LiveAt, key_at, slots, word, home, slot_from, ReachableAt, KeysSound, away}
+use Rattle.key_index.specs.Laws.Ring.{word_some, word_row, home_below, slot_below, slot_then, slot_zero, slot_round, slot_one, away_below, away_slot}
 use Rattle.key_index.specs.inner.Index.{Fits, home_of}
 use Rattle.key_index.specs.Laws.Unrolled.{line, Line}
 
@@ -10,7 +10,7 @@ Stored t rows w = (row : ℕ) × LiveAt t rows row × (w ≡ word (key_at t rows
 
 -- the distance from slot z to a word's home
 unfoldable pub line_home : IndexShape → List ℕ → ℕ → ℕ → ℕ
-line_home t rows z w = cyclic_distance (slots t) z (home_of t rows w)
+line_home t rows z w = away (slots t) z (home_of t rows w)
 
 -- the bounds of a table's numbers; it has at least one slot
 pub record Small (t : IndexShape) : Type 0 where
@@ -23,16 +23,16 @@ small t rows store f = record { some = f.some; room = f.most; count = f.count }
 
 module _ (t : IndexShape) (m : Small t) (rows : List ℕ) (z : ℕ) (b : z < slots t) where
   -- the home slot of a live row's word
-  home_slot_lem : (row : ℕ) → LiveAt t rows row → slot_from (slots t) z (line_home t rows z (word (key_at t rows row) row)) ≡ home (slots t) (key_at t rows row)
+  home_slot : (row : ℕ) → LiveAt t rows row → slot_from (slots t) z (line_home t rows z (word (key_at t rows row) row)) ≡ home (slots t) (key_at t rows row)
   unfolding line_home home_of
-  home_slot_lem row live =
+  home_slot row live =
       let k : row < 2 ^ 17 - 1 = omega (arith, live.0) in
       let e = word_row (key_at t rows row) row k in
-      rw e (distance_slot (slots t) z (home (slots t) (key_at t rows row)) b (home_below (slots t) (key_at t rows row) (omega arith)))
+      rw e (away_slot (slots t) z (home (slots t) (key_at t rows row)) b (home_below (slots t) (key_at t rows row) (omega arith)))
 
   home_in : (w : ℕ) → line_home t rows z w < slots t
   unfolding line_home
-  home_in w = distance_below (slots t) z (home_of t rows w) (omega arith)
+  home_in w = away_below (slots t) z (home_of t rows w) (omega arith)
 
   module _ (store : List ℕ) where
     -- a row d slots from its home is d positions after its home on the line: the path does not wrap past z
@@ -59,12 +59,12 @@ module _ (t : IndexShape) (m : Small t) (rows : List ℕ) (z : ℕ) (b : z < slo
         back : slot_from (slots t) (home (slots t) (key_at t rows row)) (slots t - k) ≡ z
         back =
             let e : k + (slots t - k) ≡ slots t = omega (arith, home_in w) in
-            ap (λ (x : ℕ). slot_from (slots t) x (slots t - k)) (sym (home_slot_lem row live)) ∙ slot_then (slots t) z k (slots t - k) ∙ ap (slot_from (slots t) z) e ∙ slot_round (slots t) z b
+            ap (λ (x : ℕ). slot_from (slots t) x (slots t - k)) (sym (home_slot row live)) ∙ slot_then (slots t) z k (slots t - k) ∙ ap (slot_from (slots t) z) e ∙ slot_round (slots t) z b
 
     -- each slot from the home on, as a position of the line
     from_home : (row e : ℕ) → LiveAt t rows row
         → slot_from (slots t) (home (slots t) (key_at t rows row)) e ≡ slot_from (slots t) z (line_home t rows z (word (key_at t rows row) row) + e)
-    from_home row e live = ap (λ (x : ℕ). slot_from (slots t) x e) (sym (home_slot_lem row live)) ∙ slot_then (slots t) z _ e
+    from_home row e live = ap (λ (x : ℕ). slot_from (slots t) x e) (sym (home_slot row live)) ∙ slot_then (slots t) z _ e
 
     -- a word's position, by its distance from its home
     Reached : ℕ → ℕ → Type 0
@@ -115,17 +115,17 @@ module _ (t : IndexShape) (m : Small t) (rows : List ℕ) (z : ℕ) (b : z < slo
     unfolding line
     roll s =
         record {
-          only_live = λ slot h c. let e = at slot h in rw e at (s.only (cyclic_distance (slots t) z slot) (distance_below (slots t) z slot (omega arith)) (rw e c));
+          only_live = λ slot h c. let e = at slot h in rw e at (s.only (away (slots t) z slot) (away_below (slots t) z slot (omega arith)) (rw e c));
           once = λ i j h k c e.
               let p = at i h in
               let q = at j k in
-              let u = s.once (cyclic_distance (slots t) z i) (cyclic_distance (slots t) z j) (distance_below (slots t) z i (omega arith)) (distance_below (slots t) z j (omega arith)) (rw p c) (rw (p, q) e) in
+              let u = s.once (away (slots t) z i) (away (slots t) z j) (away_below (slots t) z i (omega arith)) (away_below (slots t) z j (omega arith)) (rw p c) (rw (p, q) e) in
               sym p ∙ ap (slot_from (slots t) z) u ∙ q;
           leads = λ row live. lead row live (s.all (word (key_at t rows row) row) (row, live, refl));
         }
       where
-        at : (slot : ℕ) → slot < slots t → slot_from (slots t) z (cyclic_distance (slots t) z slot) ≡ slot
-        at slot h = distance_slot (slots t) z slot b h
+        at : (slot : ℕ) → slot < slots t → slot_from (slots t) z (away (slots t) z slot) ≡ slot
+        at slot h = away_slot (slots t) z slot b h
 
         lead : (row : ℕ) → LiveAt t rows row → (p : ℕ) × (p < slots t) × (get_or store (slot_from (slots t) z p) 0 ≡ word (key_at t rows row) row)
             → (d : ℕ) × ReachableAt (slots t) store (key_at t rows row) row d

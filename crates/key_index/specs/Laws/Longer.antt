@@ -24,11 +24,11 @@ module _ (t : IndexShape) (rows more : List ℕ) (f : RowsIn t rows) where
       })
 
 -- rows with room for more behind them
-abbrev pub padded_rows : IndexShape → List ℕ → List ℕ
-padded_rows t rows = rows ++ zeros (t.room * t.columns)
+abbrev pub roomy : IndexShape → List ℕ → List ℕ
+roomy t rows = rows ++ zeros (t.room * t.columns)
 
-pub padded_rows_fits : (t : IndexShape) (rows store : List ℕ) → RowsFit t rows store → Fits t (padded_rows t rows) store
-padded_rows_fits t rows store f =
+pub roomy_fits : (t : IndexShape) (rows store : List ℕ) → RowsFit t rows store → Fits t (roomy t rows) store
+roomy_fits t rows store f =
     record {
       some_columns = f.some_columns;
       most_columns = f.within.most_columns;

@@ -9,7 +9,7 @@ pub use Rattle.constraints.specs.Constraints.{is_live}
 pub use Rattle.key_index.specs.Slots.{KeysSound, LiveAt, ReachableAt, home, key_at, slot_from, slots, word}
 pub use Rattle.key_index.specs.declared.IndexShape.{IndexShape}
 pub use Rattle.key_index.specs.inner.Index.{EmptyIs, FirstFree, FirstHit, Fits, FoundAt, PutIs, RowsFit, RowsIn, zeros}
-pub use Rattle.key_index.specs.inner.Ring.{cyclic_distance}
+pub use Rattle.key_index.specs.inner.Ring.{away}
 pub use Rattle.lists.specs.Laws.Filter.{and_left, and_right, split}
 pub use Rattle.lists.specs.Laws.Parts.{get_d_splice_in, part_width}
 pub use Rattle.lists.specs.Laws.Rows.{row_in}

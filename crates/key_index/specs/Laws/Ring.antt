@@ -3,11 +3,11 @@ use Rattle.key_index.specs.Laws.Prelude.{ℕ, ◌+◌, ◌-◌, ◌*◌, ◌/◌
 use Rattle.cells.specs.Cells.{compact_hash, key_hash}
 use Rattle.cells.specs.Laws.Cells.{key_hash_fits}
 use Rattle.key_index.specs.Slots.{word, home, slot_from}
-use Rattle.key_index.specs.inner.Ring.{slot_word, home_slot, row_named, names_row, cyclic_distance}
+use Rattle.key_index.specs.inner.Ring.{tagged, spread, row_named, names_row, away}
 
-pub slot_word_word : (hash row : ℕ) (key : List ℕ) → hash ≡ compact_hash (key_hash key) → slot_word hash row ≡ word key row
-unfolding word slot_word
-slot_word_word hash row key e = ap (λ (h : ℕ). slot_word h row) e
+pub word_tagged : (hash row : ℕ) (key : List ℕ) → hash ≡ compact_hash (key_hash key) → tagged hash row ≡ word key row
+unfolding word tagged
+word_tagged hash row key e = ap (λ (h : ℕ). tagged h row) e
 
 -- a row's word is never 0, the word of a free slot
 pub word_some : (key : List ℕ) (row : ℕ) → 0 < word key row
@@ -15,17 +15,17 @@ unfolding word
 word_some key row = omega arith
 
 -- a word's row number and its 15 hash bits decode to what was encoded
-pub slot_word_row : (hash row : ℕ) → row < 2 ^ 17 - 1 → slot_word hash row % 2 ^ 17 ≡ row + 1
-unfolding slot_word
-slot_word_row hash row h = omega arith
+pub tagged_row : (hash row : ℕ) → row < 2 ^ 17 - 1 → tagged hash row % 2 ^ 17 ≡ row + 1
+unfolding tagged
+tagged_row hash row h = omega arith
 
-pub slot_word_bits : (hash row : ℕ) → row < 2 ^ 17 - 1 → slot_word hash row / 2 ^ 17 ≡ hash % 2 ^ 15
-unfolding slot_word
-slot_word_bits hash row h = omega arith
+pub tagged_bits : (hash row : ℕ) → row < 2 ^ 17 - 1 → tagged hash row / 2 ^ 17 ≡ hash % 2 ^ 15
+unfolding tagged
+tagged_bits hash row h = omega arith
 
-pub slot_word_of : (hash w : ℕ) → w / 2 ^ 17 ≡ hash % 2 ^ 15 → 0 < w % 2 ^ 17 → w ≡ slot_word hash (w % 2 ^ 17 - 1)
-unfolding slot_word
-slot_word_of hash w h k = omega arith
+pub tagged_of : (hash w : ℕ) → w / 2 ^ 17 ≡ hash % 2 ^ 15 → 0 < w % 2 ^ 17 → w ≡ tagged hash (w % 2 ^ 17 - 1)
+unfolding tagged
+tagged_of hash w h k = omega arith
 
 pub word_row : (key : List ℕ) (row : ℕ) → row < 2 ^ 17 - 1 → row_named (word key row) ≡ row
 unfolding word row_named
@@ -51,21 +51,21 @@ module _ (t : IndexShape) (w : ℕ) where
 
 pub names_word : (t : IndexShape) (key : List ℕ) (row : ℕ) → row < t.rows → row < 2 ^ 17 - 1 → names_row t (word key row) ≡ true
 names_word t key row h k =
-    let e : word key row % 2 ^ 17 ≡ row + 1 = rw (← slot_word_word _ row key refl) (slot_word_row (compact_hash (key_hash key)) row k) in
+    let e : word key row % 2 ^ 17 ≡ row + 1 = rw (← word_tagged _ row key refl) (tagged_row (compact_hash (key_hash key)) row k) in
     names_yes t (word key row) (omega arith) (omega arith)
 
 -- ---- homes
 
-pub home_slot_home : (n hash : ℕ) (key : List ℕ) → hash ≡ compact_hash (key_hash key) → home_slot n hash ≡ home n key
-unfolding home home_slot
-home_slot_home n hash key e = ap (home_slot n) e
+pub home_spread : (n hash : ℕ) (key : List ℕ) → hash ≡ compact_hash (key_hash key) → spread n hash ≡ home n key
+unfolding home spread
+home_spread n hash key e = ap (spread n) e
 
-pub home_slot_below : (n hash : ℕ) → 0 < n → hash < 2 ^ 32 → home_slot n hash < n
-unfolding home_slot
-home_slot_below n hash h k = let m : hash * n < 2 ^ 32 * n = mul-lt-mul_of_pos_right k h in omega arith
+pub spread_below : (n hash : ℕ) → 0 < n → hash < 2 ^ 32 → spread n hash < n
+unfolding spread
+spread_below n hash h k = let m : hash * n < 2 ^ 32 * n = mul-lt-mul_of_pos_right k h in omega arith
 
 pub home_below : (n : ℕ) (key : List ℕ) → 0 < n → home n key < n
-home_below n key h = rw (← home_slot_home n (compact_hash (key_hash key)) key refl) (home_slot_below n _ h (key_hash_fits key))
+home_below n key h = rw (← home_spread n (compact_hash (key_hash key)) key refl) (spread_below n _ h (key_hash_fits key))
 
 -- ---- cyclic order
 
@@ -98,37 +98,37 @@ pub slot_round : (n s : ℕ) → s < n → slot_from n s n ≡ s
 unfolding slot_from
 slot_round n s h = round n s h
 
-pub distance_below : (n a b : ℕ) → 0 < n → cyclic_distance n a b < n
-unfolding cyclic_distance
-distance_below n a b h = mod-lt (b + (n - a)) h
+pub away_below : (n a b : ℕ) → 0 < n → away n a b < n
+unfolding away
+away_below n a b h = mod-lt (b + (n - a)) h
 
--- `cyclic_distance` is the distance: that many slots after a is b
-pub distance_slot : (n a b : ℕ) → a < n → b < n → slot_from n a (cyclic_distance n a b) ≡ b
-unfolding slot_from cyclic_distance
-distance_slot n a b h k =
+-- `slots_away` is the distance: that many slots after a is b
+pub away_slot : (n a b : ℕ) → a < n → b < n → slot_from n a (away n a b) ≡ b
+unfolding slot_from away
+away_slot n a b h k =
     let e : a + (b + (n - a)) ≡ b + n = omega arith in
     add-mod-mod a (b + (n - a)) n ∙ ap (λ (x : ℕ). x % n) e ∙ round n b k
 
-pub distance_of : (n a d : ℕ) → a < n → d < n → cyclic_distance n a (slot_from n a d) ≡ d
-unfolding slot_from cyclic_distance
-distance_of n a d h k =
+pub away_of : (n a d : ℕ) → a < n → d < n → away n a (slot_from n a d) ≡ d
+unfolding slot_from away
+away_of n a d h k =
     let e : a + d + (n - a) ≡ d + n = omega arith in
     mod-add-mod (a + d) n (n - a) ∙ ap (λ (x : ℕ). x % n) e ∙ round n d k
 
 -- a full round visits each slot once: distances below n give different slots
 pub slot_one : (n s p q : ℕ) → s < n → p < n → q < n → slot_from n s p ≡ slot_from n s q → p ≡ q
-slot_one n s p q h k m e = sym (distance_of n s p h k) ∙ ap (cyclic_distance n s) e ∙ distance_of n s q h m
+slot_one n s p q h k m e = sym (away_of n s p h k) ∙ ap (away n s) e ∙ away_of n s q h m
 
 -- a full round visits every slot, from any start
 pub slot_met : (n : ℕ) → 0 < n → (start slot : ℕ) → slot < n → (d : ℕ) × (d < n) × (slot_from n start d ≡ slot)
 unfolding slot_from
 slot_met n some start slot h =
-    let d = cyclic_distance n (start % n) slot in
-    (d, distance_below n (start % n) slot some, sym (mod-add-mod start n d) ∙ distance_slot n (start % n) slot (mod-lt start some) h)
+    let d = away n (start % n) slot in
+    (d, away_below n (start % n) slot some, sym (mod-add-mod start n d) ∙ away_slot n (start % n) slot (mod-lt start some) h)
 
 -- the distance between two slots, both given by their distance from z
-pub distance_line : (n z p q : ℕ) → z < n → p ≤ q → q < n → cyclic_distance n (slot_from n z p) (slot_from n z q) ≡ q - p
-distance_line n z p q h k m =
+pub away_line : (n z p q : ℕ) → z < n → p ≤ q → q < n → away n (slot_from n z p) (slot_from n z q) ≡ q - p
+away_line n z p q h k m =
     let e : p + (q - p) ≡ q = omega arith in
     let f : slot_from n z q ≡ slot_from n (slot_from n z p) (q - p) = sym (slot_then n z p (q - p) ∙ ap (slot_from n z) e) in
-    ap (cyclic_distance n (slot_from n z p)) f ∙ distance_of n (slot_from n z p) (q - p) (slot_below n z p (omega arith)) (omega arith)
+    ap (away n (slot_from n z p)) f ∙ away_of n (slot_from n z p) (q - p) (slot_below n z p (omega arith)) (omega arith)

@@ -2,8 +2,8 @@
 -- a contiguous part of the line, and closing a hole rules only plain arithmetic. Re-exports the laws of distances on the ring from
 -- Ring.antt. Assumes nothing.
 use Rattle.key_index.specs.Laws.Prelude.{ℕ, ◌+◌, ◌≤◌, ◌<◌, ◌≡◌, refl, sym, ap, ◌∙◌, ◌⊎◌, inl, inr, List, dec_lt, ℕ_discrete, arith, length, get_or, set, get_or-set_same, get_or-set_other, slot_from}
-unfoldable pub use Rattle.key_index.specs.inner.Ring.{cyclic_distance}
-pub use Rattle.key_index.specs.Laws.Ring.{slot_below, slot_then, slot_zero, slot_round, slot_one, distance_below, distance_slot, distance_of, distance_line}
+unfoldable pub use Rattle.key_index.specs.inner.Ring.{away}
+pub use Rattle.key_index.specs.Laws.Ring.{slot_below, slot_then, slot_zero, slot_round, slot_one, away_below, away_slot, away_of, away_line}
 
 -- the word p slots after slot z
 unfoldable pub line : ℕ → ℕ → List ℕ → ℕ → ℕ

@@ -3,7 +3,7 @@ use Rattle.std.specs.Prelude.{ℕ, zero, suc, ◌+◌, ◌*◌, ◌<◌, ◌≡�
 use Rattle.key_index.specs.declared.IndexShape.{IndexShape}
 use Rattle.key_index.specs.inner.Index.{home_of}
 use Rattle.key_index.specs.Slots.{LiveAt, key_at, slots, word, slot_from, KeysSound}
-use Rattle.key_index.specs.inner.Ring.{names_row, cyclic_distance}
+use Rattle.key_index.specs.inner.Ring.{names_row, away}
 
 -- Backward-shift deletion from a hole on; `at` is `gap` slots after the hole. If the home of the next slot's word is not after the
 -- hole, the word moves into the hole, and its slot is the new hole. The scan ends at the first slot whose word is not that of a
@@ -14,7 +14,7 @@ backward_shift t rows (suc left) hole gap at store =
     let next = slot_from (slots t) at 1 in
     let w = get_or store next 0 in
     cond (names_row t w)
-    (cond (ltb (cyclic_distance (slots t) (home_of t rows w) next) (gap + 1)) (backward_shift t rows left hole (gap + 1) next store)
+    (cond (ltb (away (slots t) (home_of t rows w) next) (gap + 1)) (backward_shift t rows left hole (gap + 1) next store)
     (backward_shift t rows left next 0 next (set store hole w)))
     (set store hole 0)
 

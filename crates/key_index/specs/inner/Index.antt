@@ -6,7 +6,7 @@ use Rattle.key_index.specs.declared.IndexShape.{IndexShape}
 use Rattle.key_index.specs.declared.Found.{Found}
 use Rattle.key_index.specs.declared.Found.TheVariants.{None, At}
 use Rattle.key_index.specs.Slots.{LiveAt, key_at, slots, word, home, slot_from, KeysSound}
-use Rattle.key_index.specs.inner.Ring.{home_slot, slot_word, row_named}
+use Rattle.key_index.specs.inner.Ring.{spread, tagged, row_named}
 
 -- a key store is long enough for slots for that many rows
 pub record SlotsFit (room : ℕ) (store : List ℕ) : Type 0 where
@@ -49,7 +49,7 @@ KeysDiffer t rows = (i j : ℕ) → LiveAt t rows i → LiveAt t rows j → key_
 
 -- a slot's word is that of a row below the row count that has this key, with the bits of this hash
 pub record Leads (t : IndexShape) (rows key : List ℕ) (hash w row : ℕ) : Type 0 where
-  pub tag : w ≡ slot_word hash row
+  pub tag : w ≡ tagged hash row
   pub below : row < t.rows
   pub cells : key_at t rows row ≡ key
 
@@ -67,8 +67,8 @@ pub record FoundAt (t : IndexShape) (rows store key : List ℕ) (row slot : ℕ)
 
 -- the slot d after the hash's home is the first whose word leads to a row with the key. So the row found is unique
 pub record FirstHit (t : IndexShape) (rows store key : List ℕ) (hash row d : ℕ) : Type 0 where
-  pub leads : Leads t rows key hash (get_or store (slot_from (slots t) (home_slot (slots t) hash) d) 0) row
-  pub way : (e : ℕ) → e < d → (i : ℕ) → Leads t rows key hash (get_or store (slot_from (slots t) (home_slot (slots t) hash) e) 0) i → ⊥
+  pub leads : Leads t rows key hash (get_or store (slot_from (slots t) (spread (slots t) hash) d) 0) row
+  pub way : (e : ℕ) → e < d → (i : ℕ) → Leads t rows key hash (get_or store (slot_from (slots t) (spread (slots t) hash) e) 0) i → ⊥
 
 -- The result of a lookup. On any store the row and the slot exist, and the row is determined. The rest holds for a sound store and
 -- the key's own hash.
@@ -89,7 +89,7 @@ pub record FirstFree (n : ℕ) (store : List ℕ) (start d : ℕ) : Type 0 where
 
 -- the word is written to the first free slot from the hash's home on, if there is one
 pub record PutIs (n : ℕ) (store : List ℕ) (hash row : ℕ) (r : Bool) (store' : List ℕ) : Type 0 where
-  pub yes : r ≡ true → (d : ℕ) × FirstFree n store (home_slot n hash) d × (store' ≡ set store (slot_from n (home_slot n hash) d) (slot_word hash row))
+  pub yes : r ≡ true → (d : ℕ) × FirstFree n store (spread n hash) d × (store' ≡ set store (slot_from n (spread n hash) d) (tagged hash row))
   pub full : r ≡ false → (slot : ℕ) → slot < n → get_or store slot 0 ≡ 0 → ⊥
   pub kept : r ≡ false → store' ≡ store
   pub tail : drop n store' ≡ drop n store

@@ -3,11 +3,11 @@ use Rattle.std.specs.Prelude.{ℕ, ◌+◌, ◌-◌, ◌*◌, ◌/◌, ◌%◌, 
 use Rattle.key_index.specs.declared.IndexShape.{IndexShape}
 
 -- the word and the home slot for a key with this hash
-unfoldable pub slot_word : ℕ → ℕ → ℕ
-slot_word hash row = hash % 2 ^ 15 * 2 ^ 17 + (row + 1)
+unfoldable pub tagged : ℕ → ℕ → ℕ
+tagged hash row = hash % 2 ^ 15 * 2 ^ 17 + (row + 1)
 
-unfoldable pub home_slot : ℕ → ℕ → ℕ
-home_slot n hash = hash * n / 2 ^ 32
+unfoldable pub spread : ℕ → ℕ → ℕ
+spread n hash = hash * n / 2 ^ 32
 
 -- the row number in a word, and whether it is a row of the table. In a sound store each word but 0 has one
 unfoldable pub row_named : ℕ → ℕ
@@ -17,5 +17,5 @@ unfoldable pub names_row : IndexShape → ℕ → Bool
 names_row t w = ltb 0 (w % 2 ^ 17) && leb (w % 2 ^ 17) t.rows
 
 -- the cyclic distance from slot a to slot b
-unfoldable pub cyclic_distance : ℕ → ℕ → ℕ → ℕ
-cyclic_distance n a b = (b + (n - a)) % n
+unfoldable pub away : ℕ → ℕ → ℕ → ℕ
+away n a b = (b + (n - a)) % n

@@ -1,6 +1,6 @@
 -- A row is appended to the rows of a plain table, of which one may have died: the stores after that, and that they represent the
 -- table with the row. Assumes nothing.
-use Rattle.merge_insert.specs.Laws.Prelude.{ℕ, ◌+◌, ◌*◌, ◌≤◌, ◌<◌, ◌≡◌, refl, sym, ap, ap₂, ◌∙◌, true, cond, not, List, [], ◌∷◌, ◌++◌, map, append-nil, map-append, add-zero, suc-mul, add-one, arith, length, take, drop, get_or, set, length-append, length-map, length-set, List·getD-append, drop-drop, drop-set-lt, count_append, length_splice, splice_start, row_in, length_rows_of, get_d_rows_of, rows_of_appended, flatten_rows_of, flatten_append, KeysSound, stale_rows, Entry, entries_of, entry_words, rebuilt, push, rebuilt_snoc, length_entries_of, Proper, row_of, no_row, live_row, live_below_lem, raised_same, openable_bounds, Header, Value, index_shape_of, Stores, stores, lengths, Represents, Later, Becomes, with_counts, Entered, header_after_append, largest_view_largest_of, stored_again, long_stores, checked_rows_stored, represents_long, rows_stored, rows_counted, kill_at, length_kill_at, kill_at_cells, kill_at_live, entries_kill_at, stored_kill_at}
+use Rattle.merge_insert.specs.Laws.Prelude.{ℕ, ◌+◌, ◌*◌, ◌≤◌, ◌<◌, ◌≡◌, refl, sym, ap, ap₂, ◌∙◌, true, cond, not, List, [], ◌∷◌, ◌++◌, map, append-nil, map-append, add-zero, suc-mul, add-one, arith, length, take, drop, get_or, set, length-append, length-map, length-set, List·getD-append, drop-drop, drop-set-lt, count_append, length_splice, splice_start, row_in, length_rows_of, get_d_rows_of, rows_of_appended, flatten_rows_of, flatten_append, KeysSound, stale_rows, Entry, entries_of, entry_words, rebuilt, push, rebuilt_snoc, length_entries_of, Proper, row_of, no_row, live_row, live_below_lem, raised_same, openable_bounds, Header, Value, index_shape_of, Stores, stores, lengths, Represents, Later, Becomes, with_counts, Entered, grown_to, largest_view_largest_of, stored_again, long_stores, checked_rows_stored, represents_long, rows_stored, rows_counted, kill_at, length_kill_at, kill_at_cells, kill_at_live, entries_kill_at, stored_kill_at}
 use Rattle.lists.specs.Lists.{splice, count, rows_of, flatten}
 use Rattle.plain_table.specs.Plain.{Row, Plain, with_rows, with_row, dead}
 use Rattle.table.specs.Numbers.{largest_of}
@@ -169,7 +169,7 @@ module _ {p : Plain} {s : Stores} (r : Represents p s) {kept : List Row} {base :
         let above = rw (r.shown.header, largest_view_largest_of p.largest) at (free_above s.header (get_or cells s.header.sort 0) entered.free) in
         rw r.shown.header (ap Value (sym (raised_same value p.largest above)))
 
-    grown_header : header_after_append s.header (dead (with_rows p kept)) n (get_or cells s.header.sort 0) ≡ header_of (with_row p kept cells)
+    grown_header : grown_to s.header (dead (with_rows p kept)) n (get_or cells s.header.sort 0) ≡ header_of (with_row p kept cells)
     grown_header =
         let a : s.header.rows + 1 ≡ length (kept ++ (live_row cells ∷ [])) = simp length-append (omega (arith, rows_counted r, q.count_same)) in
         let b = sym (dead_snoc p kept cells) in
@@ -181,8 +181,8 @@ module _ {p : Plain} {s : Stores} (r : Represents p s) {kept : List Row} {base :
     -- the stores of p have become those of the table with the row
     pub grown_steps : Proper (with_row p kept cells) → (d : ℕ) → d ≡ dead (with_rows p kept) → (rows' : List ℕ)
         → rows' ≡ splice base (s.header.rows * s.header.columns) cells
-        → (keys' : List ℕ) → length keys' ≡ length s.keys → KeysSound (index_shape_of (header_after_append s.header d n (get_or cells s.header.sort 0))) rows' keys'
-        → Becomes p (with_row p kept cells) s (stores (header_after_append s.header d n (get_or cells s.header.sort 0)) rows' keys' sorts' s.pending)
+        → (keys' : List ℕ) → length keys' ≡ length s.keys → KeysSound (index_shape_of (grown_to s.header d n (get_or cells s.header.sort 0))) rows' keys'
+        → Becomes p (with_row p kept cells) s (stores (grown_to s.header d n (get_or cells s.header.sort 0)) rows' keys' sorts' s.pending)
     unfolding sort_store
     grown_steps proper d dead_is rows' rows_is keys' keys_same sound =
         let long = represents_long r in
@@ -205,7 +205,7 @@ module _ {p : Plain} {s : Stores} (r : Represents p s) {kept : List Row} {base :
                 shown =
                     record {
                       header = rw dead_is grown_header;
-                      rows_shown = checked_rows_stored (header_after_append s.header d n (get_or cells s.header.sort 0)) rows' proper (rw rows_same long.rows_long) (rw dead_is grown_header) (rw rows_is grown_shown);
+                      rows_shown = checked_rows_stored (grown_to s.header d n (get_or cells s.header.sort 0)) rows' proper (rw rows_same long.rows_long) (rw dead_is grown_header) (rw rows_is grown_shown);
                       entries_shown = entries_grown;
                       pending_held = r.shown.pending_held;
                     };

@@ -20,7 +20,7 @@ use Rattle.merge_rules.specs.Laws.Rules.{made_length, made_keys, made_first, kep
 use Rattle.key_index.specs.declared.Found.{Found}
 use Rattle.key_index.specs.declared.Found.TheVariants.{None, At}
 use Rattle.key_index.specs.Slots.{size_class_for, slots, KeysSound}
-use Rattle.key_index.specs.inner.Ring.{slot_word}
+use Rattle.key_index.specs.inner.Ring.{tagged}
 use Rattle.key_index.specs.inner.Index.{Fits, FoundAt, FoundIs, PutIs}
 use Rattle.key_index.specs.Laws.Index.{put_sound, replace_sound}
 use Rattle.key_index.specs.Laws.SizeClasses.{size_class_enough}
@@ -39,7 +39,7 @@ use Rattle.table.proofs.Laws.Refusals.{full_shape_fits}
 use Rattle.table.specs.Outcomes.{Stores, stores, Represents}
 use Rattle.merge_pending.specs.inner.Becoming.{Recounted, hash_of}
 use Rattle.merge_insert.specs.inner.Inserting.{InsertAgrees, Inserting}
-use Rattle.merge_insert.specs.inner.Appending.{header_after_append, needs_more_slots, KeysAfterAppend, NewRowAppended, NewIs, Replaced}
+use Rattle.merge_insert.specs.inner.Appending.{grown_to, outgrown, KeysGrown, Grew, NewIs, Replaced}
 use Rattle.merge_insert.specs.inner.Ruling.{Changes, row_made, KnownIs}
 use Rattle.table.proofs.Laws.Stored.{marked_dead}
 use Rattle.table.proofs.Laws.Shown.{in_live}
@@ -144,11 +144,11 @@ module _ (w old : ℕ) (rows : List ℕ) (some : 0 < w) where
       ∙ row_at_set_other w old i 0 rows 4294967295 (λ q. ne (sym q)) some
 
 -- with the same number of slots
-slots_same : (h : Header) → needs_more_slots h ≡ false → size_class_for h.capacity (h.rows + 1) ≡ size_class_for h.capacity h.rows
-unfolding needs_more_slots
+slots_same : (h : Header) → outgrown h ≡ false → size_class_for h.capacity (h.rows + 1) ≡ size_class_for h.capacity h.rows
+unfolding outgrown
 slots_same h o = eqb-true _ _ (not-false _ o)
 
-one_more : (h : Header) (d e v : ℕ) → needs_more_slots h ≡ false → WithRows (index_shape_of h) (index_shape_of (header_after_append h d e v)) (h.rows + 1)
+one_more : (h : Header) (d e v : ℕ) → outgrown h ≡ false → WithRows (index_shape_of h) (index_shape_of (grown_to h d e v)) (h.rows + 1)
 one_more h d e v o = record { columns = refl; keys = refl; room = slots_same h o; count = refl }
 
 -- a live first cell
@@ -166,26 +166,26 @@ module _ (h : Header) (rows keys cells : List ℕ) (hash : ℕ) (fits : Fits (fu
   used_fits = full_shape_fits h rows keys fits
 
   -- there is a slot for the row, unless it rules more slots
-  has_slot : needs_more_slots h ≡ false → h.rows < size_class_for h.capacity h.rows
+  has_slot : outgrown h ≡ false → h.rows < size_class_for h.capacity h.rows
   has_slot o = omega (arith, slots_same h o, size_class_enough h.capacity (h.rows + 1) (omega (arith, room)) fits.most)
 
   -- the row of a new key
-  new_keys : hash ≡ compact_hash (key_hash (take h.keys cells)) → needs_more_slots h ≡ false → (r : Bool) (keys' : List ℕ) → PutIs (slots (index_shape_of h)) keys hash h.rows r keys'
-      → KeysSound (index_shape_of (header_after_append h d e v)) (splice rows (h.rows * h.columns) cells) keys'
+  new_keys : hash ≡ compact_hash (key_hash (take h.keys cells)) → outgrown h ≡ false → (r : Bool) (keys' : List ℕ) → PutIs (slots (index_shape_of h)) keys hash h.rows r keys'
+      → KeysSound (index_shape_of (grown_to h d e v)) (splice rows (h.rows * h.columns) cells) keys'
   new_keys hash-is o r keys' put_is =
       let rows' : List ℕ = splice rows (h.rows * h.columns) cells in
       let new = row_at_new h.columns h.rows rows cells width cells_in in
-      put_sound (index_shape_of h) (index_shape_of (header_after_append h d e v)) rows rows' keys keys' hash r used_fits sound
-      (grown_rows (index_shape_of h) (index_shape_of (header_after_append h d e v)) rows rows' (one_more h d e v o) (has_slot o)
+      put_sound (index_shape_of h) (index_shape_of (grown_to h d e v)) rows rows' keys keys' hash r used_fits sound
+      (grown_rows (index_shape_of h) (index_shape_of (grown_to h d e v)) rows rows' (one_more h d e v o) (has_slot o)
       (row_at_before h.columns h.rows rows cells width cells_in)
       (ap is_live new ∙ first_live cells live))
       (hash-is ∙ ap (λ (l : List ℕ). compact_hash (key_hash (take h.keys l))) (sym new))
       put_is
 
   -- the row of a known key
-  known_keys : (key : List ℕ) → hash ≡ compact_hash (key_hash key) → needs_more_slots h ≡ false → take h.keys cells ≡ key → (old slot : ℕ) → FoundAt (index_shape_of h) rows keys key old slot
-      → (keys' : List ℕ) → keys' ≡ set keys slot (slot_word hash h.rows)
-      → KeysSound (index_shape_of (header_after_append h d e v)) (splice (set rows (old * h.columns) 4294967295) (h.rows * h.columns) cells) keys'
+  known_keys : (key : List ℕ) → hash ≡ compact_hash (key_hash key) → outgrown h ≡ false → take h.keys cells ≡ key → (old slot : ℕ) → FoundAt (index_shape_of h) rows keys key old slot
+      → (keys' : List ℕ) → keys' ≡ set keys slot (tagged hash h.rows)
+      → KeysSound (index_shape_of (grown_to h d e v)) (splice (set rows (old * h.columns) 4294967295) (h.rows * h.columns) cells) keys'
   known_keys key hash-is o key_is old slot found keys' keys-is =
       let base : List ℕ = set rows (old * h.columns) 4294967295 in
       let rows' : List ℕ = splice base (h.rows * h.columns) cells in
@@ -195,8 +195,8 @@ module _ (h : Header) (rows keys cells : List ℕ) (hash : ℕ) (fits : Fits (fu
       let below : old < h.rows = found.live.0 in
       let old_wide : 1 ≤ length (row_at h.columns old rows) =
       omega (arith, length_row_at h.columns old rows (rw (add-one old, suc-mul) (omega (arith, row_in old h.rows h.columns below, row_in h.rows h.capacity h.columns room, fits.cells))), fits.some_columns) in
-      replace_sound (index_shape_of h) (index_shape_of (header_after_append h d e v)) rows rows' keys keys' key hash old slot used_fits sound
-      (swapped_rows (index_shape_of h) (index_shape_of (header_after_append h d e v)) rows rows' old (one_more h d e v o) (has_slot o)
+      replace_sound (index_shape_of h) (index_shape_of (grown_to h d e v)) rows rows' keys keys' key hash old slot used_fits sound
+      (swapped_rows (index_shape_of h) (index_shape_of (grown_to h d e v)) rows rows' old (one_more h d e v o) (has_slot o)
       (λ i k ne. before i k ∙ row_at_others h.columns old rows fits.some_columns i ne)
       (ap is_live (before old below ∙ row_at_marked h.columns old rows fits.some_columns) ∙ marked_dead (row_at h.columns old rows) old_wide)
       (ap is_live new ∙ first_live cells live)
@@ -204,9 +204,9 @@ module _ (h : Header) (rows keys cells : List ℕ) (hash : ℕ) (fits : Fits (fu
       found hash-is keys-is
 
 -- the key store refers to all rows including the new one, after its entry is added or the store is rebuilt
-keys_after_sound : {h h' : Header} {rows' keys : List ℕ} {Entry : Type 0} {keys' : List ℕ} → KeysAfterAppend h h' rows' keys Entry keys'
-    → (needs_more_slots h ≡ false → Entry → KeysSound (index_shape_of h') rows' keys') → KeysSound (index_shape_of h') rows' keys'
-keys_after_sound {h} l steps = elim (split (needs_more_slots h)) [ inl o ↦ l.more o | inr o ↦ steps o (l.stepped o) ]
+led : {h h' : Header} {rows' keys : List ℕ} {Entry : Type 0} {keys' : List ℕ} → KeysGrown h h' rows' keys Entry keys'
+    → (outgrown h ≡ false → Entry → KeysSound (index_shape_of h') rows' keys') → KeysSound (index_shape_of h') rows' keys'
+led {h} l steps = elim (split (outgrown h)) [ inl o ↦ l.more o | inr o ↦ steps o (l.stepped o) ]
 
 -- ---- the contract of an insert
 
@@ -227,7 +227,7 @@ stopped_no n h e = let z : ◌≡◌ {A = ℕ} 0 1 = cc in omega arith
 
 -- the counts with one more row still fit
 recounted : (h : Header) (d e v : ℕ) → h.rows < h.capacity → h.entries ≤ h.rows → e ≤ h.entries + 1 → d ≤ h.dead + 1
-    → Recounted h (header_after_append h d e v)
+    → Recounted h (grown_to h d e v)
 recounted h d e v room few k l =
     record { counts = refl; rows_fit = omega arith; rows_grow = omega arith; entries_fit = omega arith; dead_fit = omega arith }
 
@@ -330,14 +330,14 @@ module _ (h : Header) (rows keys sorts cells : List ℕ) (hash : ℕ) where
                     (grown_steps r (prepared_dead r old old_live) row made_wide g.entered.room h'.entries sorts' g.entered
                     (insertion_proper cells p _ r.proper wide goes) (h.dead + 1) died rows' g.rows_after keys'
                     g.keys_after.same
-                    (rw g.header at (keys_after_sound g.keys_after (λ o keys-is. rw (g.header, g.rows_after)
+                    (rw g.header at (led g.keys_after (λ o keys-is. rw (g.header, g.rows_after)
                     (known_keys h rows keys row hash fits g.entered.room made_wide r.keys_sound made_live (h.dead + 1) h'.entries (get_or row h.sort 0) (take h.keys cells) hash-is o made_key old slot there keys' keys-is))))),
               )
 
       -- the stores after the row of a new key is appended
-      new_steps : f ≡ None → (h' : Header) (rows' keys' sorts' : List ℕ) → NewRowAppended h rows keys sorts cells hash h' rows' keys' sorts'
+      grew_steps : f ≡ None → (h' : Header) (rows' keys' sorts' : List ℕ) → Grew h rows keys sorts cells hash h' rows' keys' sorts'
           → InsertAgrees p cells (stores h rows keys sorts pending) rows' keys' sorts' (Appended h')
-      new_steps e h' rows' keys' sorts' g =
+      grew_steps e h' rows' keys' sorts' g =
           let goes : insertion cells p ≡ accepted (with_row p p.rows cells) =
           new_way e ∙ append_goes cells p p.rows (stop_same r cells ∙ g.entered.free) in (
             with_row p p.rows cells,
@@ -346,7 +346,7 @@ module _ (h : Header) (rows keys sorts cells : List ℕ) (hash : ℕ) where
                 (grown_steps r (prepared_same r) cells width g.entered.room h'.entries sorts' g.entered
                 (insertion_proper cells p _ r.proper wide goes) h.dead dead_same rows' g.rows_after keys'
                 g.keys_after.same
-                (rw g.header at (keys_after_sound g.keys_after (λ o put_is. rw (g.header, g.rows_after)
+                (rw g.header at (led g.keys_after (λ o put_is. rw (g.header, g.rows_after)
                 (new_keys h rows keys cells hash fits g.entered.room width r.keys_sound live h.dead h'.entries (get_or cells h.sort 0) hash-is o put_is.0 keys' put_is.1))))),
           )
 
@@ -362,7 +362,7 @@ module _ (h : Header) (rows keys sorts cells : List ℕ) (hash : ℕ) where
               rw (← same_header h' h'' q, g.header)
               (recounted h h.dead h'.entries _ g.entered.room entries_fit g.entered.few (omega arith));
           unchanged = λ no. absurd (no h' refl);
-          table = λ hash-is pending p r. new_steps hash-is r e h' rows' keys' sorts' g;
+          table = λ hash-is pending p r. grew_steps hash-is r e h' rows' keys' sorts' g;
         }
     new_inserts e (Stopped n) rows' keys' sorts' g =
         record {

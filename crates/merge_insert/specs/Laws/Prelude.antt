@@ -10,7 +10,7 @@ pub use Rattle.lists.specs.Laws.Filter.{count_append, split}
 pub use Rattle.lists.specs.Laws.Parts.{length_splice, splice_alike, splice_start}
 pub use Rattle.lists.specs.Laws.Rows.{flatten_append, flatten_rows_of, get_d_rows_of, length_rows_of, row_in, rows_of_appended}
 pub use Rattle.lists.specs.Lists.{splice}
-pub use Rattle.merge_insert.specs.inner.Appending.{Entered, header_after_append}
+pub use Rattle.merge_insert.specs.inner.Appending.{Entered, grown_to}
 pub use Rattle.merge_pending.specs.Laws.Dying.{entries_kill_at, kill_at, kill_at_cells, kill_at_live, length_kill_at, stored_kill_at}
 pub use Rattle.merge_pending.specs.inner.Becoming.{Becomes, Later, with_counts}
 pub use Rattle.plain_table.proofs.Laws.Calls.{first_refusal_no, first_refusal_rest}

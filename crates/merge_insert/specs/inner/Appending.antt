@@ -6,7 +6,7 @@ use Rattle.refusals.specs.Refusals.{check, first_refusal}
 use Rattle.sort_entries.specs.Entries.{entries_of, entry_words}
 use Rattle.sort_entries.specs.Laws.Push.{push}
 use Rattle.key_index.specs.Slots.{size_class_for, slots, KeysSound}
-use Rattle.key_index.specs.inner.Ring.{slot_word}
+use Rattle.key_index.specs.inner.Ring.{tagged}
 use Rattle.key_index.specs.inner.Index.{Fits, PutIs}
 use Rattle.key_rebuild.specs.inner.Rebuilding.{Rebuilt}
 use Rattle.plain_table.specs.Plain.{below}
@@ -57,17 +57,17 @@ AdmissionIs h sorts value sorts' (Entries n) = Entered h sorts value n sorts'
 -- ---- a row is appended
 
 -- the header with one more row, this number of dead rows, this number of sort entries, and this sort value as the largest
-abbrev pub header_after_append : Header → ℕ → ℕ → ℕ → Header
-header_after_append h dead entries value = with_counts h (h.rows + 1) dead entries (Value value)
+abbrev pub grown_to : Header → ℕ → ℕ → ℕ → Header
+grown_to h dead entries value = with_counts h (h.rows + 1) dead entries (Value value)
 
 -- one more row rules more slots in the key store
-unfoldable pub needs_more_slots : Header → Bool
-needs_more_slots h = not (eqb (size_class_for h.capacity (h.rows + 1)) (size_class_for h.capacity h.rows))
+unfoldable pub outgrown : Header → Bool
+outgrown h = not (eqb (size_class_for h.capacity (h.rows + 1)) (size_class_for h.capacity h.rows))
 
 -- The key store after an append: rebuilt over all rows if the row rules more slots, otherwise as `Entry` states.
-pub record KeysAfterAppend (h h' : Header) (rows' keys : List ℕ) (Entry : Type 0) (keys' : List ℕ) : Type 0 where
-  pub more : needs_more_slots h ≡ true → KeysSound (index_shape_of h') rows' keys'
-  pub stepped : needs_more_slots h ≡ false → Entry
+pub record KeysGrown (h h' : Header) (rows' keys : List ℕ) (Entry : Type 0) (keys' : List ℕ) : Type 0 where
+  pub more : outgrown h ≡ true → KeysSound (index_shape_of h') rows' keys'
+  pub stepped : outgrown h ≡ false → Entry
   pub past : SamePast (2 * h.capacity) keys keys'
   pub same : length keys' ≡ length keys
 
@@ -77,12 +77,12 @@ pub record Rebuildable (h : Header) (rows keys : List ℕ) (died : ℕ) : Type 0
   pub place : h.rows < h.capacity
   pub dead_fits : h.dead + died ≤ 4294967295
 
-pub record RebuiltAfterAppend (h : Header) (rows keys : List ℕ) (died entries value : ℕ) (r : Insertion) (keys' : List ℕ) : Type 0 where
-  pub answer : r ≡ Appended (header_after_append h (h.dead + died) entries value)
-  pub rebuilt : Rebuilt (index_shape_of (header_after_append h (h.dead + died) entries value)) rows keys keys'
+pub record RebuiltGrown (h : Header) (rows keys : List ℕ) (died entries value : ℕ) (r : Insertion) (keys' : List ℕ) : Type 0 where
+  pub answer : r ≡ Appended (grown_to h (h.dead + died) entries value)
+  pub rebuilt : Rebuilt (index_shape_of (grown_to h (h.dead + died) entries value)) rows keys keys'
 
 -- stores long enough for one more row, and the cells of the row
-pub record CanAppend (h : Header) (rows keys sorts cells : List ℕ) : Type 0 where
+pub record Growable (h : Header) (rows keys sorts cells : List ℕ) : Type 0 where
   pub fits : Fits (full_index_shape_of h) rows keys
   pub sort_column : h.sort < h.columns
   pub entries_fit : h.entries ≤ h.rows
@@ -91,34 +91,34 @@ pub record CanAppend (h : Header) (rows keys sorts cells : List ℕ) : Type 0 wh
   pub width : length cells ≡ h.columns
 
 -- a stop leaves the stores unchanged
-pub record UnchangedByStop (h : Header) (rows keys sorts cells : List ℕ) (n : ℕ) (rows' keys' sorts' : List ℕ) : Type 0 where
+pub record Stayed (h : Header) (rows keys sorts cells : List ℕ) (n : ℕ) (rows' keys' sorts' : List ℕ) : Type 0 where
   pub stops : Stops h (get_or cells h.sort 0) n
   pub same_rows : rows' ≡ rows
   pub same_keys : keys' ≡ keys
   pub same_sorts : sorts' ≡ sorts
 
 -- the row is after the others, and its number is in the key store
-pub record NewRowAppended (h : Header) (rows keys sorts cells : List ℕ) (hash : ℕ) (h' : Header) (rows' keys' sorts' : List ℕ) : Type 0 where
+pub record Grew (h : Header) (rows keys sorts cells : List ℕ) (hash : ℕ) (h' : Header) (rows' keys' sorts' : List ℕ) : Type 0 where
   pub entered : Entered h sorts (get_or cells h.sort 0) h'.entries sorts'
-  pub header : h' ≡ header_after_append h h.dead h'.entries (get_or cells h.sort 0)
+  pub header : h' ≡ grown_to h h.dead h'.entries (get_or cells h.sort 0)
   pub rows_after : rows' ≡ splice rows (h.rows * h.columns) cells
-  pub keys_after : KeysAfterAppend h h' rows' keys ((r : Bool) × PutIs (slots (index_shape_of h)) keys hash h.rows r keys') keys'
+  pub keys_after : KeysGrown h h' rows' keys ((r : Bool) × PutIs (slots (index_shape_of h)) keys hash h.rows r keys') keys'
 
 -- "A new key is appended"
 abbrev pub NewIs : Header → List ℕ → List ℕ → List ℕ → List ℕ → ℕ → List ℕ → List ℕ → List ℕ → Insertion → Type 0
 NewIs h rows keys sorts cells hash rows' keys' sorts' Unchanged = ⊥
-NewIs h rows keys sorts cells hash rows' keys' sorts' (Appended h') = NewRowAppended h rows keys sorts cells hash h' rows' keys' sorts'
-NewIs h rows keys sorts cells hash rows' keys' sorts' (Stopped n) = UnchangedByStop h rows keys sorts cells n rows' keys' sorts'
+NewIs h rows keys sorts cells hash rows' keys' sorts' (Appended h') = Grew h rows keys sorts cells hash h' rows' keys' sorts'
+NewIs h rows keys sorts cells hash rows' keys' sorts' (Stopped n) = Stayed h rows keys sorts cells n rows' keys' sorts'
 
 -- the row is after the others, its number is in the old row's slot, and the old row has the dead mark
 pub record Replaced (h : Header) (rows keys sorts cells : List ℕ) (hash old slot : ℕ) (h' : Header) (rows' keys' sorts' : List ℕ) : Type 0 where
   pub entered : Entered h sorts (get_or cells h.sort 0) h'.entries sorts'
-  pub header : h' ≡ header_after_append h (h.dead + 1) h'.entries (get_or cells h.sort 0)
+  pub header : h' ≡ grown_to h (h.dead + 1) h'.entries (get_or cells h.sort 0)
   pub rows_after : rows' ≡ splice (set rows (old * h.columns) 4294967295) (h.rows * h.columns) cells
-  pub keys_after : KeysAfterAppend h h' rows' keys (keys' ≡ set keys slot (slot_word hash h.rows)) keys'
+  pub keys_after : KeysGrown h h' rows' keys (keys' ≡ set keys slot (tagged hash h.rows)) keys'
 
 -- "a row so made is appended and the old row dies"
 abbrev pub ReplaceIs : Header → List ℕ → List ℕ → List ℕ → List ℕ → ℕ → ℕ → ℕ → List ℕ → List ℕ → List ℕ → Insertion → Type 0
 ReplaceIs h rows keys sorts cells hash old slot rows' keys' sorts' Unchanged = ⊥
 ReplaceIs h rows keys sorts cells hash old slot rows' keys' sorts' (Appended h') = Replaced h rows keys sorts cells hash old slot h' rows' keys' sorts'
-ReplaceIs h rows keys sorts cells hash old slot rows' keys' sorts' (Stopped n) = UnchangedByStop h rows keys sorts cells n rows' keys' sorts'
+ReplaceIs h rows keys sorts cells hash old slot rows' keys' sorts' (Stopped n) = Stayed h rows keys sorts cells n rows' keys' sorts'

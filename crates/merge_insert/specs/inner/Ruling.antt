@@ -5,7 +5,7 @@ use Rattle.merge_rules.specs.Rules.{changes_from, made_from, survivor}
 use Rattle.table.specs.declared.Header.{Header}
 use Rattle.merge_insert.specs.declared.append.Insertion.{Insertion}
 use Rattle.merge_insert.specs.declared.append.Insertion.TheVariants.{Unchanged, Appended, Stopped}
-use Rattle.merge_insert.specs.inner.Appending.{UnchangedByStop, Replaced}
+use Rattle.merge_insert.specs.inner.Appending.{Stayed, Replaced}
 
 -- a cell outside keys and sort column changes
 abbrev pub Changes : Header → List ℕ → List ℕ → Bool
@@ -43,4 +43,4 @@ KnownIs h rows keys sorts cells hash old slot rows' keys' sorts' Unchanged = Unc
 KnownIs h rows keys sorts cells hash old slot rows' keys' sorts' (Appended h') =
     (Changes h (row_at h.columns old rows) cells ≡ true) × Replaced h rows keys sorts (row_made h (row_at h.columns old rows) cells) hash old slot h' rows' keys' sorts'
 KnownIs h rows keys sorts cells hash old slot rows' keys' sorts' (Stopped n) =
-    (Changes h (row_at h.columns old rows) cells ≡ true) × UnchangedByStop h rows keys sorts (row_made h (row_at h.columns old rows) cells) n rows' keys' sorts'
+    (Changes h (row_at h.columns old rows) cells ≡ true) × Stayed h rows keys sorts (row_made h (row_at h.columns old rows) cells) n rows' keys' sorts'

@@ -50,18 +50,18 @@ at_most cell =
     ]
 
 -- each of these numbers has a cell
-pub signed_onto : (z : ℤ) → negsuc 2147483647 ≤ℤ z → z ≤ℤ pos 2147483647 → (cell : ℕ) × (cell < 4294967296) × (signed cell ≡ z)
-signed_onto (pos n) l h =
+pub meant : (z : ℤ) → negsuc 2147483647 ≤ℤ z → z ≤ℤ pos 2147483647 → (cell : ℕ) × (cell < 4294967296) × (signed cell ≡ z)
+meant (pos n) l h =
     let k : n ≤ 2147483647 = leb→le n 2147483647 h.le in
     (n, omega arith, not_negative n (omega arith))
-signed_onto (negsuc n) l h =
+meant (negsuc n) l h =
     let k : n ≤ 2147483647 = leb→le n 2147483647 l.le in
     let e : 4294967295 - (4294967295 - n) ≡ n = omega arith in
     (4294967295 - n, omega arith, negative (4294967295 - n) (omega arith) ∙ ap negsuc e)
 
 -- that cell is unique
-pub signed_injective : (a b : ℕ) → a < 4294967296 → b < 4294967296 → signed a ≡ signed b → a ≡ b
-signed_injective a b p q e = sym (of_z-to_z {w = w32} (record { fits = p })) ∙ ap (of_z w32) (sym (as_the_machine a) ∙ e ∙ as_the_machine b) ∙ of_z-to_z {w = w32} (record { fits = q })
+pub meant_once : (a b : ℕ) → a < 4294967296 → b < 4294967296 → signed a ≡ signed b → a ≡ b
+meant_once a b p q e = sym (of_z-to_z {w = w32} (record { fits = p })) ∙ ap (of_z w32) (sym (as_the_machine a) ∙ e ∙ as_the_machine b) ∙ of_z-to_z {w = w32} (record { fits = q })
 
 -- ---- their order
 

@@ -4,10 +4,10 @@ use Rattle.offsets.proofs.Forms.{bounds_range, bounds_none, bounds_list}
 use Rattle.offsets.proofs.bounds.Goals as goal
 
 pub returns-then-head : goal.returns-then-head
-returns-then-head c = ap₂ (λ (a b : ℕ). bounds_view (Ends a b)) c.widen.ensures.0 c.widen-then-head.ensures.0 ∙ bounds_range _ _ c.if-head.true
+returns-then-head c = ap₂ (λ (a b : ℕ). bounds_view (Ends a b)) c.wide.ensures.0 c.wide-then-head.ensures.0 ∙ bounds_range _ _ c.if-head.true
 
 pub returns-then-count-eq0 : goal.returns-then-count-eq0
 returns-then-count-eq0 c = bounds_none _ _ c.if-head.false c.if-count-eq0.true
 
 pub returns : goal.returns
-returns c = ap₂ (λ (a b : ℕ). bounds_view (Ends a (b + 1))) c.widen-first.ensures.0 c.widen-last.ensures.0 ∙ bounds_list _ _ c.if-head.false c.if-count-eq0.false
+returns c = ap₂ (λ (a b : ℕ). bounds_view (Ends a (b + 1))) c.wide-first.ensures.0 c.wide-last.ensures.0 ∙ bounds_list _ _ c.if-head.false c.if-count-eq0.false

@@ -15,17 +15,17 @@ lent c = lendable _ _ _ _ _ (accepts c)
 pub returns-then-refusal-ne-ACCEPTED : goal.returns-then-refusal-ne-ACCEPTED
 returns-then-refusal-ne-ACCEPTED c = refused_early _ _ _ _ _ _ c.refresh_refusal-refusal.ensures c.if-refusal-ne-ACCEPTED.true
 
-pub is_usable-index_usable-requires : goal.is_usable-index_usable-requires
-is_usable-index_usable-requires c = let l = lent (goal.at.is_usable-index_usable-requires c).Else-refusal-ne-ACCEPTED in (l.inside, l.columns_few, l.index_long)
+pub is_usable-goes_on-requires : goal.is_usable-goes_on-requires
+is_usable-goes_on-requires c = let l = lent (goal.at.is_usable-goes_on-requires c).Else-refusal-ne-ACCEPTED in (l.inside, l.columns_few, l.index_long)
 
-pub is_overfull_for_all_rows-requires : goal.is_overfull_for_all_rows-requires
-is_overfull_for_all_rows-requires c = (lent (goal.at.is_overfull_for_all_rows-requires c).Else-refusal-ne-ACCEPTED).inside
+pub is_tight-requires : goal.is_tight-requires
+is_tight-requires c = (lent (goal.at.is_tight-requires c).Else-refusal-ne-ACCEPTED).inside
 
 pub refresh_by_index-refreshed-requires : goal.refresh_by_index-refreshed-requires
 refresh_by_index-refreshed-requires c = (
   record {
     checked = sym c.refresh_refusal-refusal.ensures ∙ c.if-refusal-ne-ACCEPTED.false;
-    continues = c.is_usable-index_usable.ensures;
+    continues = c.is_usable-goes_on.ensures;
   },
-  sym c.is_overfull_for_all_rows.ensures ∙ c.if-is_overfull_for_all_rows.false,
+  sym c.is_tight.ensures ∙ c.if-is_tight.false,
 )

@@ -60,6 +60,6 @@ module _ (width n : ℕ) (some : 0 < width) (cells : List ℕ) (e : length cells
       ∙ ap₂ plus (ap (λ (r : List ℕ). get_or r i 0) row ∙ get_d_row_at n j cells i 0 h) (above_alike width j (from_columns width cells) (back j) n (λ r g. sym (back_of r j g k)) i h)
 
 -- the example of docs/FORMAT.md, three rows of two
-pub format_example : to_columns 2 (1 ∷ 10 ∷ 6 ∷ 10 ∷ 5 ∷ 12 ∷ []) ≡ 1 ∷ 5 ∷ 4294967295 ∷ 10 ∷ 0 ∷ 2 ∷ []
+pub worked : to_columns 2 (1 ∷ 10 ∷ 6 ∷ 10 ∷ 5 ∷ 12 ∷ []) ≡ 1 ∷ 5 ∷ 4294967295 ∷ 10 ∷ 0 ∷ 2 ∷ []
 unfolding to_columns transposed differences zip_with minus rows_of flatten iota
-format_example = refl
+worked = refl

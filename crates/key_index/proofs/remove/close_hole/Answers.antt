@@ -15,8 +15,8 @@ pub returns-then-not-names_row : goal.returns-then-not-names_row
 returns-then-not-names_row c =
     stop _ _ _ _ _ _ _ _ _ _ c.loop-left.invariant _ (c.next_slot-at.ensures.value, c.next_slot-at.ensures.upper_bound) (omega (arith, c.loop-left-test.true)) (sym c.names_row.ensures ∙ c.if-not-names_row.true)
 
-pub distance_from_home-requires : goal.distance_from_home-requires
-distance_from_home-requires c =
+pub home_away-requires : goal.home_away-requires
+home_away-requires c =
     let f = c.requires.0 in
     (rows_in_lem _ _ _ f, sym c.names_row.ensures ∙ c.if-not-names_row.false, c.next_slot-at.ensures.upper_bound)
 
@@ -24,7 +24,7 @@ pub loop-left-preserved : goal.loop-left-preserved
 loop-left-preserved c =
     let f = c.requires.0 in
     turn _ _ _ _ _ _ _ _ _ _ c.loop-left.invariant _ (c.next_slot-at.ensures.value, c.next_slot-at.ensures.upper_bound) (omega (arith, c.loop-left-test.true)) f.long
-    (sym c.names_row.ensures ∙ c.if-not-names_row.false) _ _ _ _ c.distance_from_home.ensures
+    (sym c.names_row.ensures ∙ c.if-not-names_row.false) _ _ _ _ c.home_away.ensures
     c.select-held.ensures c.select-hole.ensures c.select-gap.ensures
 
 pub shape_of-store : goal.shape_of-store

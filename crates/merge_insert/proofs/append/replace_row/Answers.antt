@@ -10,37 +10,37 @@ pub write_row-requires : goal.write_row-requires
 write_row-requires c =
     omega (arith, enters c.requires.0 _ _ _ c.admit.ensures _ c.in-Entries.is, simp length-set at (ap length c.set_stale.ensures.cells))
 
-pub needs_more_slots-requires : goal.needs_more_slots-requires
-needs_more_slots-requires c = omega (arith, enters c.requires.0 _ _ _ c.admit.ensures _ c.in-Entries.is)
+pub is_outgrown-requires : goal.is_outgrown-requires
+is_outgrown-requires c = omega (arith, enters c.requires.0 _ _ _ c.admit.ensures _ c.in-Entries.is)
 
-pub rebuild_after_append-requires : goal.rebuild_after_append-requires
-rebuild_after_append-requires c = rebuilds (enters c.requires.0 _ _ _ c.admit.ensures _ c.in-Entries.is) _ (c.rows-in-Entries-1.given ∙ c.rows-1.given) 1 (omega arith)
+pub rebuild_grown-requires : goal.rebuild_grown-requires
+rebuild_grown-requires c = rebuilds (enters c.requires.0 _ _ _ c.admit.ensures _ c.in-Entries.is) _ (c.rows-in-Entries-1.given ∙ c.rows-1.given) 1 (omega arith)
 
-pub shape_of-sorts-then-needs_more_slots : goal.shape_of-sorts-then-needs_more_slots
-shape_of-sorts-then-needs_more_slots c = (entered_of _ _ _ _ _ c.admit.ensures _ c.in-Entries.is).same
+pub shape_of-sorts-then-is_outgrown : goal.shape_of-sorts-then-is_outgrown
+shape_of-sorts-then-is_outgrown c = (entered_of _ _ _ _ _ c.admit.ensures _ c.in-Entries.is).same
 
-pub returns-then-needs_more_slots : goal.returns-then-needs_more_slots
-returns-then-needs_more_slots c =
+pub returns-then-is_outgrown : goal.returns-then-is_outgrown
+returns-then-is_outgrown c =
     let a = c.args in
     replaced_rebuilt _ _ _ _ _ _ _ _ (entered_of _ _ _ _ _ c.admit.ensures _ c.in-Entries.is) _ _ c.keys-1.given a.old a.slot
     (rw c.row_start-in-Entries.ensures at c.write_row.ensures ∙ ap (λ (l : List ℕ). splice l (a.h.rows * a.h.columns) a.cells.now) (rw c.row_start.ensures at c.set_stale.ensures.cells))
-    (sym c.needs_more_slots.ensures ∙ c.if-needs_more_slots.true) _ c.rebuild_after_append.ensures
+    (sym c.is_outgrown.ensures ∙ c.if-is_outgrown.true) _ c.rebuild_grown.ensures
 
 pub replace-requires : goal.replace-requires
 replace-requires c = omega (arith, enters c.requires.0 _ _ _ c.admit.ensures _ c.in-Entries.is, c.requires.2)
 
-pub header_after_append-requires : goal.header_after_append-requires
-header_after_append-requires c = omega (arith, enters c.requires.0 _ _ _ c.admit.ensures _ c.in-Entries.is)
+pub grown-requires : goal.grown-requires
+grown-requires c = omega (arith, enters c.requires.0 _ _ _ c.admit.ensures _ c.in-Entries.is)
 
 pub returns-in-Stop : goal.returns-in-Stop
 returns-in-Stop c = unchanged_by_stop _ _ _ _ _ _ _ (stop_of _ _ _ _ _ c.admit.ensures _ c.in-Stop.is)
 
-pub shape_of-sorts-else-needs_more_slots : goal.shape_of-sorts-else-needs_more_slots
-shape_of-sorts-else-needs_more_slots c = (entered_of _ _ _ _ _ c.admit.ensures _ c.in-Entries.is).same
+pub shape_of-sorts-else-is_outgrown : goal.shape_of-sorts-else-is_outgrown
+shape_of-sorts-else-is_outgrown c = (entered_of _ _ _ _ _ c.admit.ensures _ c.in-Entries.is).same
 
-pub returns-else-needs_more_slots : goal.returns-else-needs_more_slots
-returns-else-needs_more_slots c =
+pub returns-else-is_outgrown : goal.returns-else-is_outgrown
+returns-else-is_outgrown c =
     let a = c.args in
     replaced_stepped _ _ _ _ _ _ _ _ (entered_of _ _ _ _ _ c.admit.ensures _ c.in-Entries.is) _ _ c.keys-in-Entries-1.given a.old a.slot
     (rw c.row_start-in-Entries.ensures at c.write_row.ensures ∙ ap (λ (l : List ℕ). splice l (a.h.rows * a.h.columns) a.cells.now) (rw c.row_start.ensures at c.set_stale.ensures.cells))
-    (sym c.needs_more_slots.ensures ∙ c.if-needs_more_slots.false) c.requires.2 c.replace.ensures _ c.header_after_append.ensures
+    (sym c.is_outgrown.ensures ∙ c.if-is_outgrown.false) c.requires.2 c.replace.ensures _ c.grown.ensures

@@ -1,7 +1,7 @@
--- `refresh::is_overfull_for_all_rows` meets its contract. Assumes nothing.
+-- `refresh::is_tight` meets its contract. Assumes nothing.
 use Rattle.refresh.proofs.Prelude.{arith}
 use Rattle.refresh.proofs.RefreshSteps.{all_words_few}
-use Rattle.refresh.proofs.is_overfull_for_all_rows.Goals as goal
+use Rattle.refresh.proofs.is_tight.Goals as goal
 
 pub overflow_add-h : goal.overflow_add-h
 overflow_add-h c = omega (arith, all_words_few _ c.requires)

@@ -1,7 +1,7 @@
--- `key_index::remove::distance_from_home` meets its contract. Assumes nothing.
-use Rattle.key_index.proofs.Prelude.{ℕ, ap, ◌∙◌, arith, slots, cyclic_distance, names_number}
+-- `key_index::remove::home_away` meets its contract. Assumes nothing.
+use Rattle.key_index.proofs.Prelude.{ℕ, ap, ◌∙◌, arith, slots, away, names_number}
 use Rattle.key_index.proofs.ShiftSteps.{home_hash}
-use Rattle.key_index.proofs.remove.distance_from_home.Goals as goal
+use Rattle.key_index.proofs.remove.home_away.Goals as goal
 
 pub overflow_sub-word : goal.overflow_sub-word
 overflow_sub-word c = omega (arith, names_number _ _ c.requires.1)
@@ -13,4 +13,4 @@ pub returns : goal.returns
 returns c =
     let a = c.args in
     let home = c.home_slot-home.ensures.value ∙ home_hash a.t a.rows.now a.word _ c.row_hash-hash.ensures in
-    c.cyclic_distance.ensures ∙ ap (λ (h : ℕ). cyclic_distance (slots a.t) h a.at) home
+    c.slots_away.ensures ∙ ap (λ (h : ℕ). away (slots a.t) h a.at) home
