@@ -1,5 +1,4 @@
-// The calls that change a table, and the soundness check, as C functions. A slice is passed as a pointer and a length, a fixed
-// array as a pointer alone.
+// The calls that change a table, and the soundness check, for C (`abi_table_c`).
 #![tactic(auto)]
 
 ghost use Rattle.std.specs.Prelude.{◌≡◌, get_or};
@@ -13,16 +12,14 @@ use abi::{decode_header, places, store_merge, store_sound, store_table};
 
 const MOULDGREY_VERSION: u32 = 1000;
 
-#[unsafe(no_mangle)]
-pub extern "C" fn mouldgrey_library_version() -> u32
+pub fn mouldgrey_library_version() -> u32
     ensures { result ≡ library_version }
 {
     MOULDGREY_VERSION
 }
 
 // The opening is six words: columns, keys, sort, rule, capacity, generation.
-#[unsafe(no_mangle)]
-pub extern "C" fn mouldgrey_open_table(
+pub fn mouldgrey_open_table(
     opening: &[u32; 6],
     header: &mut [u32; 12],
     rows: &[u32],
@@ -47,32 +44,21 @@ pub extern "C" fn mouldgrey_open_table(
     store_table(answer, header)
 }
 
-#[unsafe(no_mangle)]
-pub extern "C" fn mouldgrey_stage_insert(
-    header: &mut [u32; 12],
-    pending: &mut [u32],
-    cells: &[u32],
-) -> u32
+pub fn mouldgrey_stage_insert(header: &mut [u32; 12], pending: &mut [u32], cells: &[u32]) -> u32
     ensures { Answers (λ answer. Staging (decode_header header.old) pending.old (insert cells.now) answer pending.new) table_view encode_header header.old result header.new }
 {
     let answer = table_stage::stage_insert(decode_header(header), pending, cells);
     store_table(answer, header)
 }
 
-#[unsafe(no_mangle)]
-pub extern "C" fn mouldgrey_stage_remove(
-    header: &mut [u32; 12],
-    pending: &mut [u32],
-    key: &[u32],
-) -> u32
+pub fn mouldgrey_stage_remove(header: &mut [u32; 12], pending: &mut [u32], key: &[u32]) -> u32
     ensures { Answers (λ answer. Staging (decode_header header.old) pending.old (remove_key key.now) answer pending.new) table_view encode_header header.old result header.new }
 {
     let answer = table_stage::stage_remove(decode_header(header), pending, key);
     store_table(answer, header)
 }
 
-#[unsafe(no_mangle)]
-pub extern "C" fn mouldgrey_stage_remove_row(
+pub fn mouldgrey_stage_remove_row(
     header: &mut [u32; 12],
     pending: &mut [u32],
     row: u32,
@@ -85,8 +71,7 @@ pub extern "C" fn mouldgrey_stage_remove_row(
 }
 
 // The answer is five words: status, place, added, kept, dropped.
-#[unsafe(no_mangle)]
-pub extern "C" fn mouldgrey_merge(
+pub fn mouldgrey_merge(
     header: &mut [u32; 12],
     rows: &mut [u32],
     keys: &mut [u32],
@@ -103,8 +88,7 @@ pub extern "C" fn mouldgrey_merge(
     store_merge(answer, header, merged)
 }
 
-#[unsafe(no_mangle)]
-pub extern "C" fn mouldgrey_compact(
+pub fn mouldgrey_compact(
     header: &mut [u32; 12],
     rows: &mut [u32],
     keys: &mut [u32],
@@ -118,8 +102,7 @@ pub extern "C" fn mouldgrey_compact(
     store_table(answer, header)
 }
 
-#[unsafe(no_mangle)]
-pub extern "C" fn mouldgrey_clear(header: &mut [u32; 12], keys: &mut [u32]) -> u32
+pub fn mouldgrey_clear(header: &mut [u32; 12], keys: &mut [u32]) -> u32
     ensures { Answers (λ answer. Clearing (decode_header header.old) keys.old answer keys.new) table_view encode_header header.old result header.new }
 {
     let answer = table_open::clear(decode_header(header), keys);
@@ -127,8 +110,7 @@ pub extern "C" fn mouldgrey_clear(header: &mut [u32; 12], keys: &mut [u32]) -> u
 }
 
 // The answer is one word: 1 for sound stores.
-#[unsafe(no_mangle)]
-pub extern "C" fn mouldgrey_is_sound(
+pub fn mouldgrey_is_sound(
     header: &[u32; 12],
     rows: &[u32],
     keys: &[u32],
