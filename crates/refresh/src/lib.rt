@@ -106,7 +106,7 @@ fn mark_mentioning(
     goes_on: bool,
     words: &mut [u64],
 ) -> u32
-    requires { Lendable h rows.now columns.now index.now × (index_usable ≡ usable h columns.now index.now) × Bitmap words.old (λ i. false) }
+    requires { Lendable h rows.now columns.now index.now × (goes_on ≡ usable h columns.now index.now) × Bitmap words.old (λ i. false) }
     ensures { RowsFound h rows.now index.now columns.now values.now words.old words.new result }
 {
     if !goes_on {
@@ -277,7 +277,7 @@ fn refresh_by_index(
     stamp: u32,
     goes_on: bool,
 ) -> Refreshed
-    requires { Accepted h rows.now pending.old index.old columns.now stamp index_usable × (overfull h.pending (length pending.old) (h.rows * (h.keys + 3) + h.rows * (h.columns + 2)) ≡ false) }
+    requires { Accepted h rows.now pending.old index.old columns.now stamp goes_on × (overfull h.pending (length pending.old) (h.rows * (h.keys + 3) + h.rows * (h.columns + 2)) ≡ false) }
     ensures { Refreshing h rows.now pending.old index.old (record { columns = columns.entry.now; values = values.now; stamp = stamp }) (RefreshDone result) pending.new index.new }
 {
     catch_up(h, rows, index, columns, goes_on);
@@ -297,7 +297,7 @@ fn refresh_by_scan(
     stamp: u32,
     goes_on: bool,
 ) -> RefreshAnswer
-    requires { Accepted h rows.now pending.old index.old columns.now stamp index_usable }
+    requires { Accepted h rows.now pending.old index.old columns.now stamp goes_on }
     ensures { Refreshing h rows.now pending.old index.old (record { columns = columns.entry.now; values = values.now; stamp = stamp }) result pending.new index.new }
 {
     let mut words = [0u64; WORDS];

@@ -166,7 +166,7 @@ fn empty_buckets(index: &mut [u32], heads: usize, buckets: u32)
 // Makes the store an index of the whole table. It continues after the rows seen, or starts again with twice as many buckets as
 // there are entries, which leaves room to continue and takes time by the rows and not by the capacity.
 pub fn catch_up(h: Header, rows: &[u32], index: &mut [u32], columns: &[u32], goes_on: bool)
-    requires { Lendable h rows.now columns.now index.old × (index_usable ≡ usable h columns.now index.old) }
+    requires { Lendable h rows.now columns.now index.old × (goes_on ≡ usable h columns.now index.old) }
     ensures { CaughtUp h rows.now columns.now index.old index.new × UpToDate h columns.now index.new }
 {
     if goes_on {
