@@ -1,6 +1,6 @@
 -- An image changed within four neighbouring bytes is no image. Assumes nothing.
 use Rattle.archive.proofs.Laws.Prelude.{ℕ, zero, suc, ◌+◌, ◌<◌, ◌≡◌, refl, sym, ap, ◌∙◌, true, List, [], ◌∷◌, ◌++◌, ◌⊎◌, inl, inr, Option, none, some, arith, length, get_or, Below, bytes_of_append, bytes_of_below, bytes_of_cons, damage_shows, residue_of_crc, Header, TableAnswer, Table, table_view, Damaged, damaged, RefusedAsImage}
-use Rattle.std.proofs.Math.Option.{Option·elim}
+use Rattle.std.proofs.Math.Option.{Option-elim}
 use Rattle.lists.specs.Lists.{flatten}
 use Rattle.refusals.specs.Refusals.{Reply, refused, accepted, reply, outcome}
 use Rattle.crc32.specs.Crc.{crc32, bytes_of, word_bytes}
@@ -61,7 +61,7 @@ damaged_none words words' i e d j f =
 
 -- every function that reads images refuses them
 pub no_image_refused : (words : List ℕ) → ((o : Option Image) → Reads words o → o ≡ none) → RefusedAsImage words
-unfolding check_reply read_refusal text_refusal Option·elim reply outcome
+unfolding check_reply read_refusal text_refusal Option-elim reply outcome
 no_image_refused words never =
     record {
       checked = λ answer m. m.answers ∙ ap (λ (o : Option Image). check_reply o m.decoded.sound) (never _ m.decoded.reads);

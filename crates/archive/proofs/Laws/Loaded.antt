@@ -1,6 +1,6 @@
 -- Reading an image after writing it. Assumes nothing.
 use Rattle.archive.proofs.Laws.Prelude.{ℕ, zero, suc, ◌+◌, ◌*◌, ◌≤◌, ◌<◌, ◌≡◌, refl, sym, ap, ◌∙◌, Bool, true, false, cond, not, ◌||◌, List, [], ◌∷◌, ◌++◌, map, ⊎_elim, Option, none, some, mul-le-mul_right, arith, length, take, drop, get_or, take_at, ltb, eqb, ltb-false, le-leb, split, length_splice, or_no_left, or_no_right, Opening, openable, words_all, row_of, first_refusal_no, first_refusal_rest, bounds_openable, Header, TableAnswer, Table, outside, Stores, Body, joined, lengths, Represents, LongEnough, stores_long, Inside, outside_inside, Image, SoundImage, reads_unique, Saved, resized, ReadAfterWrite}
-use Rattle.std.proofs.Math.Option.{Option·elim}
+use Rattle.std.proofs.Math.Option.{Option-elim}
 use Rattle.lists.specs.Lists.{splice, row_at, all}
 use Rattle.refusals.specs.Refusals.{check, first_refusal, Reply, refused, accepted, reply, outcome}
 use Rattle.plain_table.specs.Refusing.{stores_short}
@@ -41,7 +41,7 @@ module _ {p : Plain} {s : Stores} (r : Represents p s) {words : List ℕ} (saved
   left_number = first_refusal (check (outside after) 1 ∷ check short 2 ∷ [])
 
   number_is : read_refusal m.decoded.image m.decoded.sound capacity b pending ≡ left_number
-  unfolding read_refusal Option·elim first_refusal
+  unfolding read_refusal Option-elim first_refusal
   number_is = rw (image_is, sound_is)
 
   pub refusal_is : outcome (table_view answer) ≡ reply left_number tt

@@ -10,7 +10,7 @@ use Rattle.archive.proofs.Laws.Resized.{SameShape, all_words_same, all_widths_sa
 use Rattle.archive.proofs.Laws.Saved.{accepted_number, saved_image, saved_reads}
 use Rattle.archive.proofs.Laws.Loaded.{front_put, accepted_none, refusal_is, loaded_represents}
 use Rattle.archive.proofs.Laws.Damage.{IsImage, read_cases, damage_refused}
-use Rattle.std.proofs.Math.Option.{Option·elim}
+use Rattle.std.proofs.Math.Option.{Option-elim}
 
 -- ---- loading after saving
 
@@ -23,7 +23,7 @@ read_after_write p s words capacity b pending answer b' pending' r saved m =
 pub text_after_write : (p : Plain) (s : Stores) (words : List ℕ) → Represents p s → (saved : Saved s words)
     → (output : List ℕ) (answer : LengthAnswer) (output' : List ℕ) → TextRead words output answer output'
     → Effect (first_refusal (check (ltb (length output) (length saved.text)) 2 ∷ [])) (length_view answer) (length saved.text) output output' (splice output 0 saved.text)
-unfolding text_refusal text_of Option·elim
+unfolding text_refusal text_of Option-elim
 text_after_write p s words r saved output answer output' m =
     let e : m.image ≡ some (saved_image r saved) = reads_unique words _ _ m.reads (saved_reads r saved) in
     record {
@@ -49,7 +49,7 @@ module _ (words : List ℕ) (capacity : ℕ) (b : Body) (pending : List ℕ) (h 
 
   -- the image
   accepted_image : IsImage words m.decoded.image
-  unfolding read_refusal Option·elim
+  unfolding read_refusal Option-elim
   accepted_image =
       elim (read_cases words m.decoded.image m.decoded.reads) [
         | inl e ↦ absurd (let z : 19 ≡ 0 = sym (ap (λ (o : Option Image). read_refusal o m.decoded.sound capacity b pending) e) ∙ none_refused in omega (arith, z))
@@ -100,7 +100,7 @@ module _ (words : List ℕ) (capacity : ℕ) (b : Body) (pending : List ℕ) (h 
       stores_short (opening_of after_load) (lengths b.rows b.keys b.sorts pending [] []) || ltb (length pending) image.header.pending
 
   checks_passed : first_refusal (check (not m.decoded.sound) 20 ∷ check (outside after_load) 1 ∷ check are_stores_short 2 ∷ []) ≡ 0
-  unfolding read_refusal Option·elim
+  unfolding read_refusal Option-elim
   checks_passed = sym (ap (λ (o : Option Image). read_refusal o m.decoded.sound capacity b pending) accepted_image.is_read) ∙ none_refused
 
   image_sound : SoundImage image
