@@ -1,6 +1,6 @@
 -- The image of a table: a self-contained sequence of 32-bit words, in a file with the lowest byte of each word first. It has the words
 -- of the stores that are in use. The key store is left out and rebuilt when the image is read. Assumes nothing.
-use Rattle.std.specs.Prelude.{ℕ, ◌+◌, ◌*◌, ◌/◌, ◌≡◌, Bool, true, not, cond, ◌&&◌, List, [], ◌∷◌, ◌++◌, length, take, leb, ltb, eqb}
+use Rattle.std.specs.Prelude.{ℕ, ◌+◌, ◌*◌, ◌/◌, ◌≡◌, Bool, true, not, ◌&&◌, List, [], ◌∷◌, ◌++◌, length, take, leb, ltb, eqb}
 use Rattle.std.proofs.Math.Option.{Option, none, some}
 use Rattle.lists.specs.Lists.{all}
 use Rattle.crc32.specs.Crc.{crc32, bytes_of}

@@ -4,7 +4,7 @@
 -- is 0 while the value is not 0; the text is too long, or a byte after it is not 0); 20, an image of a table that is not sound; 21, a
 -- text to be written of more than 4,096 bytes. Assumes nothing.
 use Rattle.std.specs.Prelude.{ℕ, ◌*◌, ◌<◌, ◌≡◌, Bool, true, false, cond, not, ◌||◌, List, [], ◌∷◌, length, ltb, eqb}
-use Rattle.std.proofs.Math.Option.{Option, none, some, Option-elim}
+use Rattle.std.proofs.Math.Option.{Option, some, Option-elim}
 use Rattle.lists.specs.Lists.{splice}
 use Rattle.refusals.specs.Refusals.{Check, check, first_refusal, Reply, refused, accepted, reply, outcome, Effect}
 use Rattle.key_index.specs.Slots.{KeysSound}

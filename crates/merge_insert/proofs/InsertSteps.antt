@@ -1,6 +1,6 @@
 -- Steps of an insert in the code's form: the row that the rule makes, and the answers of the parts put together. Assumes
 -- nothing.
-use Rattle.merge_insert.proofs.Prelude.{ℕ, ◌+◌, ◌-◌, ◌*◌, ◌≤◌, ◌<◌, ◌≡◌, refl, sym, ap, ap₂, ◌∙◌, Bool, true, false, not, false≢true, List, add-zero, arith, length, take, drop, get_or, length-take, length-drop, take-take, take_all, get_or-take, get_or-drop, le-leb, lt-leb, not-true, not-false, part_width, part_splice, row_in, changes_from, made_from, survivor, survivor_length, survivor_old, IndexShape, Found, None, At, slots, Fits, FoundIs, Header, Insertion, Unchanged, Appended, Stopped, index_shape_of, full_shape_fits, Ready, Inserting, placed, Growable, NewIs, ReplaceIs, length_made, skip_inserts, new_inserts, known_inserts}
+use Rattle.merge_insert.proofs.Prelude.{ℕ, ◌+◌, ◌-◌, ◌*◌, ◌≤◌, ◌<◌, ◌≡◌, refl, sym, ap, ap₂, ◌∙◌, Bool, true, false, not, false≢true, List, add-zero, arith, length, take, drop, get_or, length-take, length-drop, take-take, take_all, get_or-take, get_or-drop, le-leb, lt-leb, not-true, not-false, part_width, part_splice, changes_from, made_from, survivor, survivor_length, survivor_old, IndexShape, Found, None, At, slots, Fits, FoundIs, Header, Insertion, Unchanged, Appended, Stopped, index_shape_of, full_shape_fits, Ready, Inserting, placed, Growable, NewIs, ReplaceIs, length_made, skip_inserts, new_inserts, known_inserts}
 use Rattle.lists.specs.Lists.{splice, row_at, same}
 use Rattle.cells.specs.Cells.{is_dead}
 use Rattle.merge_insert.specs.inner.Ruling.{Changes, row_made, Makeable, MadeIs, UnchangedOld, KnownIs}

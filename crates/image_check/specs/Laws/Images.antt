@@ -3,7 +3,7 @@ use Rattle.image_check.specs.Laws.Prelude.{ℕ, suc, ◌+◌, ◌-◌, ◌*◌, 
 use Rattle.abi.specs.Encoding.{decode_largest, decode_columns, decode_header, encode_option, encode_header}
 use Rattle.table.specs.Numbers.{largest_view}
 use mathlib.Core.Option.{Option-elim}
-use Rattle.image_spec.specs.Image.{Image, packed, image_body, image_words, is_image, Reads, reads, reads_none}
+use Rattle.image_spec.specs.Image.{Image, packed, image_body, image_words, is_image, reads}
 use Rattle.image_check.specs.inner.Parsed.{header_in, layout_of, Placed, part, image_in, Marked, Filled, Whole, Passes, IsAt}
 use Rattle.image_check.specs.Laws.Bytes.{length_bytes, bytes_append, is_byte, bytes_small, packed_bytes}
 

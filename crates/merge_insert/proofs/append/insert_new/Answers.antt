@@ -1,6 +1,6 @@
 -- `merge_insert::append::insert_new` meets its contract. Assumes nothing.
 use Rattle.merge_insert.proofs.Prelude.{sym, ap, ◌∙◌, arith, IndexShape}
-use Rattle.merge_insert.proofs.AppendSteps.{stop_of, entered_of, enters, old_place, rebuilds, unchanged_by_stop, new_entered, new_rebuilt}
+use Rattle.merge_insert.proofs.AppendSteps.{stop_of, entered_of, enters, rebuilds, unchanged_by_stop, new_entered, new_rebuilt}
 use Rattle.merge_insert.proofs.append.insert_new.Goals as goal
 
 pub write_row-requires : goal.write_row-requires

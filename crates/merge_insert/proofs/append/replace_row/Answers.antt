@@ -1,5 +1,5 @@
 -- `merge_insert::append::replace_row` meets its contract. Assumes nothing.
-use Rattle.merge_insert.proofs.Prelude.{ℕ, ◌*◌, sym, ap, ◌∙◌, List, arith, length, length-set, splice, Placed, placed}
+use Rattle.merge_insert.proofs.Prelude.{ℕ, ◌*◌, sym, ap, ◌∙◌, List, arith, length, length-set, splice}
 use Rattle.merge_insert.proofs.AppendSteps.{stop_of, entered_of, enters, old_place, rebuilds, unchanged_by_stop, replaced_stepped, replaced_rebuilt}
 use Rattle.merge_insert.proofs.append.replace_row.Goals as goal
 
