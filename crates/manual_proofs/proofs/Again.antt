@@ -10,7 +10,7 @@
 use types.Logic.{Logic, sem}
 use denote.Slice.{mut_slice_at}
 use denote.Ref.{MutBor}
-use Rattle.manual_proofs.proofs.Prelude.{◌≡◌, sym, ap, subst, ℕ, List, [], ◌∷◌, length, Ura, full_share, Lifetime, Val, ent, sep, ex, Lft, GName, Share, Fml, fsep, flft, fdead, fobs, fauth, flent, fobor, sem, Goal, Item, Seq, Soaks, Step, step, ‵, ◌⊛◌, some, later, ◌$◌, ◌∵◌, !, qed, move, use1, use2, use3, drop, split, pick, fsplit, fjoin, frame, await, updating, show, done, cells, Arr, lft_new, lft_end, RattleType, mem, RefT, slice_val, MutSlice, heres, Room, finally, at-slice, coded_holeys, Held, lends_slice, slice_back, row, whole_out, whole_in, opens_slice, closes_slice, at_once}
+use Rattle.manual_proofs.proofs.Prelude.{◌≡◌, sym, ap, subst, ℕ, List, [], ◌∷◌, length, Ura, full_share, Lifetime, Val, ent, sep, ex, Lft, GName, Share, Fml, fsep, flft, fdead, fobs, fauth, flent, fobor, Goal, Item, Seq, Soaks, Step, step, ‵, ◌⊛◌, some, later, ◌$◌, ◌∵◌, !, qed, move, use1, use2, use3, drop, split, pick, fsplit, fjoin, frame, await, updating, show, done, cells, Arr, lft_new, lft_end, RattleType, mem, slice_val, MutSlice, heres, Room, finally, coded_holeys, Held, lends_slice, slice_back, row, whole_out, whole_in, opens_slice, closes_slice, at_once}
 use denote.Shadow.{pure_l, pure_i}
 
 module _ (R : RattleType) (κ : Lft) (q : Share) (γ : GName) (b o : ℕ) where

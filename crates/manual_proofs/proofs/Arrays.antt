@@ -8,7 +8,7 @@
 -- Assumes `Logic`.
 use types.Logic.{Logic}
 use denote.Ref.{MutBor, shr_vals, mut_vals}
-use Rattle.manual_proofs.proofs.Prelude.{ℕ, zero, suc, ◌≡◌, Option, just, List, [], ◌∷◌, Ura, T, Lifetime, Ty, place, deref, addr_of, Body, seq, assign, Val, WT, has_ty, vptr, id⊢, Lft, Fml, ftrue, fsep, flft, fres, Calls, Loops, spot_of, Lfts, Shares, toks, Item, ‵, raw, ◌⊛◌, Post, Goal, runs, Step, step, ◌$◌, move, use0, use1, split, join, fsplit, fjoin, drop, hop, stop, from, addr, assigns, look_in, RattleType, Array, RefT, ShrRef, MutRef, ptr-vals, shr_Tells, shr_Lawful, mut_Tells, mut_Lawful, nothing}
+use Rattle.manual_proofs.proofs.Prelude.{ℕ, zero, suc, ◌≡◌, Option, just, List, [], ◌∷◌, Ura, T, Lifetime, Ty, place, deref, addr_of, Body, seq, assign, Val, WT, has_ty, vptr, id⊢, Lft, Fml, ftrue, fsep, flft, fres, Calls, Loops, spot_of, Lfts, Shares, toks, Item, ‵, raw, ◌⊛◌, Post, Goal, runs, Step, step, ◌$◌, move, use0, use1, split, join, fsplit, fjoin, drop, hop, stop, from, addr, assigns, look_in, RattleType, Array, ShrRef, MutRef, shr_Tells, shr_Lawful, mut_Tells, mut_Lawful, nothing}
 use Rattle.manual_proofs.proofs.Locals.{Locals, held, set, Within, cell, fills}
 use Rattle.manual_proofs.proofs.Walking.{Known}
 
@@ -19,7 +19,7 @@ abbrev pub lent_array : (ℓ : Lifetime) (κ : Lft) (R : RattleType) (n : ℕ) �
 lent_array ℓ κ R n = record { spell = mut_vals; tell = mut_Tells ℓ κ (Array R n); lawful = λ 𝓛. mut_Lawful 𝓛 ℓ κ (Array R n) }
 
 abbrev pub FinalArray : (R : RattleType) (n : ℕ) → MutBor (List R.Denot) → List R.Denot → Fml
-FinalArray R n x xs = fres x.name ((Array R n).coded.code xs)
+FinalArray R n x xs = fres x.ghost_name ((Array R n).coded.code xs)
 
 module _ {M : Type 1} {𝓤 : Ura M} {𝓛 : Logic 𝓤} {K : Type 0} {E : List (Ty × ℕ)} {hs : List (Option Val)} {Γ : List (Item 𝓤)} {C : Calls 𝓤 𝓛.H} {Λ : Loops 𝓤 𝓛.H} {q : Post 𝓤 𝓛.H} {rest : Body} where
   -- local i, a `&mut [T; n]`, is lent on to local j
@@ -47,14 +47,14 @@ Owns (P ∷ Ps) = fsep P (Owns Ps)
 module _ {M : Type 1} {𝓤 : Ura M} {𝓛 : Logic 𝓤} {K : Type 0} {G : Goal 𝓤 𝓛.H} where
   open 𝓛 use {A}
 
-  pub tokens_out : K → (n : ℕ) (κs : Lfts n) (qs : Shares n) {Γ : List (Item 𝓤)} → Step K 𝓛 (Spread n κs qs Γ) G (raw (toks 𝓤 A n κs qs) ∷ Γ) G
+  pub tokens_out : K → (n : ℕ) (κs : Lfts n) (qs : Shares n) {Γ : List (Item 𝓤)} → Step K 𝓛 (Spread n κs qs Γ) G (raw (toks 𝓛 n κs qs) ∷ Γ) G
   tokens_out t zero κs qs = step (λ s. drop t $ s)
   tokens_out t (suc n) κs qs =
-      step (λ s. use1 𝓛 (‵ (flft κs.0 qs.0) ⊛ raw (toks 𝓤 A n κs.1 qs.1)) (id⊢ 𝓤 _) $ split t $ move t (1 ∷ []) $ tokens_out t n κs.1 qs.1 $ s)
+      step (λ s. use1 𝓛 (‵ (flft κs.0 qs.0) ⊛ raw (toks 𝓛 n κs.1 qs.1)) (id⊢ 𝓤 _) $ split t $ move t (1 ∷ []) $ tokens_out t n κs.1 qs.1 $ s)
 
-  pub tokens_in : K → (n : ℕ) (κs : Lfts n) (qs : Shares n) {Γ : List (Item 𝓤)} → Step K 𝓛 (raw (toks 𝓤 A n κs qs) ∷ Γ) G (Spread n κs qs Γ) G
-  tokens_in t zero κs qs = step (λ s. use0 𝓛 (raw (toks 𝓤 A 0 κs qs)) (id⊢ 𝓤 _) $ s)
-  tokens_in t (suc n) κs qs = step (λ s. tokens_in t n κs.1 qs.1 $ move t (1 ∷ []) $ join t $ use1 𝓛 (raw (toks 𝓤 A (suc n) κs qs)) (id⊢ 𝓤 _) $ s)
+  pub tokens_in : K → (n : ℕ) (κs : Lfts n) (qs : Shares n) {Γ : List (Item 𝓤)} → Step K 𝓛 (raw (toks 𝓛 n κs qs) ∷ Γ) G (Spread n κs qs Γ) G
+  tokens_in t zero κs qs = step (λ s. use0 𝓛 (raw (toks 𝓛 0 κs qs)) (id⊢ 𝓤 _) $ s)
+  tokens_in t (suc n) κs qs = step (λ s. tokens_in t n κs.1 qs.1 $ move t (1 ∷ []) $ join t $ use1 𝓛 (raw (toks 𝓛 (suc n) κs qs)) (id⊢ 𝓤 _) $ s)
 
   pub owns_out : K → (Ps : List Fml) {Γ : List (Item 𝓤)} → Step K 𝓛 (SpreadOwns Ps Γ) G (‵ (Owns Ps) ∷ Γ) G
   owns_out t [] = step (λ s. drop t $ s)

@@ -6,7 +6,7 @@
 --     operands, all_read      what operands that are locals or numbers give, and that they are read
 --     leaves           the function returns: what local 0 holds is its result
 -- Assumes `Logic`.
-use Rattle.manual_proofs.proofs.Prelude.{ℕ, zero, suc, ◌^◌, ◌≡◌, refl, sym, ap, subst, Option, none, just, List, [], ◌∷◌, Ura, full_share, T, ltb, Sym, Width, Ty, ty_struct, Tys, place, field, deref, Operand, copy, int, int_neg, int_big, float, opd_true, opd_false, opd_unit, ptr_const, rv_opd, addr_of, aggregate, Body, seq, assign, return, Local, local, Fn, Val, Vals, vint, vptr, vstruct, of_list, WT, has_ty, bits, get_v, SProp, ent, sep, wand, all, emp, id⊢, apply∗, all_e, guard_i, guard_e, froom, fdies, fat, field_of, field_at, Heap, Calls, Loops, WpFn, spot_of, Item, ‵, raw, ◌⊛◌, given, mean, Post, at_ret, Goal, prop, runs, allocs, params', passes, frees, Seq, Step, step, ◌$◌, ◌∵◌, !, qed, by, move, use0, use1, use2, split, join, drop, frame, each, assume, check, done, Reads, Writes, Opd, Opds, init, load, from, stop, hop, fld, lit, addr, and_then, no_more, of_opd, assigns, returns, enter, alloc1, alloc0, params1, pass1, pass0, free1, free0, Part, look_in, sub, agg, slice_ty, slice_val, Bool, true, false}
+use Rattle.manual_proofs.proofs.Prelude.{ℕ, zero, suc, ◌^◌, ◌≡◌, refl, sym, ap, subst, Option, none, just, List, [], ◌∷◌, Ura, full_share, T, ltb, Sym, Width, Ty, ty_struct, Tys, place, field, deref, Operand, copy, int, int_neg, int_big, float, opd_true, opd_false, opd_unit, ptr_const, size_of, align_of, num_of, fn_addr, vtable, rv_opd, addr_of, aggregate, Body, seq, assign, return, Local, local, Fn, Val, Vals, vint, vptr, vstruct, of_list, WT, has_ty, bits, get_v, SProp, ent, sep, wand, all, emp, id⊢, apply∗, all_e, guard_i, guard_e, froom, fdies, fat, field_of, field_at, Heap, Calls, Loops, WpFn, spot_of, Item, ‵, raw, ◌⊛◌, given, mean, Post, at_ret, Goal, prop, runs, allocs, params', passes, frees, Seq, Step, step, ◌$◌, ◌∵◌, !, qed, by, move, use0, use1, use2, split, join, drop, frame, each, assume, check, done, Reads, Writes, Opd, Opds, init, load, from, stop, hop, fld, lit, addr, and_then, no_more, of_opd, assigns, returns, enter, alloc1, alloc0, params1, pass1, pass0, free1, free0, Part, look_in, sub, agg, slice_ty, slice_val, Bool, true, false}
 use types.Logic.{Logic}
 
 -- what local i holds
@@ -118,6 +118,11 @@ operand E hs opd_true = none
 operand E hs opd_false = none
 operand E hs opd_unit = none
 operand E hs (ptr_const n) = none
+operand E hs (size_of τ) = none
+operand E hs (align_of τ) = none
+operand E hs (num_of w τ) = none
+operand E hs (fn_addr f s) = none
+operand E hs (vtable τ fs) = none
 
 abbrev both : Option Val → Option (List Val) → Option (List Val)
 both none os = none
@@ -156,6 +161,11 @@ module _ {M : Type 1} {𝓤 : Ura M} {𝓛 : Logic 𝓤} {K : Type 0} (t : K) (E
   gives opd_false = tt
   gives opd_unit = tt
   gives (ptr_const n) = tt
+  gives (size_of τ) = tt
+  gives (align_of τ) = tt
+  gives (num_of w τ) = tt
+  gives (fn_addr f s) = tt
+  gives (vtable τ fs) = tt
 
   both_give : (x : Operand) (xs : List Operand) (o : Option Val) (os : Option (List Val)) → Gives x o → Give xs os → Give (x ∷ xs) (both o os)
   both_give x xs none os a b = tt

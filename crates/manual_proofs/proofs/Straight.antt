@@ -6,7 +6,7 @@
 --     proved           a function without a `requires` meets its contract: the proof over its code starts from its tokens and what its
 --                      parameters own, at the machine values
 -- Assumes `Logic`.
-use Rattle.manual_proofs.proofs.Prelude.{Ura, SProp, Memory, Routine, Fun, Calls, Loops, WpFn, Lfts, FmC, ◌$◌, !, move, drop, fsplit, types_at, Meets, triple_of, Triple, ℕ, zero, suc, ◌≡◌, Option, just, List, [], ◌∷◌, T as T', Ty, place, Operand, Body, seq, call, Fn, Name, Val, WT, has_ty, ent, sep, emp, via, fst∗, mono_r, Fml, ftrue, fsep, Names, Closed, spot_of, sem, Shares, AllOutlive, fm_of, Go, Item, ‵, raw, Post, Goal, prop, runs, Seq, Step, step, use0, use1, join, fjoin, frame, updating, at_once, show, done, from, stop, land, look_in, RattleType, owns, flat, mirs, Is, Lawful, Typed, Are, Ises, valss, Lawfuls, all_Typed, shows, Signature, type_at, said, peeks, nothing, Model, Running, tables, tables_of, Args, Res, on_entry, entered, calls_at, Ended, Clauses, Lasts, at_exit, lasts, closing}
+use Rattle.manual_proofs.proofs.Prelude.{Ura, SProp, Memory, Routine, Fun, Calls, Loops, WpFn, Lfts, FmC, ◌$◌, !, move, drop, fsplit, types_at, Meets, triple_of, Triple, ℕ, zero, suc, ◌≡◌, Option, just, List, [], ◌∷◌, T as T', Ty, place, Operand, Body, seq, call, Fn, Name, Val, WT, has_ty, ent, sep, emp, via, fst∗, mono_r, Fml, ftrue, fsep, Names, Closed, spot_of, Shares, AllOutlive, fm_of, Go, Item, ‵, raw, Post, Goal, prop, runs, Seq, Step, step, use0, use1, join, fjoin, frame, updating, at_once, show, done, from, stop, land, look_in, RattleType, owns, flat, mirs, Is, Lawful, Typed, Are, Ises, valss, Lawfuls, all_Typed, shows, Signature, type_at, said, peeks, nothing, Model, Running, tables, tables_of, Args, Res, on_entry, entered, calls_at, Ended, Clauses, Lasts, at_exit, lasts, closing}
 use types.Logic.{Logic, sem}
 use denote.Triple.Entry.{Vals, alive}
 use denote.Triple.Bound.{passed}

@@ -18,7 +18,7 @@
 use types.Logic.{Logic}
 use denote.Slice.{shr_slice_vals, mut_slice_vals}
 use denote.Ref.{Bor}
-use Rattle.manual_proofs.proofs.Prelude.{Name, ◌≡◌, refl, ap, subst, ◌∙◌, ℕ, Bool, List, [], ◌∷◌, Ura, full_share, Body, Place, Ty, Operand, call, seq, Val, vbool, SProp, ent, id⊢, Lft, Share, ftrue, flft, fat, froom, fdies, Calls, Env, Loops, WpFn, Fun, tables, tables_of, Goal, Item, Post, Seq, Step, lands, regoal, runs, settles, step, ‵, raw, ◌⊛◌, some, later, ◌$◌, move, use1, split, pick, await, Opds, look, stop, from, load, and_then, FmC, bool, yes, Is, shows, RattleType, RefT, plain, ShrSlice, facts, owned, only, Clauses, on_entry, zero, suc, Fn, Lifetime, Local, local, place, copy, sep, Closed, spot_of, Soaks, mean, nth, recast, flat, Slot, AllWithin, meet_at, mut_slice_of, name_of, shr_slice_of, type_at, types_at, slice-vals, shr_slice_copy, shr_slice_Tells, mut_slice_Tells, Model, Names, Lfts, Shares, AllOutlive, toks, Running, Are, Ises, Lawful, Spells, Tells, Tellss, Typed, valss, heard, calls_at, Ended, Lasts, at_exit, lasts, closing, Args, Res, triple_of, Contract, Triple, entered, Width, UInt, uint_vals, uint_Tells, uint_Lawful, MutSlice, shr_slice_Lawful, mut_slice_Lawful}
+use Rattle.manual_proofs.proofs.Prelude.{Name, ◌≡◌, refl, ap, subst, ◌∙◌, ℕ, Bool, List, [], ◌∷◌, Ura, full_share, Body, Place, Ty, Operand, call, seq, Val, vbool, SProp, ent, id⊢, Lft, Share, ftrue, flft, fat, froom, fdies, Calls, Env, Loops, WpFn, Fun, tables, tables_of, Goal, Item, Post, Seq, Step, lands, regoal, runs, settles, step, ‵, raw, ◌⊛◌, some, later, ◌$◌, move, use1, split, pick, await, Opds, look, stop, from, load, and_then, FmC, bool, yes, Is, shows, RattleType, RowLaws, plain, ShrSlice, facts, owned, only, Clauses, on_entry, zero, suc, Fn, Lifetime, Local, local, place, copy, sep, Closed, spot_of, Soaks, mean, nth, recast, flat, Slot, AllWithin, meet_at, mut_slice_of, name_of, shr_slice_of, type_at, types_at, shr_slice_copy, shr_slice_Tells, mut_slice_Tells, Model, Names, Lfts, Shares, AllOutlive, toks, Running, Are, Ises, Lawful, Spells, Tells, Tellss, Typed, valss, heard, calls_at, Ended, Lasts, at_exit, lasts, closing, Args, Res, triple_of, Contract, Triple, entered, Width, UInt, uint_vals, uint_Tells, uint_Lawful, MutSlice, shr_slice_Lawful, mut_slice_Lawful}
 use contract.Monad.{fact}
 use sound.WpLaws.{WpFn-mono}
 use denote.Exit.{Kept, Last, left}
@@ -61,7 +61,7 @@ module _ {M : Type 1} {𝓤 : Ura M} (𝓛 : Logic 𝓤) where
   Tokens zero κs qs = ‵ ftrue
   Tokens (suc n) κs qs = ‵ (flft κs.0 qs.0) ⊛ Tokens n κs.1 qs.1
 
-  tokens_are : (n : ℕ) (κs : Lfts n) (qs : Shares n) → toks 𝓤 A n κs qs ≡ mean 𝓛 (Tokens n κs qs)
+  tokens_are : (n : ℕ) (κs : Lfts n) (qs : Shares n) → toks 𝓛 n κs qs ≡ mean 𝓛 (Tokens n κs qs)
   tokens_are zero κs qs = refl
   tokens_are (suc n) κs qs = ap (sep 𝓤 (A.lft κs.0 qs.0)) (tokens_are n κs.1 qs.1)
 
@@ -87,18 +87,18 @@ module _ {M : Type 1} {𝓤 : Ura M} {𝓛 : Logic 𝓤} {K : Type 0} {Γ : List
       → Opds K 𝓛 Γ E (copy (place i []) ∷ xs) (v ∷ vs)
   arg t n e rest = and_then t (load t (from t (stop t)) (look t n e)) rest
 
-  pub twice : {G : Goal 𝓤 H} → K → (ℓ : Lifetime) (κ : Lft) (R : RattleType) (x : Bor (List R.Denot)) → Step K 𝓛 (‵ ((ShrSlice ℓ κ R).own_val x (shr_slice_vals x)) ∷ ‵ ((ShrSlice ℓ κ R).own_val x (shr_slice_vals x)) ∷ Γ) G (‵ ((ShrSlice ℓ κ R).own_val x (shr_slice_vals x)) ∷ Γ) G
-  twice t ℓ κ R x = step (λ s. use1 𝓛 (‵ ((ShrSlice ℓ κ R).own_val x (shr_slice_vals x)) ⊛ ‵ ((ShrSlice ℓ κ R).own_val x (shr_slice_vals x))) ((shr_slice_copy 𝓛 ℓ κ R).twice x (shr_slice_vals x)) $ split t $ s)
+  pub twice : {G : Goal 𝓤 H} → K → (ℓ : Lifetime) (κ : Lft) (R : RattleType) → RowLaws R → (x : Bor (List R.Denot)) → Step K 𝓛 (‵ ((ShrSlice ℓ κ R).own_val x (shr_slice_vals x)) ∷ ‵ ((ShrSlice ℓ κ R).own_val x (shr_slice_vals x)) ∷ Γ) G (‵ ((ShrSlice ℓ κ R).own_val x (shr_slice_vals x)) ∷ Γ) G
+  twice t ℓ κ R L x = step (λ s. use1 𝓛 (‵ ((ShrSlice ℓ κ R).own_val x (shr_slice_vals x)) ⊛ ‵ ((ShrSlice ℓ κ R).own_val x (shr_slice_vals x))) ((shr_slice_copy 𝓛 ℓ κ R L).twice x (shr_slice_vals x)) $ split t $ s)
 
   pub bool_lands : {C : Calls 𝓤 H} {Λ : Loops 𝓤 H} {E : Env 𝓤 H} {d : Place} {rest : Body} {q : Post 𝓤 H} → K → (r : Bool) (w : Val) {v : Bool} → r ≡ v → Step K 𝓛 Γ (lands C Λ E d (vbool v) rest q) (‵ (bool.own_val r (w ∷ [])) ∷ Γ) (lands C Λ E d w rest q)
   bool_lands {C = C} {Λ = Λ} {E = E} {d = d} {rest = rest} {q = q} t r w e = step (λ s. facts t bool (Is bool) (shows 𝓛 bool) r (w ∷ []) (λ is. regoal t (λ (u : Val). lands C Λ E d u rest q) (ap only is ∙ ap vbool e) refl $ s))
 
   module _ (T : Ended) (c : Clauses 𝓤 T) (y : (Callee 𝓛 T c).Ghost) where
     pub returned : {G : Goal 𝓤 H} → K → Soaks G → (w : Val)
-        → ((r : Res T.signature y.0.0) (ws : Lasts T y.0.0 y.0.3) → Seq K 𝓛 (raw (toks 𝓤 A T.signature.lifetimes y.0.0 y.0.1) ∷ ‵ ((type_at T.signature.result y.0.0).own_val r (w ∷ [])) ∷ ‵ (lasts T y.0.0 y.0.3 ws) ∷ raw (Ensures 𝓛 T c y r ws) ∷ Γ) G)
+        → ((r : Res T.signature y.0.0) (ws : Lasts T y.0.0 y.0.3) → Seq K 𝓛 (raw (toks 𝓛 T.signature.lifetimes y.0.0 y.0.1) ∷ ‵ ((type_at T.signature.result y.0.0).own_val r (w ∷ [])) ∷ ‵ (lasts T y.0.0 y.0.3 ws) ∷ raw (Ensures 𝓛 T c y r ws) ∷ Γ) G)
         → Seq K 𝓛 (raw ((Callee 𝓛 T c).post y w) ∷ Γ) G
     returned t z w k =
-        use1 𝓛 (later (some (λ (r : Res T.signature y.0.0). (raw (toks 𝓤 A T.signature.lifetimes y.0.0 y.0.1) ⊛ ‵ ((type_at T.signature.result y.0.0).own_val r (w ∷ [])))
+        use1 𝓛 (later (some (λ (r : Res T.signature y.0.0). (raw (toks 𝓛 T.signature.lifetimes y.0.0 y.0.1) ⊛ ‵ ((type_at T.signature.result y.0.0).own_val r (w ∷ [])))
         ⊛ some (λ (ws : Lasts T y.0.0 y.0.3). ‵ (lasts T y.0.0 y.0.3 ws) ⊛ raw (Ensures 𝓛 T c y r ws))))) (id⊢ 𝓤 _) $ await t z $ pick t (λ r. split t $ move t (1 ∷ []) $ pick t (λ ws. split t $ move t (2 ∷ []) $ split t $ k r ws))
 
   module _ (T : Ended) (c : Clauses 𝓤 T) (y : (Callee 𝓛 T c).Ghost) (φ : Res T.signature y.0.0 → Lasts T y.0.0 y.0.3 → Type 0)

@@ -1,3 +1,2 @@
-// Steps of manual proofs over MIR, in proofs/, that other crates share. No functions.
+// Steps of manual proofs over MIR, in proofs/, for functions that are proved by hand. No functions.
 #![tactic(auto)]
-

@@ -13,8 +13,8 @@ use Rattle.query_scan.specs.inner.Scanning.{first_place, ScanAnswered}
 
 -- for any stores and any subset, if the query is not refused
 pub record LoopsCount (h : Header) (rows : List ℕ) (subset : Subset) (output : List ℕ) (s : Scan) (output' : List ℕ) (accepted : s.refused ≡ 0) : Type 0 where
-  pub refine_one_lem : (c : Constraint) → ScanAnswered Refine h rows subset (c ∷ []) output s output' → Counted h rows 0 (members subset) s
-  pub refine_list_lem : (conditions : List Constraint) → ScanAnswered Refine h rows subset conditions output s output' → Counted h rows 0 (members subset) s
+  pub refine_one : (c : Constraint) → ScanAnswered Refine h rows subset (c ∷ []) output s output' → Counted h rows 0 (members subset) s
+  pub refine_list : (conditions : List Constraint) → ScanAnswered Refine h rows subset conditions output s output' → Counted h rows 0 (members subset) s
   pub any_match : (conditions : List Constraint) → ScanAnswered Match h rows subset conditions output s output'
       → Counted h rows 0 (up_to_first (matches h rows conditions) (members subset)) s
   pub page : (start n : ℕ) (conditions : List Constraint) → ScanAnswered (Page start n) h rows subset conditions output s output'
@@ -25,8 +25,8 @@ pub loops_count : (h : Header) (rows : List ℕ) (subset : Subset) (output : Lis
 unfolding ids_visited first_place visited
 loops_count h rows subset output s output' accepted =
     record {
-      refine_one_lem = λ c a. a.counted accepted;
-      refine_list_lem = λ conditions a. a.counted accepted;
+      refine_one = λ c a. a.counted accepted;
+      refine_list = λ conditions a. a.counted accepted;
       any_match = λ conditions a. a.counted accepted;
       page = λ start n conditions a. a.counted accepted;
     }
