@@ -1,6 +1,7 @@
 -- Laws of bitmaps: all words of 64 bits are one; the empty bitmap; setting one bit; passes that set one bit after another. Assumes
 -- nothing.
-use Rattle.bitmap.specs.Laws.Prelude.{ℕ, zero, suc, ◌+◌, ◌*◌, ◌/◌, ◌%◌, ◌^◌, ◌≤◌, ◌<◌, ◌≡◌, refl, sym, ap, ◌∙◌, inl, inr, Bool, true, false, cond, ◌||◌, false≢true, List, add-zero, add_assoc, mod-eq_of_lt, dec_lt, one-add, arith, eqb, length, get_or, replicate, length-replicate, get_or-replicate, mod-pow-add, eq-eqb, ne_eqb, eqb-true, split, or_right, or_second}
+use Rattle.std.specs.Prelude.{◌+◌, ◌*◌, ◌/◌, ◌%◌, ◌^◌, ◌≤◌, ◌<◌, ◌≡◌, ◌||◌}
+use Rattle.bitmap.specs.Laws.Prelude.{ℕ, zero, suc, refl, sym, ap, ◌∙◌, inl, inr, Bool, true, false, cond, false≢true, List, add-zero, add_assoc, mod-eq_of_lt, dec_lt, one-add, arith, eqb, length, get_or, replicate, length-replicate, get_or-replicate, mod-pow-add, eq-eqb, ne_eqb, eqb-true, split, or_right, or_second}
 use Rattle.bitmap.specs.Laws.Lowest.{bitmap_word_same}
 use Rattle.row_buffer.specs.Ranks.{bitmap_word, count_to}
 use Rattle.bitmap.specs.inner.Bitmaps.{Bitmap, bit_of, Summarised, MarkedOne, Marked}

@@ -1,5 +1,6 @@
 -- Laws of a bitmap word read from its lowest set bit up: its position, and the word without it. Assumes nothing.
-use Rattle.bitmap.specs.Laws.Prelude.{ℕ, zero, suc, ◌+◌, ◌-◌, ◌*◌, ◌/◌, ◌%◌, ◌^◌, ◌≤◌, ◌<◌, min, ◌≡◌, refl, sym, ◌∙◌, inl, inr, Bool, true, false, cond, ◌&&◌, false≢true, pow-suc, dec_lt, arith, bit_and, and_step, and_self, leb, pow_pos, le-leb, lt-leb, split}
+use Rattle.std.specs.Prelude.{◌+◌, ◌-◌, ◌*◌, ◌/◌, ◌%◌, ◌^◌, ◌≤◌, ◌<◌, ◌≡◌, ◌&&◌}
+use Rattle.bitmap.specs.Laws.Prelude.{ℕ, zero, suc, min, refl, sym, ◌∙◌, inl, inr, Bool, true, false, cond, false≢true, pow-suc, dec_lt, arith, bit_and, and_step, and_self, leb, pow_pos, le-leb, lt-leb, split}
 use Rattle.std.specs.Int.Count.{count_trailing_zeros}
 use Rattle.row_buffer.specs.Ranks.{bitmap_word}
 

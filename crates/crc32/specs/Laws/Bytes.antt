@@ -1,5 +1,6 @@
 -- The bytes of words. Assumes nothing.
-use Rattle.crc32.specs.Laws.Prelude.{ℕ, zero, suc, ◌+◌, ◌*◌, ◌/◌, ◌%◌, ◌^◌, ◌<◌, ◌≡◌, refl, sym, ap, ap₂, ◌∙◌, List, [], ◌∷◌, ◌++◌, append_assoc, arith, length, get_or, take, drop, length-append, take_at, drop_at}
+use Rattle.std.specs.Prelude.{◌+◌, ◌*◌, ◌/◌, ◌%◌, ◌^◌, ◌<◌, ◌≡◌, ◌∷◌, ◌++◌}
+use Rattle.crc32.specs.Laws.Prelude.{ℕ, zero, suc, refl, sym, ap, ap₂, ◌∙◌, List, [], append_assoc, arith, length, get_or, take, drop, length-append, take_at, drop_at}
 use Rattle.lists.specs.Lists.{flatten}
 use Rattle.crc32.specs.Crc.{word_bytes, bytes_of}
 use Rattle.crc32.specs.Bytes.{Below, number_of}

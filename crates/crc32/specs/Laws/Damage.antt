@@ -1,5 +1,6 @@
 -- What a checksum shows of damaged bytes. Assumes nothing.
-use Rattle.crc32.specs.Laws.Prelude.{ℕ, suc, ◌*◌, ◌^◌, ◌<◌, ◌≡◌, refl, sym, ap, ◌∙◌, List, [], ◌∷◌, ◌++◌, foldl, foldl-append, arith, bit_xor, xor_lt, length}
+use Rattle.std.specs.Prelude.{◌*◌, ◌^◌, ◌<◌, ◌≡◌, ◌∷◌, ◌++◌}
+use Rattle.crc32.specs.Laws.Prelude.{ℕ, suc, refl, sym, ap, ◌∙◌, List, [], foldl, foldl-append, arith, bit_xor, xor_lt, length}
 use Rattle.crc32.specs.Crc.{bit_step, bit_steps, byte_step, crc32, word_bytes}
 use Rattle.crc32.specs.Bytes.{Below, number_of}
 use Rattle.crc32.specs.Laws.Xor.{xor_cancel, xor_cancel_right, xor_twice}

@@ -1,5 +1,6 @@
 -- The register over bytes: bytes in one number, added at once. Assumes nothing.
-use Rattle.crc32.specs.Laws.Prelude.{ℕ, suc, ◌+◌, ◌*◌, ◌^◌, ◌<◌, ◌≡◌, refl, sym, ap, ap₂, ◌∙◌, List, [], ◌∷◌, foldl, suc-mul, add_comm, arith, bit_xor, xor_shifted, xor_zero_r, xor_comm, xor_lt, length}
+use Rattle.std.specs.Prelude.{◌+◌, ◌*◌, ◌^◌, ◌<◌, ◌≡◌, ◌∷◌}
+use Rattle.crc32.specs.Laws.Prelude.{ℕ, suc, refl, sym, ap, ap₂, ◌∙◌, List, [], foldl, suc-mul, add_comm, arith, bit_xor, xor_shifted, xor_zero_r, xor_comm, xor_lt, length}
 use Rattle.crc32.specs.Crc.{bit_step, bit_steps, byte_step, crc32, word_bytes}
 use Rattle.crc32.specs.Bytes.{Below, number_of}
 use Rattle.crc32.specs.Laws.Xor.{xor_assoc}

@@ -1,5 +1,6 @@
 -- The steps of the register: linear over `bit_xor`, also above 2 ^ 32, and injective below it. Assumes nothing.
-use Rattle.crc32.specs.Laws.Prelude.{ℕ, zero, suc, ◌+◌, ◌*◌, ◌/◌, ◌%◌, ◌^◌, ◌<◌, ◌≡◌, refl, sym, ap, ap₂, ◌∙◌, ◌⊎◌, inl, inr, suc-add, zero-add, pow-suc, mul_assoc, arith, eq-eqb, ne_eqb, bit_xor, xor_shr, xor_lt}
+use Rattle.std.specs.Prelude.{◌+◌, ◌*◌, ◌/◌, ◌%◌, ◌^◌, ◌<◌, ◌≡◌, ◌⊎◌}
+use Rattle.crc32.specs.Laws.Prelude.{ℕ, zero, suc, refl, sym, ap, ap₂, ◌∙◌, inl, inr, suc-add, zero-add, pow-suc, mul_assoc, arith, eq-eqb, ne_eqb, bit_xor, xor_shr, xor_lt}
 use Rattle.crc32.specs.Crc.{bit_step, bit_steps}
 use Rattle.crc32.specs.Laws.Xor.{parity, xor_parity, xor_half, xor_assoc, xor_exchange, xor_both, xor_cancel_right}
 

@@ -1,5 +1,6 @@
 -- Laws of `bit_xor` that the kit does not have. Assumes nothing.
-use Rattle.crc32.specs.Laws.Prelude.{ℕ, zero, suc, ◌+◌, ◌*◌, ◌/◌, ◌%◌, ◌<◌, ◌≡◌, refl, sym, ap, ◌∙◌, ◌⊎◌, inl, inr, arith, bin_ind, bit_xor, differ, xor_step, xor_shr, xor_comm, xor_self}
+use Rattle.std.specs.Prelude.{◌+◌, ◌*◌, ◌/◌, ◌%◌, ◌<◌, ◌≡◌, ◌⊎◌}
+use Rattle.crc32.specs.Laws.Prelude.{ℕ, zero, suc, refl, sym, ap, ◌∙◌, inl, inr, arith, bin_ind, bit_xor, differ, xor_step, xor_shr, xor_comm, xor_self}
 
 -- A number is even or odd.
 pub parity : (n : ℕ) → (n % 2 ≡ 0) ⊎ (n % 2 ≡ 1)

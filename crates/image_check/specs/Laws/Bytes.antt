@@ -1,5 +1,6 @@
 -- The bytes of words and words of bytes: each is read back from the other. Assumes nothing.
-use Rattle.image_check.specs.Laws.Prelude.{ℕ, zero, suc, ◌+◌, ◌*◌, ◌/◌, ◌%◌, ◌≤◌, ◌<◌, ◌≡◌, refl, sym, ap, ◌∙◌, Bool, true, List, [], ◌∷◌, ◌++◌, append-nil, arith, ltb, length, take, drop, get_or, take-suc, drop-cons, get_or_at, length-take-le, ltb-true, lt-ltb, ltb-false, all_head, all_tail, Decides, Words, Filled}
+use Rattle.std.specs.Prelude.{◌+◌, ◌*◌, ◌/◌, ◌%◌, ◌≤◌, ◌<◌, ◌≡◌, ◌∷◌, ◌++◌}
+use Rattle.image_check.specs.Laws.Prelude.{ℕ, zero, suc, refl, sym, ap, ◌∙◌, Bool, true, List, [], append-nil, arith, ltb, length, take, drop, get_or, take-suc, drop-cons, get_or_at, length-take-le, ltb-true, lt-ltb, ltb-false, all_head, all_tail, Decides, Words, Filled}
 use Rattle.lists.specs.Lists.{all, flatten}
 use Rattle.crc32.specs.Crc.{bytes_of, word_bytes}
 use Rattle.image_spec.specs.Image.{packed}

@@ -1,5 +1,6 @@
 -- Words are an image exactly if they pass all tests, and then it is the one whose parts are at their places. Assumes nothing.
-use Rattle.image_check.specs.Laws.Prelude.{ℕ, suc, ◌+◌, ◌-◌, ◌*◌, ◌/◌, ◌≤◌, ◌<◌, ◌≡◌, refl, sym, ap, ap₂, ◌∙◌, inl, inr, true, false, not, ◌&&◌, true≢false, List, [], ◌∷◌, ◌++◌, append_assoc, Option, none, some, ℕ_discrete, arith, leb, eqb, length, take, drop, get_or, length-append, length-take, length-drop, take-append-drop, drop_of_length-le, take_at, drop_at, drop-drop, drop-cons, take-append-le, get_or_at, get_or-drop, get_or-take, length-take-le, leb-true, leb-false, eqb-true, le-leb, eq-eqb, ne_eqb, not-true, all, split, and_left, and_right, all_of, all_get_d, crc32, bytes_of, Header, outside, header_decoded, flag_refused, Layout, length_packed}
+use Rattle.std.specs.Prelude.{◌+◌, ◌-◌, ◌*◌, ◌/◌, ◌≤◌, ◌<◌, ◌≡◌, ◌&&◌, ◌∷◌, ◌++◌}
+use Rattle.image_check.specs.Laws.Prelude.{ℕ, suc, refl, sym, ap, ap₂, ◌∙◌, inl, inr, true, false, not, true≢false, List, [], append_assoc, Option, none, some, ℕ_discrete, arith, leb, eqb, length, take, drop, get_or, length-append, length-take, length-drop, take-append-drop, drop_of_length-le, take_at, drop_at, drop-drop, drop-cons, take-append-le, get_or_at, get_or-drop, get_or-take, length-take-le, leb-true, leb-false, eqb-true, le-leb, eq-eqb, ne_eqb, not-true, all, split, and_left, and_right, all_of, all_get_d, crc32, bytes_of, Header, outside, header_decoded, flag_refused, Layout, length_packed}
 use Rattle.abi.specs.Encoding.{decode_largest, decode_columns, decode_header, encode_option, encode_header}
 use Rattle.table.specs.Numbers.{largest_view}
 use mathlib.Core.Option.{Option-elim}

@@ -1,5 +1,6 @@
 -- The parts of an image, written one after another: what the output has then, and how many words that is. Assumes nothing.
-use Rattle.image_write.specs.Laws.Prelude.{ℕ, ◌+◌, ◌*◌, ◌/◌, ◌≤◌, ◌<◌, ◌≡◌, refl, sym, ap, ap₂, ◌∙◌, List, [], ◌∷◌, ◌++◌, append_assoc, arith, length, take, get_or, set, length-append, length-take-le, take-suc, add-one, splice, length_splice, part_splice, splice_then, set_splice, set_set_splice, crc32, bytes_of, Header, length_packed}
+use Rattle.std.specs.Prelude.{◌+◌, ◌*◌, ◌/◌, ◌≤◌, ◌<◌, ◌≡◌, ◌∷◌, ◌++◌}
+use Rattle.image_write.specs.Laws.Prelude.{ℕ, refl, sym, ap, ap₂, ◌∙◌, List, [], append_assoc, arith, length, take, get_or, set, length-append, length-take-le, take-suc, add-one, splice, length_splice, part_splice, splice_then, set_splice, set_set_splice, crc32, bytes_of, Header, length_packed}
 use Rattle.abi.specs.Encoding.{encode_option, encode_header}
 use Rattle.image_spec.specs.Image.{packed, image_body, image_words, image_of, image_length}
 use Rattle.image_write.specs.inner.Parts.{image_head, store_words, words_in_use, Holds}

@@ -1,5 +1,6 @@
 -- The checks of *Image size* and *Write image* one by one, and what is known where none refuses. Assumes nothing.
-use Rattle.image_write.specs.Laws.Prelude.{ℕ, ◌+◌, ◌*◌, ◌/◌, ◌≤◌, ◌<◌, ◌≡◌, true, false, List, mul-le-mul, mul-le-mul_right, le_trans, arith, ltb, length, lt-ltb, le-ltb, ltb-false, or_no_left, or_no_right, first_refusal_no, first_refusal_rest, Header, Inside, outside_inside, words_in_use, Holds}
+use Rattle.std.specs.Prelude.{◌+◌, ◌*◌, ◌/◌, ◌≤◌, ◌<◌, ◌≡◌}
+use Rattle.image_write.specs.Laws.Prelude.{ℕ, true, false, List, mul-le-mul, mul-le-mul_right, le_trans, arith, ltb, length, lt-ltb, le-ltb, ltb-false, or_no_left, or_no_right, first_refusal_no, first_refusal_rest, Header, Inside, outside_inside, words_in_use, Holds}
 use Rattle.refusals.specs.Refusals.{first_refusal}
 use Rattle.table.specs.Refusing.{outside, pending_outside, rows_short, pairs_short}
 use Rattle.image_spec.specs.Image.{image_length}

@@ -1,5 +1,6 @@
 -- The contracts of *Image size* and *Write image* determine the outcome. Assumes nothing.
-use Rattle.image_write.specs.Laws.Prelude.{ℕ, ◌≡◌, sym, ◌∙◌, ⊎_elim, List, length, some_number, Same, Header, LengthAnswer, Refused, Length}
+use Rattle.std.specs.Prelude.{◌≡◌}
+use Rattle.image_write.specs.Laws.Prelude.{ℕ, sym, ◌∙◌, ⊎_elim, List, length, some_number, Same, Header, LengthAnswer, Refused, Length}
 use Rattle.image_spec.specs.Outcomes.{length_view, ImageSized, write_refusal, ImageWritten}
 
 -- two answers with the same reply are the same

@@ -1,5 +1,6 @@
 -- Bytes packed into words: how many words there are, and each of them. Assumes nothing.
-use Rattle.image_write.specs.Laws.Prelude.{ℕ, zero, suc, ◌+◌, ◌*◌, ◌<◌, ◌≡◌, refl, sym, ◌∙◌, List, [], ◌∷◌, arith, length, get_or, List·getD-eq-default}
+use Rattle.std.specs.Prelude.{◌+◌, ◌*◌, ◌<◌, ◌≡◌, ◌∷◌}
+use Rattle.image_write.specs.Laws.Prelude.{ℕ, zero, suc, refl, sym, ◌∙◌, List, [], arith, length, get_or, List·getD-eq-default}
 use Rattle.image_spec.specs.Image.{packed}
 
 -- the four bytes from a place on, 0 behind the end, as one word

@@ -1,5 +1,6 @@
 -- What *Write image* writes is an image, and reads as what was handed in. Assumes nothing.
-use Rattle.image_write.specs.Laws.Prelude.{ℕ, ◌≡◌, sym, ap, ap₂, ◌∙◌, true, List, some, arith, ltb, length, take, le-leb, eq-eqb, splice, all, part_splice, Header, accepted_number, accepted_same, Length}
+use Rattle.std.specs.Prelude.{◌≡◌}
+use Rattle.image_write.specs.Laws.Prelude.{ℕ, sym, ap, ap₂, ◌∙◌, true, List, some, arith, ltb, length, take, le-leb, eq-eqb, splice, all, part_splice, Header, accepted_number, accepted_same, Length}
 use Rattle.image_spec.specs.Image.{is_image, image_words, Reads, reads, image_of, image_length}
 use Rattle.image_spec.specs.Outcomes.{length_view, write_refusal, ImageWritten}
 use Rattle.image_write.specs.Laws.Bodies.{length_cells, length_pairs, length_records, length_image}

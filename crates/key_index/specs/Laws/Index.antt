@@ -1,6 +1,7 @@
 -- Laws of a sound key store: a slot is free, the functions preserve soundness, and a lookup finds what a scan of the rows finds.
 -- Assumes nothing.
-use Rattle.key_index.specs.Laws.Prelude.{ℕ, zero, suc, ◌+◌, ◌*◌, ◌≤◌, ◌<◌, ◌≡◌, refl, sym, ap, ◌∙◌, ◌⊎◌, inl, inr, Bool, true, List, zero-add, mul-le-mul_right, dec_lt, ℕ_discrete, arith, length, drop, get_or, set, length-replicate, get_or-replicate, drop-set-lt, get_or-set_same, get_or-set_other, splice, same, split, get_d_splice_in, IndexShape, LiveAt, key_at, slots, word, home, slot_from, ReachableAt, KeysSound, RowsIn, Fits, FirstFree, FoundAt, FirstHit, PutIs, zeros, EmptyIs}
+use Rattle.std.specs.Prelude.{◌+◌, ◌*◌, ◌≤◌, ◌<◌, ◌≡◌, ◌⊎◌}
+use Rattle.key_index.specs.Laws.Prelude.{ℕ, zero, suc, refl, sym, ap, ◌∙◌, inl, inr, Bool, true, List, zero-add, mul-le-mul_right, dec_lt, ℕ_discrete, arith, length, drop, get_or, set, length-replicate, get_or-replicate, drop-set-lt, get_or-set_same, get_or-set_other, splice, same, split, get_d_splice_in, IndexShape, LiveAt, key_at, slots, word, home, slot_from, ReachableAt, KeysSound, RowsIn, Fits, FirstFree, FoundAt, FirstHit, PutIs, zeros, EmptyIs}
 use Rattle.cells.specs.Cells.{compact_hash, key_hash}
 use Rattle.key_index.specs.inner.Ring.{tagged, row_named}
 use Rattle.key_index.specs.Laws.Ring.{home_spread, word_tagged, word_some, word_row, word_same, slot_below}

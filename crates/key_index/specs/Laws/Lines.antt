@@ -1,5 +1,6 @@
 -- A sound key store as a line of slots that starts at a free slot: the ring unrolled, and the converse. Assumes nothing.
-use Rattle.key_index.specs.Laws.Prelude.{ℕ, ◌+◌, ◌-◌, ◌^◌, ◌≤◌, ◌<◌, ◌≡◌, refl, sym, ap, ◌∙◌, List, dec_lt, ℕ_discrete, arith, get_or, IndexShape, LiveAt, key_at, slots, word, home, slot_from, ReachableAt, KeysSound, away}
+use Rattle.std.specs.Prelude.{◌+◌, ◌-◌, ◌^◌, ◌≤◌, ◌<◌, ◌≡◌}
+use Rattle.key_index.specs.Laws.Prelude.{ℕ, refl, sym, ap, ◌∙◌, List, dec_lt, ℕ_discrete, arith, get_or, IndexShape, LiveAt, key_at, slots, word, home, slot_from, ReachableAt, KeysSound, away}
 use Rattle.key_index.specs.Laws.Ring.{word_some, word_row, home_below, slot_below, slot_then, slot_zero, slot_round, slot_one, away_below, away_slot}
 use Rattle.key_index.specs.inner.Index.{Fits, home_of}
 use Rattle.key_index.specs.Laws.Unrolled.{line, Line}

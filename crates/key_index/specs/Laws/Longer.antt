@@ -1,6 +1,7 @@
 -- A row store that is longer behind the rows has the same rows: the slots lead to them too, and the laws for a row store with room for
 -- more rows hold. Assumes nothing.
-use Rattle.key_index.specs.Laws.Prelude.{ℕ, ◌+◌, ◌*◌, ◌≤◌, ◌<◌, ◌≡◌, refl, sym, ap, ◌∙◌, List, ◌++◌, arith, length, take, drop, length-append, length-drop, length-replicate, drop-append-le, take-append-le, is_live, row_in, IndexShape, KeysSound, Fits, RowsIn, RowsFit, zeros}
+use Rattle.std.specs.Prelude.{◌+◌, ◌*◌, ◌≤◌, ◌<◌, ◌≡◌, ◌++◌}
+use Rattle.key_index.specs.Laws.Prelude.{ℕ, refl, sym, ap, ◌∙◌, List, arith, length, take, drop, length-append, length-drop, length-replicate, drop-append-le, take-append-le, is_live, row_in, IndexShape, KeysSound, Fits, RowsIn, RowsFit, zeros}
 use Rattle.lists.specs.Lists.{row_at}
 use Rattle.key_index.specs.Laws.Index.{keys_same}
 

@@ -1,6 +1,7 @@
 -- The pigeonhole principle on numbers: if m numbers are mapped injectively to numbers below n, then m is at most n. It implies that
 -- not all slots of a sound store are taken. Assumes nothing.
-use Rattle.key_index.specs.Laws.Prelude.{ℕ, zero, suc, ◌≤◌, ◌<◌, ◌≡◌, sym, ◌∙◌, cond, ℕ_discrete, arith, eqb, eq-eqb, ne_eqb}
+use Rattle.std.specs.Prelude.{◌≤◌, ◌<◌, ◌≡◌}
+use Rattle.key_index.specs.Laws.Prelude.{ℕ, zero, suc, sym, ◌∙◌, cond, ℕ_discrete, arith, eqb, eq-eqb, ne_eqb}
 
 -- f on the numbers below m, with the value n replaced by f m
 moved : (ℕ → ℕ) → ℕ → ℕ → ℕ → ℕ

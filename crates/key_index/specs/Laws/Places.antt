@@ -1,5 +1,6 @@
 -- Positions of a row and of its key in the row store; stores of the same length fit a table too. Assumes nothing.
-use Rattle.key_index.specs.Laws.Prelude.{ℕ, ◌+◌, ◌-◌, ◌*◌, ◌≤◌, ◌<◌, ◌≡◌, sym, ◌∙◌, List, mul-le-mul, arith, length, take, drop, part_width, row_in, key_row, IndexShape, key_at, RowsIn, Fits}
+use Rattle.std.specs.Prelude.{◌+◌, ◌-◌, ◌*◌, ◌≤◌, ◌<◌, ◌≡◌}
+use Rattle.key_index.specs.Laws.Prelude.{ℕ, sym, ◌∙◌, List, mul-le-mul, arith, length, take, drop, part_width, row_in, key_row, IndexShape, key_at, RowsIn, Fits}
 
 -- a row is inside the store, and its position fits a word
 pub record Inside (rows : List ℕ) (columns row : ℕ) : Type 0 where

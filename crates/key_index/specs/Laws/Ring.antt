@@ -1,5 +1,6 @@
 -- The ring of slots and the words in it. Assumes nothing.
-use Rattle.key_index.specs.Laws.Prelude.{ℕ, ◌+◌, ◌-◌, ◌*◌, ◌/◌, ◌%◌, ◌^◌, ◌≤◌, ◌<◌, ◌≡◌, refl, sym, ap, ◌∙◌, true, false, List, add_assoc, add-zero, mod_self, mod-lt, mod-eq_of_lt, mod-add-mod, add-mod-mod, add-mod_right, mul-lt-mul_of_pos_right, arith, ltb, lt-ltb, ltb-true, le-leb, leb-true, and_left, and_right, IndexShape}
+use Rattle.std.specs.Prelude.{◌+◌, ◌-◌, ◌*◌, ◌/◌, ◌%◌, ◌^◌, ◌≤◌, ◌<◌, ◌≡◌}
+use Rattle.key_index.specs.Laws.Prelude.{ℕ, refl, sym, ap, ◌∙◌, true, false, List, add_assoc, add-zero, mod_self, mod-lt, mod-eq_of_lt, mod-add-mod, add-mod-mod, add-mod_right, mul-lt-mul_of_pos_right, arith, ltb, lt-ltb, ltb-true, le-leb, leb-true, and_left, and_right, IndexShape}
 use Rattle.cells.specs.Cells.{compact_hash, key_hash}
 use Rattle.cells.specs.Laws.Cells.{key_hash_fits}
 use Rattle.key_index.specs.Slots.{word, home, slot_from}

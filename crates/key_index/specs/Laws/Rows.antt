@@ -1,6 +1,7 @@
 -- From what a change does to each row of the store to the premises of the soundness laws in Laws/Index.antt: one row more, or one
 -- row more in place of another. Assumes nothing.
-use Rattle.key_index.specs.Laws.Prelude.{ℕ, ◌+◌, ◌<◌, ◌≡◌, sym, ap, ◌∙◌, inl, inr, true, false, false≢true, List, dec_lt, arith, take, row_at, is_live, IndexShape, LiveAt, key_at}
+use Rattle.std.specs.Prelude.{◌+◌, ◌<◌, ◌≡◌}
+use Rattle.key_index.specs.Laws.Prelude.{ℕ, sym, ap, ◌∙◌, inl, inr, true, false, false≢true, List, dec_lt, arith, take, row_at, is_live, IndexShape, LiveAt, key_at}
 use Rattle.key_index.specs.Laws.Index.{Grown, Swapped}
 
 -- the same table with n rows

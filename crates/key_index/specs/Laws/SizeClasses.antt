@@ -1,5 +1,6 @@
 -- The slots in use suffice for the rows, and are inside the key store. Assumes nothing.
-use Rattle.key_index.specs.Laws.Prelude.{ℕ, ◌+◌, ◌-◌, ◌*◌, ◌≤◌, ◌≡◌, sym, ap, ◌∙◌, inl, inr, List, mul-le-mul_right, arith, cond, leb, drop, drop-drop, leb-true, split, IndexShape, Fits}
+use Rattle.std.specs.Prelude.{◌+◌, ◌-◌, ◌*◌, ◌≤◌, ◌≡◌}
+use Rattle.key_index.specs.Laws.Prelude.{ℕ, sym, ap, ◌∙◌, inl, inr, List, mul-le-mul_right, arith, cond, leb, drop, drop-drop, leb-true, split, IndexShape, Fits}
 use Rattle.key_index.specs.Slots.{size_class, size_class_for}
 
 record Step (rows step : ℕ) : Type 0 where

@@ -1,7 +1,8 @@
 -- The ring of slots, unrolled into a line at a free slot. No path from a home to its row's slot passes a free slot. So each path is
 -- a contiguous part of the line, and closing a hole rules only plain arithmetic. Re-exports the laws of distances on the ring from
 -- Ring.antt. Assumes nothing.
-use Rattle.key_index.specs.Laws.Prelude.{ℕ, ◌+◌, ◌≤◌, ◌<◌, ◌≡◌, refl, sym, ap, ◌∙◌, ◌⊎◌, inl, inr, List, dec_lt, ℕ_discrete, arith, length, get_or, set, get_or-set_same, get_or-set_other, slot_from}
+use Rattle.std.specs.Prelude.{◌+◌, ◌≤◌, ◌<◌, ◌≡◌, ◌⊎◌}
+use Rattle.key_index.specs.Laws.Prelude.{ℕ, refl, sym, ap, ◌∙◌, inl, inr, List, dec_lt, ℕ_discrete, arith, length, get_or, set, get_or-set_same, get_or-set_other, slot_from}
 unfoldable pub use Rattle.key_index.specs.inner.Ring.{away}
 pub use Rattle.key_index.specs.Laws.Ring.{slot_below, slot_then, slot_zero, slot_round, slot_one, away_below, away_slot, away_of, away_line}
 

@@ -1,5 +1,6 @@
 -- The contract of each call implies the contract of its line, for any table that the stores hold. Assumes nothing.
-use Rattle.levels_spec.specs.Laws.Prelude.{ℕ, zero, suc, ◌≡◌, refl, ◌∙◌, true, List, [], length, Staged, Plain, Header, TableAnswer, MergeAnswer, table_view, merge_view, stores, body, compaction_words, lengths, merge_of, Staging, Merging, Compacting, Clearing, stage_checks_lem, merge_checks_lem, compact_checks_lem, clear_checks_lem, staging_done, staging_refused, merging_done, merging_refused, compacting_done, compacting_refused, clearing_done, clearing_refused, Served, lent}
+use Rattle.std.specs.Prelude.{◌≡◌}
+use Rattle.levels_spec.specs.Laws.Prelude.{ℕ, zero, suc, refl, ◌∙◌, true, List, [], length, Staged, Plain, Header, TableAnswer, MergeAnswer, table_view, merge_view, stores, body, compaction_words, lengths, merge_of, Staging, Merging, Compacting, Clearing, stage_checks_lem, merge_checks_lem, compact_checks_lem, clear_checks_lem, staging_done, staging_refused, merging_done, merging_refused, compacting_done, compacting_refused, clearing_done, clearing_refused, Served, lent}
 use Rattle.refusals.specs.Refusals.{reply, first_refusal, outcome, if_accepted}
 use Rattle.plain_table.specs.Refusing.{Lengths, stage_checks, merge_checks, compact_checks, clear_checks, stores_short, words_short}
 use Rattle.plain_table.specs.Calls.{staging, merging, compacting, clearing, refusal, done}

@@ -1,6 +1,7 @@
 -- Along the calls that lines of `levels` make, every cell of a live row is a u32 if every cell staged for insertion is. Assumes
 -- nothing.
-use Rattle.levels_spec.specs.Laws.Prelude.{ℕ, ◌≡◌, refl, ap, inl, inr, Bool, true, false, cond, not, List, [], ◌∷◌, ◌++◌, leb, ltb, eqb, length, take, lt_z, all_head, all_tail, all_cons, all_append, all_snoc, or_second, split, and_left, all_get_d, Lengths, row_of, lookup_at, no_row, Thinned, kill_if_thinned, dies_thinned, filter_thinned, thinned_all, Appended, new, again, removed_keeps, insert_all_keeps, live_fits}
+use Rattle.std.specs.Prelude.{◌≡◌, ◌∷◌, ◌++◌}
+use Rattle.levels_spec.specs.Laws.Prelude.{ℕ, refl, ap, inl, inr, Bool, true, false, cond, not, List, [], leb, ltb, eqb, length, take, lt_z, all_head, all_tail, all_cons, all_append, all_snoc, or_second, split, and_left, all_get_d, Lengths, row_of, lookup_at, no_row, Thinned, kill_if_thinned, dies_thinned, filter_thinned, thinned_all, Appended, new, again, removed_keeps, insert_all_keeps, live_fits}
 use Rattle.lists.specs.Lists.{all}
 use Rattle.merge_rules.specs.Rules.{ruled_column, signed, smaller, larger, taken, made_cell, made_from}
 use Rattle.plain_table.specs.Staged.{Staged, insert, remove_key, remove_row, inserts, has_key}

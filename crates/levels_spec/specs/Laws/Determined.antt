@@ -1,6 +1,7 @@
 -- The answer is determined: two programs that answer a line on the same table print the same bytes, and both leave stores that hold
 -- the same table. Assumes nothing.
-use Rattle.levels_spec.specs.Laws.Prelude.{ℕ, ◌≡◌, sym, ◌∙◌, List, Option, take, Plain, Stores, LineResult, line_result, Held, lent, Answering}
+use Rattle.std.specs.Prelude.{◌≡◌}
+use Rattle.levels_spec.specs.Laws.Prelude.{ℕ, sym, ◌∙◌, List, Option, take, Plain, Stores, LineResult, line_result, Held, lent, Answering}
 
 pub record SameResult (result : LineResult) (s₁ s₂ : Stores) (text₁ text₂ : List ℕ) (used₁ used₂ : ℕ) : Type 0 where
   pub text : take used₁ text₁ ≡ take used₂ text₂

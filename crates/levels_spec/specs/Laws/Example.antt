@@ -1,5 +1,6 @@
 -- The paper's example of a session: the bytes of its lines, in ASCII, and the bytes that they print. Assumes nothing.
-use Rattle.levels_spec.specs.Laws.Prelude.{ℕ, ◌≡◌, refl, List, [], ◌∷◌}
+use Rattle.std.specs.Prelude.{◌≡◌, ◌∷◌}
+use Rattle.levels_spec.specs.Laws.Prelude.{ℕ, refl, List, []}
 use Rattle.lists.specs.Lists.{flatten, all, same, count, filter, iota, find, elem}
 use Rattle.refusals.specs.Refusals.{first_refusal, reply}
 use Rattle.cells.specs.Cells.{is_dead}

@@ -1,5 +1,6 @@
 -- The result of a line of each letter. Assumes nothing.
-use Rattle.levels_spec.specs.Laws.Prelude.{ℕ, ◌≡◌, cond, List, [], ◌∷◌, Option, none, length, drop, get_or, known, condition_in, insert, remove_key, remove_row, Lengths, Plain, staging, merging, compacting, clearing, true, false, text_line}
+use Rattle.std.specs.Prelude.{◌≡◌, ◌∷◌}
+use Rattle.levels_spec.specs.Laws.Prelude.{ℕ, cond, List, [], Option, none, length, drop, get_or, known, condition_in, insert, remove_key, remove_row, Lengths, Plain, staging, merging, compacting, clearing, true, false, text_line}
 use Rattle.levels_spec.specs.Response.{LineResult, printing, replied, opens, calls, queries, merge_text, fast_subset_of, range_text, list_text, served, result}
 use Rattle.plain_table.specs.Staged.{opening_in}
 use Rattle.std.proofs.Math.Option.{Option-elim}

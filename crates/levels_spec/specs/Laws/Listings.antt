@@ -1,6 +1,7 @@
 -- L and U print the text of a listing, in the old form and in the new (document 02, change 11). This holds for every proper table
 -- in whose live rows every cell is a u32. Every table of a session is such a table: Laws/Printed. Assumes nothing.
-use Rattle.levels_spec.specs.Laws.Prelude.{◌≡◌, Bool, true, false, some, all, Plain, Proper, openable_bounds, Listing, listing_text, ParsesAs, table_listing, live_fits, table_listed}
+use Rattle.std.specs.Prelude.{◌≡◌}
+use Rattle.levels_spec.specs.Laws.Prelude.{Bool, true, false, some, all, Plain, Proper, openable_bounds, Listing, listing_text, ParsesAs, table_listing, live_fits, table_listed}
 use Rattle.levels_spec.specs.Response.{list_text}
 
 -- the listing of a table

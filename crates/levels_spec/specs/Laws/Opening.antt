@@ -1,5 +1,6 @@
 -- The contract of an opening implies the contract of O, for any table that the stores hold. Assumes nothing.
-use Rattle.levels_spec.specs.Laws.Prelude.{ℕ, ◌≤◌, ◌<◌, ◌≡◌, refl, ◌∙◌, inl, inr, List, [], Option, some, arith, eq-eqb, ne_eqb, lt-ltb, le-ltb, accepted, reply, outcome, some_number, ruled_refused, Opening, Plain, opened, Header, TableAnswer, table_view, header_of, Stores, stores, body, lengths, Opened, reply_accepted, after_refused, after_accepted, opening_done, Refused, Served, Held, lent, response_of, nothing_response, ServedWith, Responds}
+use Rattle.std.specs.Prelude.{◌≤◌, ◌<◌, ◌≡◌}
+use Rattle.levels_spec.specs.Laws.Prelude.{ℕ, refl, ◌∙◌, inl, inr, List, [], Option, some, arith, eq-eqb, ne_eqb, lt-ltb, le-ltb, accepted, reply, outcome, some_number, ruled_refused, Opening, Plain, opened, Header, TableAnswer, table_view, header_of, Stores, stores, body, lengths, Opened, reply_accepted, after_refused, after_accepted, opening_done, Refused, Served, Held, lent, response_of, nothing_response, ServedWith, Responds}
 use Rattle.plain_table.specs.Refusing.{Lengths, open_refusal, stores_short}
 use Rattle.levels_spec.specs.Response.{printing, replied, open_number, opens}
 use Rattle.levels_spec.specs.Laws.Results.{response_of_refused, nothing_response_lem, responds_refused, responds_table}

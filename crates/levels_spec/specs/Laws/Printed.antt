@@ -1,6 +1,7 @@
 -- In a session on any input, a line U after an accepted O prints a listing in the new form, and a line L prints one in the old form
 -- (document 02, change 11). Assumes nothing.
-use Rattle.levels_spec.specs.Laws.Prelude.{ℕ, ◌≤◌, ◌≡◌, refl, sym, ap, ◌∙◌, inl, inr, Bool, true, false, cond, not, ◌&&◌, false≢true, List, [], ◌∷◌, ◌++◌, append_assoc, Option, none, some, dec_lt, arith, leb, ltb, eqb, length, drop, get_or, List·getD-eq-default, eqb-true, leb-true, not-false, or_second, split, and_left, and_right, all_get_d, check, Proper, first_refusal_no, opened_proper, after_proper, line_numbers}
+use Rattle.std.specs.Prelude.{◌≤◌, ◌≡◌, ◌&&◌, ◌∷◌, ◌++◌}
+use Rattle.levels_spec.specs.Laws.Prelude.{ℕ, refl, sym, ap, ◌∙◌, inl, inr, Bool, true, false, cond, not, false≢true, List, [], append_assoc, Option, none, some, dec_lt, arith, leb, ltb, eqb, length, drop, get_or, List·getD-eq-default, eqb-true, leb-true, not-false, or_second, split, and_left, and_right, all_get_d, check, Proper, first_refusal_no, opened_proper, after_proper, line_numbers}
 use Rattle.lists.specs.Lists.{all, any, elem}
 use Rattle.plain_table.specs.Staged.{Opening, openable, insert, remove_key, remove_row, inserts, opening_in}
 use Rattle.plain_table.specs.Refusing.{Lengths, stores_short, open_refusal}

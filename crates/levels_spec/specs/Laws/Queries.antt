@@ -1,5 +1,6 @@
 -- The contracts of a fast range and of a version imply those of F, V, L and U, for any table that the stores hold. Assumes nothing.
-use Rattle.levels_spec.specs.Laws.Prelude.{ℕ, ◌*◌, ◌≤◌, ◌≡◌, refl, ap, ◌∙◌, inl, inr, Bool, true, false, cond, List, [], ◌∷◌, Option, none, some, arith, length, le-ltb, split, Constraint, known, Plain, Header, Version, RangeAnswer, VersionAnswer, range_view, version_view, represents_inside, represents_long, rows_counted, represents_sound, reply_accepted, listing_text, stored_plain, text_line, Response}
+use Rattle.std.specs.Prelude.{◌*◌, ◌≤◌, ◌≡◌, ◌∷◌}
+use Rattle.levels_spec.specs.Laws.Prelude.{ℕ, refl, ap, ◌∙◌, inl, inr, Bool, true, false, cond, List, [], Option, none, some, arith, length, le-ltb, split, Constraint, known, Plain, Header, Version, RangeAnswer, VersionAnswer, range_view, version_view, represents_inside, represents_long, rows_counted, represents_sound, reply_accepted, listing_text, stored_plain, text_line, Response}
 use Rattle.refusals.specs.Refusals.{first_refusal}
 use Rattle.offsets.specs.Subsets.{Subset, range, list}
 use Rattle.table.specs.Refusing.{outside, pairs_short, fast_refusal, version_refusal}

@@ -1,5 +1,6 @@
 -- Laws that hold for every line on a table: the line is refused and nothing changes, or it is done. Assumes nothing.
-use Rattle.levels_spec.specs.Laws.Prelude.{ℕ, ◌<◌, ◌≡◌, refl, sym, ◌∙◌, inl, inr, true, List, [], ◌∷◌, Option, none, some, arith, eq-eqb, ne_eqb, some_number, ruled_refused, Lengths, Plain, Call, refusal, done, refused_nothing, accepted_done, Header, outside, Stores, Represents, represents_inside, text_line, Response, Refused, Held, no_table, table}
+use Rattle.std.specs.Prelude.{◌<◌, ◌≡◌, ◌∷◌}
+use Rattle.levels_spec.specs.Laws.Prelude.{ℕ, refl, sym, ◌∙◌, inl, inr, true, List, [], Option, none, some, arith, eq-eqb, ne_eqb, some_number, ruled_refused, Lengths, Plain, Call, refusal, done, refused_nothing, accepted_done, Header, outside, Stores, Represents, represents_inside, text_line, Response, Refused, Held, no_table, table}
 use Rattle.refusals.specs.Refusals.{Reply, refused, accepted, reply, outcome}
 use Rattle.levels_spec.specs.Response.{LineResult, printing, replied, calls, queries}
 use Rattle.levels_spec.specs.Laws.Letters.{on_table}

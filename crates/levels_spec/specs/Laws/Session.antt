@@ -1,5 +1,6 @@
 -- The lines of an input, one by one. Assumes nothing.
-use Rattle.levels_spec.specs.Laws.Prelude.{ℕ, ◌<◌, ◌≡◌, refl, sym, false, List, [], ◌∷◌, ◌++◌, inl, inr, arith, length, eqb, ne_eqb, eqb-false, split, false≢true}
+use Rattle.std.specs.Prelude.{◌<◌, ◌≡◌, ◌∷◌, ◌++◌}
+use Rattle.levels_spec.specs.Laws.Prelude.{ℕ, refl, sym, false, List, [], inl, inr, arith, length, eqb, ne_eqb, eqb-false, split, false≢true}
 use Rattle.lists.specs.Lists.{elem}
 use Rattle.levels_spec.specs.Session.{lines_in}
 use Rattle.levels_text.specs.Lines.{prepend_to_first}

@@ -1,5 +1,6 @@
 -- A line that is cut after its first 121 bytes has the same answer as the whole line: both are too long. Assumes nothing.
-use Rattle.levels_spec.specs.Laws.Prelude.{ℕ, ◌<◌, ◌≡◌, inl, inr, false, List, Option, arith, leb, length, take, length-take, take_all, leb-true, leb-false, split, Lengths, Plain, of_forms, too_long, no_forms}
+use Rattle.std.specs.Prelude.{◌<◌, ◌≡◌}
+use Rattle.levels_spec.specs.Laws.Prelude.{ℕ, inl, inr, false, List, Option, arith, leb, length, take, length-take, take_all, leb-true, leb-false, split, Lengths, Plain, of_forms, too_long, no_forms}
 use Rattle.levels_spec.specs.Response.{line_result}
 
 same_refused : (l : Lengths) (t : Option Plain) (a b : List ℕ) → of_forms a ≡ false → of_forms b ≡ false → line_result l t a ≡ line_result l t b

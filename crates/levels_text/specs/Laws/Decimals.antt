@@ -1,5 +1,6 @@
 -- `io::decimal` gives the digits that the definition gives. Assumes nothing.
-use Rattle.levels_text.specs.Laws.Prelude.{ℕ, zero, suc, ◌+◌, ◌-◌, ◌*◌, ◌/◌, ◌%◌, ◌^◌, ◌≤◌, ◌<◌, ◌≡◌, ap, ◌∙◌, inl, inr, List, [], ◌∷◌, ◌++◌, map, map-append, append-nil, pow-succ', one-le-pow, pow-le-pow_right, mod-lt, mod-eq_of_lt, arith, length, take, get_or, length-append, leb, ltb, lt-ltb, le-ltb, leb-true, leb-false, split, flatten_append, digits, glyph, Fewest}
+use Rattle.std.specs.Prelude.{◌+◌, ◌-◌, ◌*◌, ◌/◌, ◌%◌, ◌^◌, ◌≤◌, ◌<◌, ◌≡◌, ◌∷◌, ◌++◌}
+use Rattle.levels_text.specs.Laws.Prelude.{ℕ, zero, suc, ap, ◌∙◌, inl, inr, List, [], map, map-append, append-nil, pow-succ', one-le-pow, pow-le-pow_right, mod-lt, mod-eq_of_lt, arith, length, take, get_or, length-append, leb, ltb, lt-ltb, le-ltb, leb-true, leb-false, split, flatten_append, digits, glyph, Fewest}
 use Rattle.lists.specs.Lists.{flatten}
 use Rattle.levels_text.specs.Written.{digits_in, decimal, field, text_line}
 

@@ -1,6 +1,7 @@
 -- A decimal, digit by digit: what is to come of a field from a place on is what was to come from its start. `field at` is the field
 -- that begins at an offset. Assumes nothing.
-use Rattle.levels_text.specs.Laws.Prelude.{ℕ, ◌+◌, ◌-◌, ◌*◌, ◌≤◌, ◌<◌, ◌≡◌, refl, sym, ap, ◌∙◌, inl, inr, Bool, true, false, not, ◌&&◌, ◌||◌, or-true, and-false, false≢true, List, [], ◌∷◌, arith, leb, ltb, eqb, length, get_or, eq-eqb, ne_eqb, le-leb, lt-leb, lt-ltb, leb-true, eqb-false, split, and_left, and_right, all_head}
+use Rattle.std.specs.Prelude.{◌+◌, ◌-◌, ◌*◌, ◌≤◌, ◌<◌, ◌≡◌, ◌&&◌, ◌||◌, ◌∷◌}
+use Rattle.levels_text.specs.Laws.Prelude.{ℕ, refl, sym, ap, ◌∙◌, inl, inr, Bool, true, false, not, or-true, and-false, false≢true, List, [], arith, leb, ltb, eqb, length, get_or, eq-eqb, ne_eqb, le-leb, lt-leb, lt-ltb, leb-true, eqb-false, split, and_left, and_right, all_head}
 use Rattle.lists.specs.Lists.{all}
 use Rattle.levels_text.specs.Lines.{value_from, is_decimal}
 

@@ -1,5 +1,6 @@
 -- A decimal that is written is read back: `levels` reads it, and its value is the number. Assumes nothing.
-use Rattle.levels_text.specs.Laws.Prelude.{ℕ, zero, suc, ◌+◌, ◌-◌, ◌*◌, ◌/◌, ◌%◌, ◌^◌, ◌≤◌, ◌<◌, ◌≡◌, refl, inl, inr, Bool, true, not, ◌&&◌, ◌||◌, or-true, false≢true, List, [], ◌∷◌, ◌++◌, pow-succ', mod-lt, arith, leb, ltb, eqb, length, get_or, length-append, List·getD-append, ne_eqb, le-leb, lt-ltb, ltb-true, ltb-false, split}
+use Rattle.std.specs.Prelude.{◌+◌, ◌-◌, ◌*◌, ◌/◌, ◌%◌, ◌^◌, ◌≤◌, ◌<◌, ◌≡◌, ◌&&◌, ◌||◌, ◌∷◌, ◌++◌}
+use Rattle.levels_text.specs.Laws.Prelude.{ℕ, zero, suc, refl, inl, inr, Bool, true, not, or-true, false≢true, List, [], pow-succ', mod-lt, arith, leb, ltb, eqb, length, get_or, length-append, List·getD-append, ne_eqb, le-leb, lt-ltb, ltb-true, ltb-false, split}
 use Rattle.lists.specs.Lists.{all}
 use Rattle.levels_text.specs.Lines.{value_from, is_decimal}
 use Rattle.levels_text.specs.Written.{digits_in, decimal}

@@ -1,5 +1,6 @@
 -- The contract determines the answer. Assumes nothing.
-use Rattle.listing_check.specs.Laws.Prelude.{ℕ, ◌≡◌, refl, sym, ap, ◌∙◌, true, List, arith, Constraint, parses_determined, Verdict, Right, Misplaced, Wrong, CheckAnswer, Refused, Checked}
+use Rattle.std.specs.Prelude.{◌≡◌}
+use Rattle.listing_check.specs.Laws.Prelude.{ℕ, refl, sym, ap, ◌∙◌, true, List, arith, Constraint, parses_determined, Verdict, Right, Misplaced, Wrong, CheckAnswer, Refused, Checked}
 use Rattle.listing_check.specs.Answers.{verdict_view, check_view, AnswersChecked}
 
 -- the view of an answer determines the answer

@@ -1,6 +1,7 @@
 -- A listing with the rows 2, 5 and 8, of which 2 and 8 meet the condition that the first cell is 7, and the verdicts for some given
 -- numbers. Assumes nothing.
-use Rattle.listing_check.specs.Laws.Prelude.{◌≡◌, refl, [], ◌∷◌, map, Constraint}
+use Rattle.std.specs.Prelude.{◌≡◌, ◌∷◌}
+use Rattle.listing_check.specs.Laws.Prelude.{refl, [], map, Constraint}
 use Rattle.std.proofs.Math.Option.{Option-elim}
 use Rattle.lists.specs.Lists.{filter, all, elem}
 use Rattle.constraints.specs.Constraints.{compares, met}

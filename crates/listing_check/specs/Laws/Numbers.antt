@@ -1,5 +1,6 @@
 -- The lowest number that exactly one of two lists has, and the first number that is not above the one before. Assumes nothing.
-use Rattle.listing_check.specs.Laws.Prelude.{ℕ, zero, suc, ◌+◌, ◌-◌, ◌≤◌, ◌<◌, min, ◌≡◌, refl, sym, ap, ◌∙◌, ◌⊎◌, inl, inr, Bool, true, false, not, ◌&&◌, ◌||◌, false≢true, List, [], ◌∷◌, foldl, Option, none, some, dec_lt, ℕ_discrete, min-le_left, min-le_right, min-eq_left, min-eq_right, arith, eqb, length, get_or, lt-ltb, le-ltb, or_right, split, above_head, above_tail, above_cons, elem_here, elem_there, elem_append, elem_filter, rising_at}
+use Rattle.std.specs.Prelude.{◌+◌, ◌-◌, ◌≤◌, ◌<◌, ◌≡◌, ◌⊎◌, ◌&&◌, ◌||◌, ◌∷◌}
+use Rattle.listing_check.specs.Laws.Prelude.{ℕ, zero, suc, min, refl, sym, ap, ◌∙◌, inl, inr, Bool, true, false, not, false≢true, List, [], foldl, Option, none, some, dec_lt, ℕ_discrete, min-le_left, min-le_right, min-eq_left, min-eq_right, arith, eqb, length, get_or, lt-ltb, le-ltb, or_right, split, above_head, above_tail, above_cons, elem_here, elem_there, elem_append, elem_filter, rising_at}
 use Rattle.lists.specs.Lists.{filter, above, rising, elem}
 use Rattle.listing_check.specs.Answers.{misplaced_behind, misplaced, wrong_numbers, lowest}
 

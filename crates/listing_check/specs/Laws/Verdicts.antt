@@ -1,5 +1,6 @@
 -- What each verdict implies about the numbers given and the right ones. Assumes nothing.
-use Rattle.listing_check.specs.Laws.Prelude.{ℕ, ◌≡◌, refl, ◌∙◌, inl, inr, Bool, true, List, [], ◌∷◌, Option, none, some, arith, drop, get_or, split, above_head, above_tail, above_cons, above_weaker, above_rising, rising_ext, Constraint, met, rising_from_lem, listing_parts}
+use Rattle.std.specs.Prelude.{◌≡◌, ◌∷◌}
+use Rattle.listing_check.specs.Laws.Prelude.{ℕ, refl, ◌∙◌, inl, inr, Bool, true, List, [], Option, none, some, arith, drop, get_or, split, above_head, above_tail, above_cons, above_weaker, above_rising, rising_ext, Constraint, met, rising_from_lem, listing_parts}
 use Rattle.std.proofs.Math.Option.{Option-elim}
 use Rattle.lists.specs.Lists.{filter, all, above, rising}
 use Rattle.listing_spec.specs.Listings.{Listing, row_numbers, is_listing}

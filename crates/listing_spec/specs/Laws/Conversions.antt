@@ -1,5 +1,6 @@
 -- Conversion from one form to the other and back loses nothing. Assumes nothing.
-use Rattle.listing_spec.specs.Laws.Prelude.{ℕ, suc, ◌+◌, ◌-◌, ◌≤◌, ◌<◌, ◌≡◌, refl, sym, ap, ap₂, ◌∙◌, inl, inr, Bool, true, false, false≢true, List, [], ◌∷◌, ◌++◌, map, zero-add, arith, ltb, length, take, drop, get_or, length-append, length-map, take-suc, take_all, take_at, ltb-true, all_head, all_tail, split, all_get_d, all_of, bool_ext, within_of, within_high, length_iota, get_d_iota, rising_iota, elem_at, elem_of, elem_iota, rising_ext, rising_gap, field, text_line, fields_more, length_line}
+use Rattle.std.specs.Prelude.{◌+◌, ◌-◌, ◌≤◌, ◌<◌, ◌≡◌, ◌∷◌, ◌++◌}
+use Rattle.listing_spec.specs.Laws.Prelude.{ℕ, suc, refl, sym, ap, ap₂, ◌∙◌, inl, inr, Bool, true, false, false≢true, List, [], map, zero-add, arith, ltb, length, take, drop, get_or, length-append, length-map, take-suc, take_all, take_at, ltb-true, all_head, all_tail, split, all_get_d, all_of, bool_ext, within_of, within_high, length_iota, get_d_iota, rising_iota, elem_at, elem_of, elem_iota, rising_ext, rising_gap, field, text_line, fields_more, length_line}
 use Rattle.lists.specs.Lists.{all, flatten, iota, rising, elem}
 use Rattle.listing_spec.specs.Listings.{Listing, head_letter, head_width, listing_text, prefix_width, is_row, row_numbers, is_listing, numbered_from, to_numbered, from_numbered, lacks_row}
 use Rattle.listing_spec.specs.Laws.Texts.{rising_from_lem, Bounded, listing_parts, head_wide, row_parts}

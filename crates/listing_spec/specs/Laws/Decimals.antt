@@ -1,5 +1,6 @@
 -- A decimal that `levels` reads is the written form of its value. Assumes nothing.
-use Rattle.listing_spec.specs.Laws.Prelude.{ℕ, zero, suc, ◌+◌, ◌-◌, ◌*◌, ◌/◌, ◌%◌, ◌^◌, ◌≤◌, ◌<◌, ◌≡◌, refl, sym, ap, ◌∙◌, true, not, ◌&&◌, ◌||◌, false≢true, List, [], ◌∷◌, ◌++◌, append-nil, append_assoc, zero-add, pow-succ', arith, leb, ltb, eqb, length, get_or, ne_eqb, le-ltb, lt-ltb, leb-true, all_head, all_tail, and_left, and_right, digit, digit_byte}
+use Rattle.std.specs.Prelude.{◌+◌, ◌-◌, ◌*◌, ◌/◌, ◌%◌, ◌^◌, ◌≤◌, ◌<◌, ◌≡◌, ◌&&◌, ◌||◌, ◌∷◌, ◌++◌}
+use Rattle.listing_spec.specs.Laws.Prelude.{ℕ, zero, suc, refl, sym, ap, ◌∙◌, true, not, false≢true, List, [], append-nil, append_assoc, zero-add, pow-succ', arith, leb, ltb, eqb, length, get_or, ne_eqb, le-ltb, lt-ltb, leb-true, all_head, all_tail, and_left, and_right, digit, digit_byte}
 use Rattle.lists.specs.Lists.{all}
 use Rattle.levels_text.specs.Lines.{value_from, is_decimal}
 use Rattle.levels_text.specs.Written.{digits_in, decimal}

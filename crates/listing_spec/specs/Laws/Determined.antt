@@ -1,5 +1,6 @@
 -- Each contract determines the outcome. Assumes nothing.
-use Rattle.listing_spec.specs.Laws.Prelude.{ℕ, ◌≡◌, sym, ap, ◌∙◌, ⊎_elim, Bool, true, false, List, [], ◌∷◌, arith, length, get_or, Reply, some_number, Same, ListingAnswer, NumberedAnswer, TextAnswer, Refused, Written}
+use Rattle.std.specs.Prelude.{◌≡◌, ◌∷◌}
+use Rattle.listing_spec.specs.Laws.Prelude.{ℕ, sym, ap, ◌∙◌, ⊎_elim, Bool, true, false, List, [], arith, length, get_or, Reply, some_number, Same, ListingAnswer, NumberedAnswer, TextAnswer, Refused, Written}
 use Rattle.listing_spec.specs.declared.ListingAnswer.TheVariants.{Refused as ReadRefused, Listing as Read}
 use Rattle.listing_spec.specs.declared.NumberedAnswer.TheVariants.{Refused as NumberedRefused, Listing as NumberedRead}
 use Rattle.listing_spec.specs.Listings.{listing_view, numbered_view, text_view, read_refusal, convert_refusal, ListingRead, ListingConverted}

@@ -1,6 +1,7 @@
 -- A line that `levels` reads is the written form of its letter and numbers, and a line that is written is read back. Assumes
 -- nothing.
-use Rattle.listing_spec.specs.Laws.Prelude.{ℕ, suc, ◌*◌, ◌≤◌, ◌≡◌, refl, sym, ap, ◌∙◌, inl, inr, true, false, ◌&&◌, false≢true, List, [], ◌∷◌, ◌++◌, map, append-nil, arith, leb, eqb, length, length-append, length-map, get_or, drop, eqb-true, eqb-false, ne_eqb, le-leb, leb-true, all_head, all_tail, elem_append, split, and_left, and_right, length_fields, decimal_value, decimal_read}
+use Rattle.std.specs.Prelude.{◌*◌, ◌≤◌, ◌≡◌, ◌&&◌, ◌∷◌, ◌++◌}
+use Rattle.listing_spec.specs.Laws.Prelude.{ℕ, suc, refl, sym, ap, ◌∙◌, inl, inr, true, false, false≢true, List, [], map, append-nil, arith, leb, eqb, length, length-append, length-map, get_or, drop, eqb-true, eqb-false, ne_eqb, le-leb, leb-true, all_head, all_tail, elem_append, split, and_left, and_right, length_fields, decimal_value, decimal_read}
 use Rattle.lists.specs.Lists.{all, flatten, elem}
 use Rattle.levels_text.specs.Lines.{value_from, is_decimal, is_line, letter, numbers, fields}
 use Rattle.levels_text.specs.Written.{decimal, field, text_line}

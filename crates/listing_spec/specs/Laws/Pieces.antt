@@ -1,5 +1,6 @@
 -- A text and its lines. Assumes nothing.
-use Rattle.listing_spec.specs.Laws.Prelude.{ℕ, ◌≡◌, refl, sym, ◌∙◌, inl, inr, false, cond, false≢true, List, [], ◌∷◌, ◌++◌, eqb, eqb-true, eqb-false, ne_eqb, split}
+use Rattle.std.specs.Prelude.{◌≡◌, ◌∷◌, ◌++◌}
+use Rattle.listing_spec.specs.Laws.Prelude.{ℕ, refl, sym, ◌∙◌, inl, inr, false, cond, false≢true, List, [], eqb, eqb-true, eqb-false, ne_eqb, split}
 use Rattle.lists.specs.Lists.{elem}
 use Rattle.listing_spec.specs.inner.Checking.{longer, pieces, is_nil}
 

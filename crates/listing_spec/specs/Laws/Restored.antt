@@ -1,5 +1,6 @@
 -- A listing converted to the other form is of that form, and converting it back restores the text. Assumes nothing.
-use Rattle.listing_spec.specs.Laws.Prelude.{ℕ, zero, suc, ◌+◌, ◌-◌, ◌≤◌, ◌<◌, ◌≡◌, refl, sym, ap, ap₂, ◌∙◌, inl, inr, Bool, true, false, ◌&&◌, false≢true, List, [], ◌∷◌, ◌++◌, map, Option, none, some, arith, leb, ltb, length, take, drop, get_or, length-append, List·getD-append, List·getD-eq-default, get_or-take, length-take-le, get_or_at, eq-eqb, le-leb, lt-ltb, all_head, all_tail, all_cons, all_snoc, split, all_get_d, all_of, take_put, TextAnswer, Written}
+use Rattle.std.specs.Prelude.{◌+◌, ◌-◌, ◌≤◌, ◌<◌, ◌≡◌, ◌&&◌, ◌∷◌, ◌++◌}
+use Rattle.listing_spec.specs.Laws.Prelude.{ℕ, zero, suc, refl, sym, ap, ap₂, ◌∙◌, inl, inr, Bool, true, false, false≢true, List, [], map, Option, none, some, arith, leb, ltb, length, take, drop, get_or, length-append, List·getD-append, List·getD-eq-default, get_or-take, length-take-le, get_or_at, eq-eqb, le-leb, lt-ltb, all_head, all_tail, all_cons, all_snoc, split, all_get_d, all_of, take_put, TextAnswer, Written}
 use Rattle.std.proofs.Math.Option.{Option-elim}
 use Rattle.lists.specs.Lists.{all, splice}
 use Rattle.refusals.specs.Refusals.{check, first_refusal, accepted, reply, Effect}

@@ -1,5 +1,6 @@
 -- Which texts are of a form, checked line by line; a text determines its listing. Assumes nothing.
-use Rattle.listing_spec.specs.Laws.Prelude.{ℕ, suc, ◌+◌, ◌-◌, ◌≤◌, ◌<◌, ◌≡◌, refl, sym, ap, subst, ◌∙◌, inl, inr, Bool, true, false, cond, not, ◌&&◌, and-false, false≢true, List, [], ◌∷◌, ◌++◌, map, append_assoc, Option, none, some, arith, leb, ltb, eqb, length, get_or, eqb-true, eq-eqb, ne_eqb, leb-true, le-leb, ltb-true, lt-ltb, all_head, all_tail, all_cons, split, and_left, and_right, is_line, letter, numbers}
+use Rattle.std.specs.Prelude.{◌+◌, ◌-◌, ◌≤◌, ◌<◌, ◌≡◌, ◌&&◌, ◌∷◌, ◌++◌}
+use Rattle.listing_spec.specs.Laws.Prelude.{ℕ, suc, refl, sym, ap, subst, ◌∙◌, inl, inr, Bool, true, false, cond, not, and-false, false≢true, List, [], map, append_assoc, Option, none, some, arith, leb, ltb, eqb, length, get_or, eqb-true, eq-eqb, ne_eqb, leb-true, le-leb, ltb-true, lt-ltb, all_head, all_tail, all_cons, split, and_left, and_right, is_line, letter, numbers}
 use Rattle.lists.specs.Lists.{all, flatten, above, rising}
 use Rattle.plain_table.specs.Staged.{Opening, openable}
 use Rattle.plain_table.proofs.Laws.Proper.{openable_bounds}

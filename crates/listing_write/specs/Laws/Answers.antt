@@ -1,5 +1,6 @@
 -- Consequences of the answer of a call that writes a listing. Assumes nothing.
-use Rattle.listing_write.specs.Laws.Prelude.{ℕ, ◌≤◌, ◌≡◌, ap, ◌∙◌, Bool, false, List, [], ◌∷◌, arith, ltb, length, take, ltb-false, le-ltb, take_put, first_refusal_no, first_refusal_rest, Header, outside, rows_short, Refused, Written, accepted_number, accepted_same}
+use Rattle.std.specs.Prelude.{◌≤◌, ◌≡◌, ◌∷◌}
+use Rattle.listing_write.specs.Laws.Prelude.{ℕ, ap, ◌∙◌, Bool, false, List, [], arith, ltb, length, take, ltb-false, le-ltb, take_put, first_refusal_no, first_refusal_rest, Header, outside, rows_short, Refused, Written, accepted_number, accepted_same}
 use Rattle.refusals.specs.Refusals.{Check, check, first_refusal, reply}
 use Rattle.listing_spec.specs.Listings.{text_view}
 use Rattle.listing_write.specs.Writing.{stored_text, write_refusal, ListingWritten}

@@ -1,5 +1,6 @@
 -- Upper bounds of the lengths of a listing's lines. Assumes nothing.
-use Rattle.listing_write.specs.Laws.Prelude.{ℕ, zero, suc, ◌+◌, ◌*◌, ◌≤◌, ◌≡◌, ap, inl, inr, Bool, true, false, List, [], ◌∷◌, arith, length, take, drop, length-append, length-take, split, is_live, Header, text_line, length_written}
+use Rattle.std.specs.Prelude.{◌+◌, ◌*◌, ◌≤◌, ◌≡◌, ◌∷◌}
+use Rattle.listing_write.specs.Laws.Prelude.{ℕ, zero, suc, ap, inl, inr, Bool, true, false, List, [], arith, length, take, drop, length-append, length-take, split, is_live, Header, text_line, length_written}
 use Rattle.listing_spec.specs.Listings.{head_letter}
 use Rattle.listing_write.specs.Writing.{stored_text}
 use Rattle.listing_write.specs.inner.Lines.{head_numbers, head_line, row_line, row_lines}

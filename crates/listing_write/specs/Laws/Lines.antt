@@ -1,5 +1,6 @@
 -- The text of a table's listing is its head line and the lines of its live rows, row by row. Assumes nothing.
-use Rattle.listing_write.specs.Laws.Prelude.{ℕ, zero, suc, ◌*◌, ◌≡◌, refl, ap, inl, inr, Bool, true, false, List, ◌++◌, map, map-map, mul-le-mul_right, arith, length, take, drop, ltb-false, split, is_live, Opening, Header, opening_of, row_of_cells, length_rows_in, outside_inside, text_line}
+use Rattle.std.specs.Prelude.{◌*◌, ◌≡◌, ◌++◌}
+use Rattle.listing_write.specs.Laws.Prelude.{ℕ, zero, suc, refl, ap, inl, inr, Bool, true, false, List, map, map-map, mul-le-mul_right, arith, length, take, drop, ltb-false, split, is_live, Opening, Header, opening_of, row_of_cells, length_rows_in, outside_inside, text_line}
 use Rattle.lists.specs.Lists.{rows_of, flatten}
 use Rattle.plain_table.specs.Plain.{Row, live_from}
 use Rattle.table.specs.Refusing.{outside, rows_short}

@@ -1,6 +1,7 @@
 -- The listing of a table is within all bounds of document 02, change 11, if its numbers are within theirs and every cell of a live
 -- row is a u32. Assumes nothing.
-use Rattle.listing_write.specs.Laws.Prelude.{ℕ, suc, ◌+◌, ◌-◌, ◌≤◌, ◌<◌, ◌≡◌, refl, inl, inr, Bool, true, false, cond, not, ◌||◌, false≢true, List, [], ◌∷◌, map, some, arith, leb, eqb, length, get_or, eqb-true, le-leb, lt-ltb, all_head, all_tail, all_cons, or_second, split, Opening, Bounds, RowsFit, fit_none, fit_more, row_of, listing_of_lem}
+use Rattle.std.specs.Prelude.{◌+◌, ◌-◌, ◌≤◌, ◌<◌, ◌≡◌, ◌||◌, ◌∷◌}
+use Rattle.listing_write.specs.Laws.Prelude.{ℕ, suc, refl, inl, inr, Bool, true, false, cond, not, false≢true, List, [], map, some, arith, leb, eqb, length, get_or, eqb-true, le-leb, lt-ltb, all_head, all_tail, all_cons, or_second, split, Opening, Bounds, RowsFit, fit_none, fit_more, row_of, listing_of_lem}
 use Rattle.lists.specs.Lists.{all}
 use Rattle.cells.specs.Cells.{is_dead}
 use Rattle.plain_table.specs.Staged.{openable}

@@ -1,5 +1,6 @@
 -- A listing that is written is read back. Assumes nothing.
-use Rattle.listing_write.specs.Laws.Prelude.{ℕ, ◌≤◌, ◌<◌, ◌≡◌, ap, ◌∙◌, Bool, true, List, [], ◌∷◌, ◌++◌, Option, some, arith, ltb, length, take, lt-ltb, le-ltb, splice, flatten, Header, Written, parses_determined, ListingWritten}
+use Rattle.std.specs.Prelude.{◌≤◌, ◌<◌, ◌≡◌, ◌∷◌, ◌++◌}
+use Rattle.listing_write.specs.Laws.Prelude.{ℕ, ap, ◌∙◌, Bool, true, List, [], Option, some, arith, ltb, length, take, lt-ltb, le-ltb, splice, flatten, Header, Written, parses_determined, ListingWritten}
 use Rattle.std.proofs.Math.Option.{Option-elim}
 use Rattle.refusals.specs.Refusals.{check, first_refusal, Reply, reply}
 use Rattle.listing_spec.specs.Listings.{Listing, are_numbers, ParsesAs, listing_cells, read_refusal, read_words, ListingRead}

@@ -1,6 +1,7 @@
 -- What is written for a table in lent stores: a listing within all bounds; if the stores represent a plain table, the listing of
 -- that table. Assumes nothing.
-use Rattle.listing_write.specs.Laws.Prelude.{ℕ, zero, suc, ◌*◌, ◌≤◌, ◌≡◌, refl, Bool, true, false, not, ◌||◌, List, [], ◌∷◌, map, some, arith, leb, ltb, eqb, length, take, drop, get_or, le-ltb, all_head, all_tail, all_cons, or_right, rows_of_widths, Header, opening_of, Stores, Represents, row_of_cells, length_rows_in, live_shown, outside_inside, represents_inside, represents_long}
+use Rattle.std.specs.Prelude.{◌*◌, ◌≤◌, ◌≡◌, ◌||◌, ◌∷◌}
+use Rattle.listing_write.specs.Laws.Prelude.{ℕ, zero, suc, refl, Bool, true, false, not, List, [], map, some, arith, leb, ltb, eqb, length, take, drop, get_or, le-ltb, all_head, all_tail, all_cons, or_right, rows_of_widths, Header, opening_of, Stores, Represents, row_of_cells, length_rows_in, live_shown, outside_inside, represents_inside, represents_long}
 use Rattle.lists.specs.Lists.{all, rows_of}
 use Rattle.refusals.specs.Refusals.{check, first_refusal}
 use Rattle.cells.specs.Cells.{is_dead}

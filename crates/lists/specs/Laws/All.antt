@@ -1,5 +1,6 @@
 -- Laws of Booleans, and of tests that all elements of a list pass or that one passes. Assumes nothing.
-use Rattle.lists.specs.Laws.Prelude.{ℕ, zero, suc, ◌<◌, suc-le-suc, ◌≡◌, refl, sym, ap, ◌∙◌, ◌⊎◌, inl, inr, Bool, true, false, not, ◌&&◌, ◌||◌, and-true, and_assoc, false≢true, List, [], ◌∷◌, ◌++◌, map, arith, length, get_or}
+use Rattle.std.specs.Prelude.{◌<◌, ◌≡◌, ◌⊎◌, ◌&&◌, ◌||◌, ◌∷◌, ◌++◌}
+use Rattle.lists.specs.Laws.Prelude.{ℕ, zero, suc, suc-le-suc, refl, sym, ap, ◌∙◌, inl, inr, Bool, true, false, not, and-true, and_assoc, false≢true, List, [], map, arith, length, get_or}
 use Rattle.lists.specs.Lists.{filter, count, all, any}
 use Rattle.lists.specs.Laws.Filter.{split, and_left, and_right, filter_all, all_filter}
 

@@ -1,5 +1,6 @@
 -- Laws of the elements that pass a test: which they are, how many, and whether all do. Assumes nothing.
-use Rattle.lists.specs.Laws.Prelude.{ℕ, zero, suc, ◌+◌, ◌≤◌, ◌<◌, suc-le-suc, ◌≡◌, refl, sym, ◌∙◌, ◌⊎◌, inl, inr, Bool, true, false, not, ◌&&◌, List, [], ◌∷◌, ◌++◌, append-nil, zero-add, suc-add, add-one, arith, length, take, get_or, take-suc}
+use Rattle.std.specs.Prelude.{◌+◌, ◌≤◌, ◌<◌, ◌≡◌, ◌⊎◌, ◌&&◌, ◌∷◌, ◌++◌}
+use Rattle.lists.specs.Laws.Prelude.{ℕ, zero, suc, suc-le-suc, refl, sym, ◌∙◌, inl, inr, Bool, true, false, not, List, [], append-nil, zero-add, suc-add, add-one, arith, length, take, get_or, take-suc}
 use Rattle.lists.specs.Lists.{filter, count, all}
 
 -- case distinction on a test, with its value

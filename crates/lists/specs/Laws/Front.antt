@@ -1,5 +1,6 @@
 -- Laws of a list whose first elements are mapped. Assumes nothing.
-use Rattle.lists.specs.Laws.Prelude.{ℕ, zero, suc, ◌+◌, ◌≤◌, ◌<◌, ◌≡◌, refl, ap, List, [], ◌∷◌, add-one, arith, length, drop, get_or, set}
+use Rattle.std.specs.Prelude.{◌+◌, ◌≤◌, ◌<◌, ◌≡◌, ◌∷◌}
+use Rattle.lists.specs.Laws.Prelude.{ℕ, zero, suc, refl, ap, List, [], add-one, arith, length, drop, get_or, set}
 use Rattle.lists.specs.inner.Searching.{map_front}
 
 module _ {A : Type 0} where

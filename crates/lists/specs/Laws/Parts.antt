@@ -1,5 +1,6 @@
 -- Laws of overwriting a part of a list. Assumes nothing.
-use Rattle.lists.specs.Laws.Prelude.{ℕ, zero, suc, ◌+◌, ◌-◌, ◌≤◌, ◌<◌, ◌≡◌, refl, sym, ap, ap₂, ◌∙◌, List, [], ◌∷◌, ◌++◌, append_assoc, append-nil, add-zero, zero-add, suc-add, add-one, arith, length, take, drop, get_or, set, length-append, length-take, length-drop, length-set, take-append-drop, drop_of_length-le, take_all, take-append-le, take_at, drop-append-add, drop_at, drop-drop, take-take, take-nil, get_or-take, get_or-drop, set_split, put_mid}
+use Rattle.std.specs.Prelude.{◌+◌, ◌-◌, ◌≤◌, ◌<◌, ◌≡◌, ◌∷◌, ◌++◌}
+use Rattle.lists.specs.Laws.Prelude.{ℕ, zero, suc, refl, sym, ap, ap₂, ◌∙◌, List, [], append_assoc, append-nil, add-zero, zero-add, suc-add, add-one, arith, length, take, drop, get_or, set, length-append, length-take, length-drop, length-set, take-append-drop, drop_of_length-le, take_all, take-append-le, take_at, drop-append-add, drop_at, drop-drop, take-take, take-nil, get_or-take, get_or-drop, set_split, put_mid}
 use Rattle.lists.specs.Lists.{splice}
 
 module _ {A : Type 0} where

@@ -1,5 +1,6 @@
 -- Laws of rising lists of numbers: consecutive numbers, members, and the result of a search. Assumes nothing.
-use Rattle.lists.specs.Laws.Prelude.{ℕ, zero, suc, ◌+◌, ◌-◌, ◌≤◌, ◌<◌, min, max, suc-le-suc, ◌≡◌, refl, sym, ap, ap₂, ◌∙◌, ◌⊎◌, inl, inr, Bool, true, false, ◌&&◌, ◌||◌, and_assoc, and_comm, and-true, and-false, or_assoc, false≢true, List, [], ◌∷◌, ◌++◌, zero-add, add-zero, suc-add, add-suc, sub-zero, suc-sub-suc, dec_lt, ℕ_discrete, add-one, arith, leb, ltb, eqb, length, take, drop, get_or, ltb-true, leb-true, eqb-true, lt-ltb, le-ltb, le-leb, lt-leb, eq-eqb, ne_eqb}
+use Rattle.std.specs.Prelude.{◌+◌, ◌-◌, ◌≤◌, ◌<◌, ◌≡◌, ◌⊎◌, ◌&&◌, ◌||◌, ◌∷◌, ◌++◌}
+use Rattle.lists.specs.Laws.Prelude.{ℕ, zero, suc, min, max, suc-le-suc, refl, sym, ap, ap₂, ◌∙◌, inl, inr, Bool, true, false, and_assoc, and_comm, and-true, and-false, or_assoc, false≢true, List, [], zero-add, add-zero, suc-add, add-suc, sub-zero, suc-sub-suc, dec_lt, ℕ_discrete, add-one, arith, leb, ltb, eqb, length, take, drop, get_or, ltb-true, leb-true, eqb-true, lt-ltb, le-ltb, le-leb, lt-leb, eq-eqb, ne_eqb}
 use Rattle.lists.specs.Lists.{filter, count, iota, above, rising, elem, within, same}
 use Rattle.lists.specs.Laws.Filter.{split, and_left, and_right, filter_yes, filter_no, count_yes, count_no}
 

@@ -1,5 +1,6 @@
 -- Laws of the rows of a store, and of concatenated lists. Assumes nothing.
-use Rattle.lists.specs.Laws.Prelude.{ℕ, zero, suc, ◌+◌, ◌*◌, ◌≤◌, ◌<◌, ◌≡◌, refl, sym, ap, ap₂, ◌∙◌, ◌≢◌, Bool, true, List, [], ◌∷◌, ◌++◌, append_assoc, add_comm, zero-mul, suc-mul, mul-le-mul_right, dec_lt, ℕ_discrete, add-one, arith, eqb, length, take, drop, get_or, set, length-append, length-take, length-drop, length-set, take_at, take-add, take-take, take-set-le, take-set-lt, drop_at, drop-drop, drop-set-add, drop-set-lt, get_or-take, get_or-drop, get_or-set_same, get_or-set_other, ext_get_or, eqb-true, eq-eqb}
+use Rattle.std.specs.Prelude.{◌+◌, ◌*◌, ◌≤◌, ◌<◌, ◌≡◌, ◌≢◌, ◌∷◌, ◌++◌}
+use Rattle.lists.specs.Laws.Prelude.{ℕ, zero, suc, refl, sym, ap, ap₂, ◌∙◌, Bool, true, List, [], append_assoc, add_comm, zero-mul, suc-mul, mul-le-mul_right, dec_lt, ℕ_discrete, add-one, arith, eqb, length, take, drop, get_or, set, length-append, length-take, length-drop, length-set, take_at, take-add, take-take, take-set-le, take-set-lt, drop_at, drop-drop, drop-set-add, drop-set-lt, get_or-take, get_or-drop, get_or-set_same, get_or-set_other, ext_get_or, eqb-true, eq-eqb}
 use Rattle.lists.specs.Lists.{splice, filter, all, row_at, rows_of, flatten}
 use Rattle.lists.specs.Laws.Parts.{take_drop, take_splice, part_splice}
 use Rattle.lists.specs.Laws.Filter.{and_left, and_right, all_filter_of}

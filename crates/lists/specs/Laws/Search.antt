@@ -1,6 +1,7 @@
 -- Laws of searches in a rising list: the first position whose number is not below t is the count of the numbers below t. Also of
 -- writing results one after another. Assumes nothing.
-use Rattle.lists.specs.Laws.Prelude.{ℕ, zero, suc, ◌+◌, ◌-◌, ◌≤◌, ◌<◌, suc-le-suc, ◌≡◌, refl, sym, ap, ◌∙◌, inl, inr, Bool, true, false, List, [], ◌∷◌, ◌++◌, append-nil, dec_lt, arith, ltb, length, take, drop, get_or, set, length-drop, take-append-drop, get_or-drop, take-append_seam, lt-ltb, le-ltb}
+use Rattle.std.specs.Prelude.{◌+◌, ◌-◌, ◌≤◌, ◌<◌, ◌≡◌, ◌∷◌, ◌++◌}
+use Rattle.lists.specs.Laws.Prelude.{ℕ, zero, suc, suc-le-suc, refl, sym, ap, ◌∙◌, inl, inr, Bool, true, false, List, [], append-nil, dec_lt, arith, ltb, length, take, drop, get_or, set, length-drop, take-append-drop, get_or-drop, take-append_seam, lt-ltb, le-ltb}
 use Rattle.lists.specs.Lists.{splice, filter, count, rising, elem, within}
 use Rattle.lists.specs.inner.Searching.{first_not_below}
 use Rattle.lists.specs.Laws.Parts.{length_splice, splice_then, set_splice}

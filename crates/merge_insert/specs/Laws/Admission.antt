@@ -1,6 +1,7 @@
 -- The sort entry of a row, or the stop of the merge: the result of the tests and of appending an entry, by the number of the stop;
 -- and that a table stops exactly where the plain table that it represents does. Assumes nothing.
-use Rattle.merge_insert.specs.Laws.Prelude.{ℕ, ◌+◌, ◌*◌, ◌≤◌, ◌<◌, ◌≡◌, sym, ap, ◌∙◌, inl, inr, true, false, List, [], ◌∷◌, arith, ltb, length, get_or, le-leb, lt-leb, splice, split, length_splice, splice_alike, entries_of, entry_words, last_passes, push, EntryFits, Append, append_few, words_entries_of, first_refusal_no, first_refusal_rest, Header, largest_view, Stores, Represents, largest_view_largest_of}
+use Rattle.std.specs.Prelude.{◌+◌, ◌*◌, ◌≤◌, ◌<◌, ◌≡◌, ◌∷◌}
+use Rattle.merge_insert.specs.Laws.Prelude.{ℕ, sym, ap, ◌∙◌, inl, inr, true, false, List, [], arith, ltb, length, get_or, le-leb, lt-leb, splice, split, length_splice, splice_alike, entries_of, entry_words, last_passes, push, EntryFits, Append, append_few, words_entries_of, first_refusal_no, first_refusal_rest, Header, largest_view, Stores, Represents, largest_view_largest_of}
 use Rattle.refusals.specs.Refusals.{first_refusal}
 use Rattle.plain_table.specs.Plain.{Plain, stop, below}
 use Rattle.merge_insert.specs.inner.Appending.{stop_at, Enterable, Stops, Entered}

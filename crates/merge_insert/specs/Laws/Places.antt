@@ -1,5 +1,6 @@
 -- Places in the row store. Assumes nothing.
-use Rattle.merge_insert.specs.Laws.Prelude.{ℕ, ◌+◌, ◌*◌, ◌≤◌, ◌<◌, List, mul-le-mul, arith, length, row_in, Fits, Header, full_index_shape_of}
+use Rattle.std.specs.Prelude.{◌+◌, ◌*◌, ◌≤◌, ◌<◌}
+use Rattle.merge_insert.specs.Laws.Prelude.{ℕ, List, mul-le-mul, arith, length, row_in, Fits, Header, full_index_shape_of}
 
 -- a row's place is a number that fits, and its cells are within the store
 pub record Placed (h : Header) (rows : List ℕ) (i : ℕ) : Type 0 where

@@ -1,6 +1,7 @@
 -- One row of a plain table dies: which row a removal removes, and the stores after that. Shared by the removals and by the insert
 -- of a known key. Assumes nothing.
-use Rattle.merge_pending.specs.Laws.Prelude.{ℕ, zero, suc, ◌+◌, ◌*◌, ◌≤◌, ◌<◌, ◌≡◌, refl, sym, ap, ap₂, ◌∙◌, ◌⊎◌, inl, inr, true, false, cond, not, false≢true, List, [], ◌∷◌, ◌++◌, add-one, arith, length, take, get_or, set, length-set, length-take, drop-set-lt, map-set_same, not-true, split, all_get_d, all_of, all_head, all_tail, splice_front, row_in, flatten_rows_of, get_d_rows_of, length_rows_of, LiveAt, key_at, KeysSound, stale_rows, Entry, entry_words, rebuilt, remove_key, remove_row, Proper, row_of, no_row, Thinned, empty, same_row_lem, died, thinned_same, free_row, keys_distinct, keys_distinct_of, keys_distinct_head, keys_distinct_tail, live_below_lem, live_with_key_live, live_with_key_key, openable_bounds, thinned_proper, Header, index_shape_of, Stores, stores, lengths, Represents, Later, Becomes, with_counts, with_dead, stored_again, rows_in_lem, long_stores, checked_rows_stored, represents_long, rows_stored, rows_counted, passes_live, live_passes}
+use Rattle.std.specs.Prelude.{◌+◌, ◌*◌, ◌≤◌, ◌<◌, ◌≡◌, ◌⊎◌, ◌∷◌, ◌++◌}
+use Rattle.merge_pending.specs.Laws.Prelude.{ℕ, zero, suc, refl, sym, ap, ap₂, ◌∙◌, inl, inr, true, false, cond, not, false≢true, List, [], add-one, arith, length, take, get_or, set, length-set, length-take, drop-set-lt, map-set_same, not-true, split, all_get_d, all_of, all_head, all_tail, splice_front, row_in, flatten_rows_of, get_d_rows_of, length_rows_of, LiveAt, key_at, KeysSound, stale_rows, Entry, entry_words, rebuilt, remove_key, remove_row, Proper, row_of, no_row, Thinned, empty, same_row_lem, died, thinned_same, free_row, keys_distinct, keys_distinct_of, keys_distinct_head, keys_distinct_tail, live_below_lem, live_with_key_live, live_with_key_key, openable_bounds, thinned_proper, Header, index_shape_of, Stores, stores, lengths, Represents, Later, Becomes, with_counts, with_dead, stored_again, rows_in_lem, long_stores, checked_rows_stored, represents_long, rows_stored, rows_counted, passes_live, live_passes}
 use Rattle.lists.specs.Lists.{splice, count, all, row_at, rows_of, flatten}
 use Rattle.plain_table.specs.Plain.{Row, Plain, dead_row, with_rows, dead, live_with_key, kill_if, without_key, dies, without_row}
 use Rattle.table.specs.Stores.{entries, header_of, marked, stored, row_store, sort_store}

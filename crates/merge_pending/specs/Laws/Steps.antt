@@ -1,6 +1,7 @@
 -- Laws of the steps of a merge: steps compose, where the pending records are and what their words are, and which removals of the
 -- plain table the passes make. Assumes nothing.
-use Rattle.merge_pending.specs.Laws.Prelude.{ℕ, ◌+◌, ◌*◌, ◌≤◌, ◌<◌, ◌≡◌, refl, sym, ap, ap₂, ◌∙◌, inl, inr, true, false, not, List, [], ◌∷◌, ◌++◌, map, dec_lt, add-zero, zero-add, mul-le-mul_right, arith, length, take, drop, get_or, length-take, take_at, drop_at, take-take, drop-drop, get_or-take, get_or-drop, set-set, ext_get_or, not-true, split, all_head, all_tail, take_drop, splice_over, splice_front, widths, length_rows_of, get_d_rows_of, length_flatten, rows_of_put_flatten, flatten_rows_of, entry_words, length_words, words_entries_of, rebuilt_front, Plain, wrong_width, row_of, live_below_lem, Header, opening_of, Stores, Represents, length_stored, stored_widths, stored_at_live, stored_at_dead, stored_at_new, entries_few, rows_in_lem, wide_rows, represents_long, rows_stored, rows_counted, live_cells_lem, length_record_words, sort_cells, length_sort_cells, get_d_sort_cells}
+use Rattle.std.specs.Prelude.{◌+◌, ◌*◌, ◌≤◌, ◌<◌, ◌≡◌, ◌∷◌, ◌++◌}
+use Rattle.merge_pending.specs.Laws.Prelude.{ℕ, refl, sym, ap, ap₂, ◌∙◌, inl, inr, true, false, not, List, [], map, dec_lt, add-zero, zero-add, mul-le-mul_right, arith, length, take, drop, get_or, length-take, take_at, drop_at, take-take, drop-drop, get_or-take, get_or-drop, set-set, ext_get_or, not-true, split, all_head, all_tail, take_drop, splice_over, splice_front, widths, length_rows_of, get_d_rows_of, length_flatten, rows_of_put_flatten, flatten_rows_of, entry_words, length_words, words_entries_of, rebuilt_front, Plain, wrong_width, row_of, live_below_lem, Header, opening_of, Stores, Represents, length_stored, stored_widths, stored_at_live, stored_at_dead, stored_at_new, entries_few, rows_in_lem, wide_rows, represents_long, rows_stored, rows_counted, live_cells_lem, length_record_words, sort_cells, length_sort_cells, get_d_sort_cells}
 use Rattle.lists.specs.Lists.{rows_of, flatten}
 use Rattle.plain_table.specs.Staged.{Opening, Staged, insert, remove_key, remove_row, words_of, words_all}
 use Rattle.table.specs.Stores.{entries, marked, stored, row_store, sort_store, record_words}

@@ -1,6 +1,7 @@
 -- Cells as signed numbers (document 02, change 4). Each cell encodes one number from minus 2147483648 to 2147483647, and each such
 -- number has one cell. Their order is that of the numbers plus 2147483648. Assumes nothing.
-use Rattle.merge_rules.specs.Laws.Prelude.{ℕ, suc, ◌+◌, ◌-◌, ◌%◌, ◌≤◌, ◌<◌, ◌≡◌, refl, sym, ap, ◌∙◌, subst, Bool, true, false, dec_lt, arith, ltb, leb→le, le→leb, ℤ, pos, negsuc, lt_z, ◌≤ℤ◌, le_z_yes, lt-ltb, le-ltb}
+use Rattle.std.specs.Prelude.{◌+◌, ◌-◌, ◌%◌, ◌≤◌, ◌<◌, ◌≡◌, ◌≤ℤ◌}
+use Rattle.merge_rules.specs.Laws.Prelude.{ℕ, suc, refl, sym, ap, ◌∙◌, subst, Bool, true, false, dec_lt, arith, ltb, leb→le, le→leb, ℤ, pos, negsuc, lt_z, le_z_yes, lt-ltb, le-ltb}
 use Rattle.std.specs.Int.{w32}
 use mir.Val.{to_z, of_z, sel}
 use Rattle.std.proofs.Math.Facts.{of_z-to_z}

@@ -1,7 +1,8 @@
 -- Laws of decoding an answer, and of what it writes. A refused answer writes nothing, an accepted one at most the ids of its
 -- subset, and an intersection no more than its output has room for. Every reply has an answer. The members of an accepted
 -- intersection. Assumes nothing.
-use Rattle.offsets.specs.Laws.Prelude.{ℕ, zero, suc, ◌≤◌, ◌<◌, ◌≡◌, refl, sym, ap, ◌∙◌, inl, inr, Bool, true, false, List, [], ◌∷◌, dec_lt, arith, length, take, length-take, lt-ltb, le-ltb, splice, filter, elem, within, splice_nil, split, length_filter, count_le}
+use Rattle.std.specs.Prelude.{◌≤◌, ◌<◌, ◌≡◌, ◌∷◌}
+use Rattle.offsets.specs.Laws.Prelude.{ℕ, zero, suc, refl, sym, ap, ◌∙◌, inl, inr, Bool, true, false, List, [], dec_lt, arith, length, take, length-take, lt-ltb, le-ltb, splice, filter, elem, within, splice_nil, split, length_filter, count_le}
 use Rattle.refusals.specs.Refusals.{first_refusal, Reply, refused, accepted, reply}
 use Rattle.offsets.specs.declared.SubsetAnswer.{SubsetAnswer}
 use Rattle.offsets.specs.declared.SubsetAnswer.TheVariants.{Refused, Range, List as Ids}

@@ -1,6 +1,7 @@
 -- Subsets by their two forms, as code distinguishes them: size, ends and members of each, and the results of `retain` and
 -- `narrowed`. Crates above use only these laws and the set laws of a subset. Assumes nothing.
-use Rattle.offsets.specs.Laws.Prelude.{ℕ, ◌+◌, ◌-◌, ◌≤◌, ◌<◌, ◌≡◌, refl, sym, ap, ◌∙◌, Bool, true, false, List, [], ◌∷◌, Option, none, some, length, get_or, le-leb, filter, all, elem, within, length_iota, get_d_iota, elem_iota}
+use Rattle.std.specs.Prelude.{◌+◌, ◌-◌, ◌≤◌, ◌<◌, ◌≡◌, ◌∷◌}
+use Rattle.offsets.specs.Laws.Prelude.{ℕ, refl, sym, ap, ◌∙◌, Bool, true, false, List, [], Option, none, some, length, get_or, le-leb, filter, all, elem, within, length_iota, get_d_iota, elem_iota}
 use Rattle.offsets.specs.Subsets.{Subset, range, list, well_formed, members, size, end_of, shaped, retain, narrowed}
 use Rattle.offsets.specs.declared.BoundsAnswer.{BoundsAnswer}
 use Rattle.offsets.specs.declared.BoundsAnswer.TheVariants.{None as NoEnds, Ends as BothEnds}

@@ -1,7 +1,7 @@
 -- The set laws of subsets: what crates above this one may use of `intersect`, `retain` and `narrowed`; the reply that an answer
 -- encodes once its ids are written; and that a reply determines the answer. Assumes nothing.
-use Rattle.std.specs.Prelude.{◌≢◌}
-use Rattle.offsets.specs.Laws.Prelude.{ℕ, zero, suc, ◌+◌, ◌-◌, ◌≤◌, ◌<◌, min, max, ◌≡◌, refl, sym, ap, ◌∙◌, ◌⊎◌, inl, inr, Bool, true, false, List, [], ◌∷◌, dec_lt, arith, length, take, get_or, length-take, length-append, leb-true, le-leb, splice_nil, split, and_left, and_right, filter_same, filter_all, length_filter, count_le, same_refl, same_eq, same_ne, length_iota, get_d_iota, rising_filter, rising_iota, rising_at, elem_iota, filter_elem_comm, filter_within_iota, take_put, Reply, accepted, Same}
+use Rattle.std.specs.Prelude.{◌≢◌, ◌+◌, ◌-◌, ◌≤◌, ◌<◌, ◌≡◌, ◌⊎◌, ◌∷◌}
+use Rattle.offsets.specs.Laws.Prelude.{ℕ, zero, suc, min, max, refl, sym, ap, ◌∙◌, inl, inr, Bool, true, false, List, [], dec_lt, arith, length, take, get_or, length-take, length-append, leb-true, le-leb, splice_nil, split, and_left, and_right, filter_same, filter_all, length_filter, count_le, same_refl, same_eq, same_ne, length_iota, get_d_iota, rising_filter, rising_iota, rising_at, elem_iota, filter_elem_comm, filter_within_iota, take_put, Reply, accepted, Same}
 use Rattle.lists.specs.Lists.{splice, filter, all, iota, rising, elem, within, same}
 use Rattle.offsets.specs.declared.SubsetHead.{SubsetHead}
 use Rattle.offsets.specs.declared.SubsetAnswer.{SubsetAnswer}

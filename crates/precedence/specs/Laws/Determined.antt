@@ -1,5 +1,6 @@
 -- The contract determines the outcome. Assumes nothing.
-use Rattle.precedence.specs.Laws.Prelude.{ℕ, ◌≡◌, sym, ap, ap₂, ◌∙◌, List, length, SameAnswer, answer_same, Header, KnownKeys, PrecedenceAnswer, Refused, Met, Fails}
+use Rattle.std.specs.Prelude.{◌≡◌}
+use Rattle.precedence.specs.Laws.Prelude.{ℕ, sym, ap, ap₂, ◌∙◌, List, length, SameAnswer, answer_same, Header, KnownKeys, PrecedenceAnswer, Refused, Met, Fails}
 use Rattle.precedence.specs.Precedence.{Failure, precedence_refusal, precedence_view, PrecedenceChecked}
 
 pub precedence_view_injective : (a b : PrecedenceAnswer) → precedence_view a ≡ precedence_view b → a ≡ b

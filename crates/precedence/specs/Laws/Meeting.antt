@@ -1,6 +1,7 @@
 -- What the answer implies for each live row and pair; that equal values are met; and that the check of the lent rows is the check
 -- of the plain table that the stores represent. Assumes nothing.
-use Rattle.precedence.specs.Laws.Prelude.{ℕ, zero, suc, ◌+◌, ◌≤◌, ◌<◌, ◌≡◌, refl, sym, ap, ap₂, ◌∙◌, ◌⊎◌, inl, inr, Bool, true, false, not, ◌&&◌, ◌||◌, false≢true, List, [], ◌∷◌, Option, none, some, arith, eqb, length, get_or, eqb-true, leb-true, eq-eqb, le-leb, any, same, split, and_left, and_right, or_right, or_second, same_refl, same_eq, accepted, Opening, row_of, sort_cell, no_row, Header, opening_of, stores, Represents, of_rows, represents_sound, live_shown, PrecedenceAnswer}
+use Rattle.std.specs.Prelude.{◌+◌, ◌≤◌, ◌<◌, ◌≡◌, ◌⊎◌, ◌&&◌, ◌||◌, ◌∷◌}
+use Rattle.precedence.specs.Laws.Prelude.{ℕ, zero, suc, refl, sym, ap, ap₂, ◌∙◌, inl, inr, Bool, true, false, not, false≢true, List, [], Option, none, some, arith, eqb, length, get_or, eqb-true, leb-true, eq-eqb, le-leb, any, same, split, and_left, and_right, or_right, or_second, same_refl, same_eq, accepted, Opening, row_of, sort_cell, no_row, Header, opening_of, stores, Represents, of_rows, represents_sound, live_shown, PrecedenceAnswer}
 use Rattle.plain_table.specs.Plain.{Row, Plain, Numbered, live_from, live_rows}
 use Rattle.precedence.specs.Precedence.{Pair, pairs_of, other_key_cells, precedes, meets_pair, first_failing, Failure, failure_among, precedence_failure, precedence_refusal, precedence_view, PrecedenceChecked}
 use Rattle.precedence.specs.Laws.Scan.{any_live_lem, live_any, fails_here, fails_later, failing_pair, failure_here, failure_later, failure_dead}

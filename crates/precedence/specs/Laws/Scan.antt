@@ -1,5 +1,6 @@
 -- The scans of the check, one row or pair at a time; and the row that is needed, found by its key. Assumes nothing.
-use Rattle.precedence.specs.Laws.Prelude.{ℕ, zero, suc, ◌+◌, ◌*◌, ◌/◌, ◌≤◌, ◌<◌, ◌≡◌, refl, sym, ap₂, ◌∙◌, inl, inr, Bool, true, false, ◌&&◌, ◌||◌, false≢true, List, [], ◌∷◌, ◌++◌, Option, none, some, suc-add, arith, eqb, length, take, drop, get_or, set, length-take, get_or-take, split, or_right, no_row}
+use Rattle.std.specs.Prelude.{◌+◌, ◌*◌, ◌/◌, ◌≤◌, ◌<◌, ◌≡◌, ◌&&◌, ◌||◌, ◌∷◌, ◌++◌}
+use Rattle.precedence.specs.Laws.Prelude.{ℕ, zero, suc, refl, sym, ap₂, ◌∙◌, inl, inr, Bool, true, false, false≢true, List, [], Option, none, some, suc-add, arith, eqb, length, take, drop, get_or, set, length-take, get_or-take, split, or_right, no_row}
 use Rattle.lists.specs.Lists.{any, same}
 use Rattle.plain_table.specs.Staged.{has_key}
 use Rattle.plain_table.specs.Plain.{Row, Plain, live_from}

@@ -1,5 +1,6 @@
 -- Laws of the entries that a link refers to, and of an entry pushed. Assumes nothing.
-use Rattle.refresh_index.specs.Laws.Prelude.{ℕ, zero, suc, ◌+◌, ◌-◌, ◌≤◌, ◌<◌, ◌≡◌, refl, ap, ◌∙◌, ◌≢◌, true, false≢true, List, [], ◌∷◌, add-zero, ℕ_discrete, add-one, arith, length, get_or, set, get_or-set_same, get_or-set_other, lt-length-set, elem_here, elem_there, chain_here, chain_below, chain_same}
+use Rattle.std.specs.Prelude.{◌+◌, ◌-◌, ◌≤◌, ◌<◌, ◌≡◌, ◌≢◌, ◌∷◌}
+use Rattle.refresh_index.specs.Laws.Prelude.{ℕ, zero, suc, refl, ap, ◌∙◌, true, false≢true, List, [], add-zero, ℕ_discrete, add-one, arith, length, get_or, set, get_or-set_same, get_or-set_other, lt-length-set, elem_here, elem_there, chain_here, chain_below, chain_same}
 use Rattle.lists.specs.Lists.{elem}
 use Rattle.refresh_spec.specs.Index.{chain}
 use Rattle.refresh_index.specs.inner.Entries.{pushed}

@@ -1,5 +1,6 @@
 -- The rows that a store refers to are live, were seen and mention a value; and an index refers to all of those. Assumes nothing.
-use Rattle.refresh_index.specs.Laws.Prelude.{ℕ, ◌≤◌, ◌≡◌, refl, true, ◌&&◌, List, arith, ltb, get_or, ltb-true, lt-ltb, row_at, elem, and_left, and_right, any_at, any_of, elem_at, elem_of, is_live, Header, rows_seen, entries_under, leads, IndexOf, Names, RowHolds, leads_holds, holds_leads}
+use Rattle.std.specs.Prelude.{◌≤◌, ◌≡◌, ◌&&◌}
+use Rattle.refresh_index.specs.Laws.Prelude.{ℕ, refl, true, List, arith, ltb, get_or, ltb-true, lt-ltb, row_at, elem, and_left, and_right, any_at, any_of, elem_at, elem_of, is_live, Header, rows_seen, entries_under, leads, IndexOf, Names, RowHolds, leads_holds, holds_leads}
 use Rattle.plain_table.specs.Refreshing.{mentions}
 use Rattle.refresh_spec.specs.inner.Finding.{mentions_at, mentions_below}
 use Rattle.refresh_index.specs.inner.Marking.{found}

@@ -1,5 +1,6 @@
 -- What is known of an index store that a refresh continues with. Assumes nothing.
-use Rattle.refresh_index.specs.Laws.Prelude.{ℕ, ◌*◌, ◌≤◌, ◌≡◌, true, ◌&&◌, List, leb, eqb, length, take, drop, get_or, leb-true, eqb-true, eq-eqb, le-leb, le-ltb, same, and_left, and_right, same_eq, same_refl, Header, Names}
+use Rattle.std.specs.Prelude.{◌*◌, ◌≤◌, ◌≡◌, ◌&&◌}
+use Rattle.refresh_index.specs.Laws.Prelude.{ℕ, true, List, leb, eqb, length, take, drop, get_or, leb-true, eqb-true, eq-eqb, le-leb, le-ltb, same, and_left, and_right, same_eq, same_refl, Header, Names}
 use Rattle.plain_table.specs.Refreshing.{index_short}
 use Rattle.refresh_spec.specs.Index.{is_new, generation_seen, rows_seen, columns_named, named_in, starts_afresh, IndexOf, IndexSound}
 use Rattle.refresh_spec.specs.inner.Finding.{Lendable, usable}

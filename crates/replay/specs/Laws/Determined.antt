@@ -2,7 +2,8 @@
 -- except for the program's choices: in a table the key store's slots below 2 × capacity, after a compaction the compaction words
 -- needed, and after a refresh the index words needed. With another index store, it is also open which of the rows that mention a
 -- value are staged. Assumes nothing.
-use Rattle.replay.specs.Laws.Prelude.{ℕ, ◌*◌, ◌+◌, ◌<◌, ◌≡◌, refl, sym, ap, ◌∙◌, ◌⊎◌, inl, inr, true, false, List, [], map, arith, length, any, some_number, refused_same, Opening, open_refusal, opened, LentCall, after_all, Header, TableAnswer, Refused, Table, Stores, Body, stores, joined, CompactionWords, lengths, Represents, SamePast, WordsPast, table_view_injective, is_new, IndexSound, Steps, steps_represents, SameCells, steps_determined, Request, is_refresh, requested, served_steps, compactions, MadeFrom, Replayed}
+use Rattle.std.specs.Prelude.{◌*◌, ◌+◌, ◌<◌, ◌≡◌, ◌⊎◌}
+use Rattle.replay.specs.Laws.Prelude.{ℕ, refl, sym, ap, ◌∙◌, inl, inr, true, false, List, [], map, arith, length, any, some_number, refused_same, Opening, open_refusal, opened, LentCall, after_all, Header, TableAnswer, Refused, Table, Stores, Body, stores, joined, CompactionWords, lengths, Represents, SamePast, WordsPast, table_view_injective, is_new, IndexSound, Steps, steps_represents, SameCells, steps_determined, Request, is_refresh, requested, served_steps, compactions, MadeFrom, Replayed}
 use Rattle.refusals.specs.Refusals.{accepted, reply, outcome}
 use Rattle.table.specs.Numbers.{table_view}
 use Rattle.replay.specs.Laws.Theorem.{replay_starts, replay_slots, replay_index_past, replay_index_kept, replay_requested, replay_index, calls_lent}

@@ -1,5 +1,6 @@
 -- The request of each kind. Assumes nothing.
-use Rattle.replay.specs.Laws.CallPrelude.{ℕ, suc, ◌+◌, ◌-◌, ◌≤◌, ◌<◌, ◌≡◌, refl, sym, ap, ◌∙◌, List, [], ◌∷◌, arith, length, take, drop, get_or, ne_eqb, lt-ltb, le-ltb, part_to_end, insert, remove_key, remove_row, Refresh, staging, merging, compacting, clearing, make, refresh}
+use Rattle.std.specs.Prelude.{◌+◌, ◌-◌, ◌≤◌, ◌<◌, ◌≡◌, ◌∷◌}
+use Rattle.replay.specs.Laws.CallPrelude.{ℕ, suc, refl, sym, ap, ◌∙◌, List, [], arith, length, take, drop, get_or, ne_eqb, lt-ltb, le-ltb, part_to_end, insert, remove_key, remove_row, Refresh, staging, merging, compacting, clearing, make, refresh}
 use Rattle.replay.specs.Encoding.{row_removal, refresh_in, request_of}
 
 module _ (kind : ℕ) (words : List ℕ) where

@@ -1,5 +1,6 @@
 -- Requests executed one after another, and the step of each. Assumes nothing.
-use Rattle.replay.specs.Laws.CallPrelude.{ℕ, ◌+◌, ◌≡◌, refl, sym, ap, ◌∙◌, inl, inr, List, [], ◌∷◌, ◌++◌, map-append, arith, some_number, Staged, Refresh, onward_all, accepted_done, Header, TableAnswer, MergeAnswer, table_view, merge_view, merge_refusal, compact_refusal, Stores, stores, body, CompactionWords, compaction_words, lengths, Represents, WordsPast, Staging, Merging, Compacting, Clearing, merge_checks_lem, compact_checks_lem, RefreshAnswer, refresh_view, Refreshing, index_decided, steps_represents, Request, make, refresh, lent_to, Served, made, refreshed, refreshed_unsound, end, next, Made, MadeOnPending, MadeOnIndex}
+use Rattle.std.specs.Prelude.{◌+◌, ◌≡◌, ◌∷◌, ◌++◌}
+use Rattle.replay.specs.Laws.CallPrelude.{ℕ, refl, sym, ap, ◌∙◌, inl, inr, List, [], map-append, arith, some_number, Staged, Refresh, onward_all, accepted_done, Header, TableAnswer, MergeAnswer, table_view, merge_view, merge_refusal, compact_refusal, Stores, stores, body, CompactionWords, compaction_words, lengths, Represents, WordsPast, Staging, Merging, Compacting, Clearing, merge_checks_lem, compact_checks_lem, RefreshAnswer, refresh_view, Refreshing, index_decided, steps_represents, Request, make, refresh, lent_to, Served, made, refreshed, refreshed_unsound, end, next, Made, MadeOnPending, MadeOnIndex}
 use Rattle.plain_table.specs.Refusing.{Lengths, stores_short, words_short, compact_checks}
 use Rattle.plain_table.specs.Plain.{Plain, merged, compacted}
 use Rattle.plain_table.specs.Appending.{merge_or_clear}

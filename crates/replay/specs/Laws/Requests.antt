@@ -1,7 +1,7 @@
 -- Requests executed one after another: they are steps of a history; their effect on the index store; and that with a new index
 -- store the calls are those requested. Assumes nothing.
-use Rattle.replay.specs.Laws.CallPrelude.{ℕ, ◌+◌, ◌*◌, ◌-◌, ◌≤◌, ◌≡◌, refl, sym, ap, ◌∙◌, inl, inr, true, false, false≢true, List, [], ◌∷◌, ◌++◌, map, append-nil, mul-le-mul_left, arith, length, drop, drop-drop, ltb-false, or_no_left, or_no_right, some_number, Opening, Lengths, Plain, first_refusal_no, first_refusal_rest, onward_all, Header, Stores, body, Represents, RefreshAnswer, is_new, IndexSound, number, OwnIndex, adopted, other_call, refreshes, step_represents, own_indexes_sound, behind_nothing, whole_step}
-use Rattle.std.specs.Prelude.{Bool}
+use Rattle.replay.specs.Laws.CallPrelude.{ℕ, refl, sym, ap, ◌∙◌, inl, inr, true, false, false≢true, List, [], map, append-nil, mul-le-mul_left, arith, length, drop, drop-drop, ltb-false, or_no_left, or_no_right, some_number, Opening, Lengths, Plain, first_refusal_no, first_refusal_rest, onward_all, Header, Stores, body, Represents, RefreshAnswer, is_new, IndexSound, number, OwnIndex, adopted, other_call, refreshes, step_represents, own_indexes_sound, behind_nothing, whole_step}
+use Rattle.std.specs.Prelude.{Bool, ◌+◌, ◌*◌, ◌-◌, ◌≤◌, ◌≡◌, ◌∷◌, ◌++◌}
 use Rattle.lists.specs.Lists.{any}
 use Rattle.plain_table.specs.Refreshing.{Refresh, refresh_checks}
 use Rattle.plain_table.specs.Calls.{Call, refreshing, after_all, LentCall}

@@ -1,5 +1,6 @@
 -- An opening and the requests after it are a history, so term 3 of the order holds for the resulting stores. Assumes nothing.
-use Rattle.replay.specs.Laws.Prelude.{ℕ, zero, suc, ◌+◌, ◌*◌, ◌<◌, ◌≡◌, refl, ap, ◌∙◌, ◌⊎◌, inl, inr, true, false, List, [], map, arith, length, any, Opening, open_refusal, Call, LentCall, after_all, Header, TableAnswer, Refused, Table, header_of, Stores, Body, body, stores, joined, CompactionWords, lengths, Represents, SamePast, Opened, accepted_number, opening_done, is_new, IndexSound, end, History, Claimed, history_whole, term_three, Request, is_refresh, requested, lent_all, Made, served_steps, slots_past, index_unused, index_past, calls_requested, calls_plain, index_sound, MadeFrom, Replayed}
+use Rattle.std.specs.Prelude.{◌+◌, ◌*◌, ◌<◌, ◌≡◌, ◌⊎◌}
+use Rattle.replay.specs.Laws.Prelude.{ℕ, zero, suc, refl, ap, ◌∙◌, inl, inr, true, false, List, [], map, arith, length, any, Opening, open_refusal, Call, LentCall, after_all, Header, TableAnswer, Refused, Table, header_of, Stores, Body, body, stores, joined, CompactionWords, lengths, Represents, SamePast, Opened, accepted_number, opening_done, is_new, IndexSound, end, History, Claimed, history_whole, term_three, Request, is_refresh, requested, lent_all, Made, served_steps, slots_past, index_unused, index_past, calls_requested, calls_plain, index_sound, MadeFrom, Replayed}
 use Rattle.refusals.specs.Refusals.{Reply, refused, reply, outcome}
 use Rattle.plain_table.specs.Plain.{opened}
 use Rattle.table.specs.Numbers.{table_view}

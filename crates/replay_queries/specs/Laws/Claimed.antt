@@ -1,6 +1,7 @@
 -- The result of `run_queries` is that of a run, so the claim of the order's term 3 holds for it; and if the sort entries are sound, it is
 -- determined by the stores and the queries alone. Assumes nothing.
-use Rattle.replay_queries.specs.Laws.Prelude.{ℕ, ◌≡◌, refl, sym, ◌∙◌, inl, inr, true, Option, none, some, List, [], ◌∷◌, ◌++◌, arith, length, replicate, length-replicate, take-length, filter, rising, Reply, refused, accepted, reply, some_number, ruled_refused, Constraint, entries_of, entries_sound, Opening, LentCall, Header, RangeAnswer, range_view, fast_refusal, Stores, stores, fast_subset, RangeRead, reply_refused, reply_accepted, History, wanted, by_reply_lem, term_three, RunAnswer, shorter, RunMade}
+use Rattle.std.specs.Prelude.{◌≡◌, ◌∷◌, ◌++◌}
+use Rattle.replay_queries.specs.Laws.Prelude.{ℕ, refl, sym, ◌∙◌, inl, inr, true, Option, none, some, List, [], arith, length, replicate, length-replicate, take-length, filter, rising, Reply, refused, accepted, reply, some_number, ruled_refused, Constraint, entries_of, entries_sound, Opening, LentCall, Header, RangeAnswer, range_view, fast_refusal, Stores, stores, fast_subset, RangeRead, reply_refused, reply_accepted, History, wanted, by_reply_lem, term_three, RunAnswer, shorter, RunMade}
 use Rattle.std.proofs.Math.Option.{Option·elim}
 use Rattle.refusals.specs.Refusals.{if_accepted}
 use Rattle.offsets.specs.Subsets.{Subset, members}

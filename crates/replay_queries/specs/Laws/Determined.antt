@@ -1,7 +1,8 @@
 -- The contract of `run_queries` determines the outcome: on a table, the ids left in their form and order, whether an accepted query
 -- refined, how many were taken, and everything that is never written. Which lent list has the ids is the program's choice.
 -- Assumes nothing.
-use Rattle.replay_queries.specs.Laws.Prelude.{ℕ, ◌≡◌, sym, ap, ◌∙◌, true, List, drop, any, entries_of, entries_sound, Header, Query, refines, Outcome, RunAnswer, subset_left, shorter, RunMade}
+use Rattle.std.specs.Prelude.{◌≡◌}
+use Rattle.replay_queries.specs.Laws.Prelude.{ℕ, sym, ap, ◌∙◌, true, List, drop, any, entries_of, entries_sound, Header, Query, refines, Outcome, RunAnswer, subset_left, shorter, RunMade}
 use Rattle.offsets.specs.Subsets.{Subset}
 use Rattle.replay_queries.specs.Laws.Claimed.{made_leaves}
 

@@ -1,5 +1,6 @@
 -- One query run on the ids left, and one after another. Assumes nothing.
-use Rattle.replay_queries.specs.Laws.Prelude.{ℕ, ◌≤◌, ◌<◌, ◌≡◌, refl, List, ◌++◌, append_assoc, arith, length, take, ne_eqb, Header, Query, Outcome, RunAnswer, Executed, QueryExecuted}
+use Rattle.std.specs.Prelude.{◌≤◌, ◌<◌, ◌≡◌, ◌++◌}
+use Rattle.replay_queries.specs.Laws.Prelude.{ℕ, refl, List, append_assoc, arith, length, take, ne_eqb, Header, Query, Outcome, RunAnswer, Executed, QueryExecuted}
 use Rattle.offsets.specs.declared.SubsetHead.{SubsetHead}
 use Rattle.offsets.specs.Subsets.{Subset}
 use Rattle.offsets.specs.Answers.{subset_of}

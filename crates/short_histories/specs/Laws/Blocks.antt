@@ -1,5 +1,6 @@
 -- The sequences of each length, and of all lengths up to a given one, place by place. Assumes nothing.
-use Rattle.short_histories.specs.Laws.Prelude.{ℕ, zero, suc, ◌+◌, ◌-◌, ◌*◌, ◌/◌, ◌%◌, ◌≤◌, ◌<◌, ◌≡◌, refl, sym, ap, ◌∙◌, List, [], ◌∷◌, ◌++◌, map, append_assoc, append-nil, zero-mul, suc-mul, zero-add, add-zero, mod-lt, div-add-mod', div-lt_iff_lt-mul, dec_lt, arith, ltb, length, get_or, length-map, length-append, List·getD-append, get_or-append-add, ltb-true, lt-ltb, all_head, all_tail, all_cons, get_d_map_below}
+use Rattle.std.specs.Prelude.{◌+◌, ◌-◌, ◌*◌, ◌/◌, ◌%◌, ◌≤◌, ◌<◌, ◌≡◌, ◌∷◌, ◌++◌}
+use Rattle.short_histories.specs.Laws.Prelude.{ℕ, zero, suc, refl, sym, ap, ◌∙◌, List, [], map, append_assoc, append-nil, zero-mul, suc-mul, zero-add, add-zero, mod-lt, div-add-mod', div-lt_iff_lt-mul, dec_lt, arith, ltb, length, get_or, length-map, length-append, List·getD-append, get_or-append-add, ltb-true, lt-ltb, all_head, all_tail, all_cons, get_d_map_below}
 use Rattle.lists.specs.Lists.{all, flatten, iota}
 use Rattle.short_histories.specs.Sequences.{sequences, short_histories}
 use Rattle.short_histories.specs.Laws.Numbers.{Steps, many, shorter, value, number, many_some, value_below, shorter_rises}

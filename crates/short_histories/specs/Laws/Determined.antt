@@ -1,5 +1,6 @@
 -- Each contract determines the outcome. Assumes nothing.
-use Rattle.short_histories.specs.Laws.Prelude.{ℕ, ◌≡◌, refl, sym, ap, ◌∙◌, ⊎_elim, List, Option, none, some, get_or, Reply, refused, accepted, some_number, Same, insert, remove_key, remove_row, Call, staging, merging, compacting, clearing, refreshing, feeding, StepAnswer, PositionAnswer, SequenceAnswer}
+use Rattle.std.specs.Prelude.{◌≡◌}
+use Rattle.short_histories.specs.Laws.Prelude.{ℕ, refl, sym, ap, ◌∙◌, ⊎_elim, List, Option, none, some, get_or, Reply, refused, accepted, some_number, Same, insert, remove_key, remove_row, Call, staging, merging, compacting, clearing, refreshing, feeding, StepAnswer, PositionAnswer, SequenceAnswer}
 use Rattle.short_histories.specs.declared.StepAnswer.TheVariants.{Refused as StepRefused, Insert, Remove, Merge}
 use Rattle.short_histories.specs.declared.PositionAnswer.TheVariants.{Refused as PositionRefused, Position}
 use Rattle.short_histories.specs.declared.SequenceAnswer.TheVariants.{Refused as SequenceRefused, None as NoSequence, Written}

@@ -1,6 +1,7 @@
 -- The generator, started at the empty sequence, generates the sequences of positions 0, 1, 2 and so on to the last, and then none.
 -- Assumes nothing.
-use Rattle.short_histories.specs.Laws.Prelude.{ℕ, zero, suc, ◌≤◌, ◌<◌, ◌≡◌, refl, sym, ap, ◌∙◌, List, [], add-one, dec_lt, arith, length, take, splice, take_put, Same, SequenceAnswer, Refused, None, Written, position_of, sequence_at, SequenceFound, NextFound}
+use Rattle.std.specs.Prelude.{◌≤◌, ◌<◌, ◌≡◌}
+use Rattle.short_histories.specs.Laws.Prelude.{ℕ, zero, suc, refl, sym, ap, ◌∙◌, List, [], add-one, dec_lt, arith, length, take, splice, take_put, Same, SequenceAnswer, Refused, None, Written, position_of, sequence_at, SequenceFound, NextFound}
 use Rattle.short_histories.specs.Laws.Positions.{known_short, sequence_at_known, position_of_sequence_at, sequence_at_none}
 use Rattle.short_histories.specs.Laws.Refusals.{sequence_no_room, sequence_written, next_none, next_written}
 use Rattle.short_histories.specs.Laws.Determined.{sequence_determined}

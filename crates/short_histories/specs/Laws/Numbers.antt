@@ -1,6 +1,7 @@
 -- Sequences of steps as numbers: the place among those of the same length is the number in base 7, the place among all is the
 -- number in base 7 with the digits 1 to 7. Assumes nothing.
-use Rattle.short_histories.specs.Laws.Prelude.{ℕ, zero, suc, ◌+◌, ◌*◌, ◌≤◌, ◌<◌, ◌≡◌, refl, sym, ap, ◌∙◌, true, List, [], ◌∷◌, ◌++◌, mul-le-mul_right, mul_assoc, mul_comm, dec_lt, arith, ltb, length, length-append, ltb-true, all, all_head, all_tail}
+use Rattle.std.specs.Prelude.{◌+◌, ◌*◌, ◌≤◌, ◌<◌, ◌≡◌, ◌∷◌, ◌++◌}
+use Rattle.short_histories.specs.Laws.Prelude.{ℕ, zero, suc, refl, sym, ap, ◌∙◌, true, List, [], mul-le-mul_right, mul_assoc, mul_comm, dec_lt, arith, ltb, length, length-append, ltb-true, all, all_head, all_tail}
 
 -- each is one of the seven steps
 abbrev pub Steps : List ℕ → Type 0

@@ -1,5 +1,6 @@
 -- Positions are in document 02's order. Assumes nothing.
-use Rattle.short_histories.specs.Laws.Prelude.{ℕ, suc, ◌+◌, ◌*◌, ◌≤◌, ◌<◌, ◌≡◌, refl, sym, ap, ap₂, ◌∙◌, Bool, true, false, ◌&&◌, ◌||◌, List, [], ◌∷◌, dec_lt, arith, ltb, eqb, length, lt-ltb, le-ltb, eq-eqb, ne_eqb, all_tail, row_in, position_of, known}
+use Rattle.std.specs.Prelude.{◌+◌, ◌*◌, ◌≤◌, ◌<◌, ◌≡◌, ◌&&◌, ◌||◌, ◌∷◌}
+use Rattle.short_histories.specs.Laws.Prelude.{ℕ, suc, refl, sym, ap, ap₂, ◌∙◌, Bool, true, false, List, [], dec_lt, arith, ltb, eqb, length, lt-ltb, le-ltb, eq-eqb, ne_eqb, all_tail, row_in, position_of, known}
 use Rattle.short_histories.specs.Laws.Numbers.{Steps, many, shorter, value, number, value_below, shorter_rises}
 use Rattle.short_histories.specs.Laws.Positions.{known_steps, position_number}
 

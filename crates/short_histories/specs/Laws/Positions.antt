@@ -1,5 +1,6 @@
 -- Positions: how many there are, that the two maps are inverse to each other, and the last step of a sequence. Assumes nothing.
-use Rattle.short_histories.specs.Laws.Prelude.{ℕ, zero, suc, ◌+◌, ◌-◌, ◌*◌, ◌/◌, ◌%◌, ◌≤◌, ◌<◌, suc-le-suc, ◌≡◌, refl, sym, ap, ◌∙◌, ⊎_elim, true, false, List, [], ◌∷◌, ◌++◌, arith, leb, ltb, length, get_or, leb-true, le-leb, lt-ltb, split, and_left, and_right, and_both, all_snoc, same_refl, same_eq}
+use Rattle.std.specs.Prelude.{◌+◌, ◌-◌, ◌*◌, ◌/◌, ◌%◌, ◌≤◌, ◌<◌, ◌≡◌, ◌∷◌, ◌++◌}
+use Rattle.short_histories.specs.Laws.Prelude.{ℕ, zero, suc, suc-le-suc, refl, sym, ap, ◌∙◌, ⊎_elim, true, false, List, [], arith, leb, ltb, length, get_or, leb-true, le-leb, lt-ltb, split, and_left, and_right, and_both, all_snoc, same_refl, same_eq}
 use Rattle.lists.specs.Lists.{all, same}
 use Rattle.short_histories.specs.Sequences.{short_histories, place_in, position_of, sequence_at, known}
 use Rattle.short_histories.specs.Laws.Numbers.{Steps, number, shorter_than_seven, number_more, number_short}

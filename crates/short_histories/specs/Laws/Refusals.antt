@@ -1,5 +1,6 @@
 -- The tests one by one, and the results of the entry points. Assumes nothing.
-use Rattle.short_histories.specs.Laws.Prelude.{ℕ, suc, ◌+◌, ◌≤◌, ◌<◌, ◌≡◌, refl, sym, true, false, List, none, some, arith, length, lt-ltb, le-ltb, lt-leb, le-leb, splice, splice_nil, SequenceAnswer, Refused, None, Written}
+use Rattle.std.specs.Prelude.{◌+◌, ◌≤◌, ◌<◌, ◌≡◌}
+use Rattle.short_histories.specs.Laws.Prelude.{ℕ, suc, refl, sym, true, false, List, none, some, arith, length, lt-ltb, le-ltb, lt-leb, le-leb, splice, splice_nil, SequenceAnswer, Refused, None, Written}
 use Rattle.refusals.specs.Refusals.{first_refusal, reply}
 use Rattle.short_histories.specs.declared.PositionAnswer.TheVariants.{Refused as PositionRefused, Position}
 use Rattle.short_histories.specs.Sequences.{short_histories, position_of, sequence_at, next_after, known, sequence_refusal, next_refusal, position_view, sequence_view, PositionAnswered, SequenceFound, NextFound}

@@ -1,5 +1,6 @@
 -- The seven steps in full, and that their table accepts them. Assumes nothing.
-use Rattle.short_histories.specs.Laws.Prelude.{ℕ, suc, ◌≤◌, ◌≡◌, refl, ◌≢◌, Bool, true, false, arith, eqb, le-leb, Call, staging, merging, compacting, clearing, refreshing, feeding, StepAnswer}
+use Rattle.std.specs.Prelude.{◌≤◌, ◌≡◌, ◌≢◌}
+use Rattle.short_histories.specs.Laws.Prelude.{ℕ, suc, refl, Bool, true, false, arith, eqb, le-leb, Call, staging, merging, compacting, clearing, refreshing, feeding, StepAnswer}
 use Rattle.lists.specs.Lists.{all}
 use Rattle.refusals.specs.Refusals.{first_refusal, reply}
 use Rattle.plain_table.specs.Staged.{Opening, openable, words_of}

@@ -1,5 +1,6 @@
 -- The check of sort cells, stated for each live row. Assumes nothing.
-use Rattle.sort_entries.specs.Laws.Prelude.{ℕ, ◌<◌, ◌≡◌, ◌∙◌, inl, inr, true, List, zero-add, length, get_or, eqb-true, eq-eqb, iota, row_at, split, all_get_d, all_of, length_iota, get_d_iota, is_live, Entry, value_at}
+use Rattle.std.specs.Prelude.{◌<◌, ◌≡◌}
+use Rattle.sort_entries.specs.Laws.Prelude.{ℕ, ◌∙◌, inl, inr, true, List, zero-add, length, get_or, eqb-true, eq-eqb, iota, row_at, split, all_get_d, all_of, length_iota, get_d_iota, is_live, Entry, value_at}
 use Rattle.sort_entries.specs.inner.Checks.{cell_sound, cells_sound}
 
 module _ (store : List ℕ) (columns sort row value : ℕ) where

@@ -1,5 +1,6 @@
 -- Laws of appending one entry: the value at each row, soundness, and the effect of `push`. Assumes nothing.
-use Rattle.sort_entries.specs.Laws.Prelude.{ℕ, ◌+◌, ◌-◌, ◌≤◌, ◌<◌, ◌≡◌, refl, sym, ◌∙◌, inl, inr, Bool, true, false, true≢false, List, [], ◌∷◌, ◌++◌, arith, length, leb, ltb, ltb-true, ltb-false, leb-true, lt-ltb, le-leb, lt-leb, split, and_left, and_right, above_head, above_tail, above_cons, all_snoc, all_weaker}
+use Rattle.std.specs.Prelude.{◌+◌, ◌-◌, ◌≤◌, ◌<◌, ◌≡◌, ◌∷◌, ◌++◌}
+use Rattle.sort_entries.specs.Laws.Prelude.{ℕ, refl, sym, ◌∙◌, inl, inr, Bool, true, false, true≢false, List, [], arith, length, leb, ltb, ltb-true, ltb-false, leb-true, lt-ltb, le-leb, lt-leb, split, and_left, and_right, above_head, above_tail, above_cons, all_snoc, all_weaker}
 use Rattle.lists.specs.Lists.{all, rising, above}
 use Rattle.sort_entries.specs.Entries.{Entry, entry, first_row, value_at, entries_sound}
 use Rattle.sort_entries.specs.Laws.Push.{last_passes, push, push_new, push_same}

@@ -1,6 +1,7 @@
 -- The position of a value among sound entries, with an entry of that value or without one, and the fast range as a function of that
 -- position. Assumes nothing.
-use Rattle.sort_entries.specs.Laws.Prelude.{ℕ, ◌≤◌, ◌<◌, ◌≡◌, refl, sym, ap, ◌∙◌, true, false, cond, List, [], ◌∷◌, dec_lt, ℕ_discrete, arith, leb, ltb, eqb, lt-ltb, le-ltb, le-leb, lt-leb, eq-eqb, ne_eqb, above_head, above_tail}
+use Rattle.std.specs.Prelude.{◌≤◌, ◌<◌, ◌≡◌, ◌∷◌}
+use Rattle.sort_entries.specs.Laws.Prelude.{ℕ, refl, sym, ap, ◌∙◌, true, false, cond, List, [], dec_lt, ℕ_discrete, arith, leb, ltb, eqb, lt-ltb, le-ltb, le-leb, lt-leb, eq-eqb, ne_eqb, above_head, above_tail}
 use Rattle.lists.specs.Lists.{filter, any, above}
 use Rattle.offsets.specs.Subsets.{Subset, range}
 use Rattle.sort_entries.specs.Entries.{Entry, entries_from, first_row, by_kind, fast_range, entries_sound}

@@ -1,5 +1,6 @@
 -- The entries after rows are appended one by one, which are the rebuilt ones. Assumes nothing.
-use Rattle.sort_entries.specs.Laws.Prelude.{ℕ, suc, ◌+◌, ◌≤◌, ◌≡◌, refl, sym, ap, ◌∙◌, inl, inr, Bool, true, false, cond, true≢false, List, [], ◌∷◌, ◌++◌, append-nil, append_assoc, Option, none, some, zero-add, add-zero, arith, length, length-append, ltb, split}
+use Rattle.std.specs.Prelude.{◌+◌, ◌≤◌, ◌≡◌, ◌∷◌, ◌++◌}
+use Rattle.sort_entries.specs.Laws.Prelude.{ℕ, suc, refl, sym, ap, ◌∙◌, inl, inr, Bool, true, false, cond, true≢false, List, [], append-nil, append_assoc, Option, none, some, zero-add, add-zero, arith, length, length-append, ltb, split}
 use Rattle.sort_entries.specs.Entries.{Entry, entry, rebuilt_from, rebuilt}
 
 -- there is no entry, or the last entry's value passes the test

@@ -1,5 +1,6 @@
 -- The fast range has exactly the rows whose recorded value passes the condition. Assumes nothing.
-use Rattle.sort_entries.specs.Laws.Prelude.{ℕ, zero, suc, ◌+◌, ◌-◌, ◌≤◌, ◌<◌, suc-le-suc, ◌≡◌, refl, sym, ap, ◌∙◌, true, List, [], ◌∷◌, dec_lt, ℕ_discrete, add-one, arith, length, drop, drop_of_length-le, drop-cons, leb, ltb, eqb, lt-ltb, le-ltb, le-leb, lt-leb, eq-eqb, ne_eqb, above, elem, within, above_head, above_tail, above_cons, above_weaker, within_of, within_below, within_past}
+use Rattle.std.specs.Prelude.{◌+◌, ◌-◌, ◌≤◌, ◌<◌, ◌≡◌, ◌∷◌}
+use Rattle.sort_entries.specs.Laws.Prelude.{ℕ, zero, suc, suc-le-suc, refl, sym, ap, ◌∙◌, true, List, [], dec_lt, ℕ_discrete, add-one, arith, length, drop, drop_of_length-le, drop-cons, leb, ltb, eqb, lt-ltb, le-ltb, le-leb, lt-leb, eq-eqb, ne_eqb, above, elem, within, above_head, above_tail, above_cons, above_weaker, within_of, within_below, within_past}
 use Rattle.offsets.specs.Subsets.{range, members}
 use Rattle.offsets.specs.Laws.Forms.{elem_range as elem-any-range}
 use Rattle.constraints.specs.Constraints.{compares}

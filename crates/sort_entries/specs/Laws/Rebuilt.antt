@@ -1,5 +1,6 @@
 -- Laws of the entries of rows whose sort values never fall: they are sound, and record each row's value. Assumes nothing.
-use Rattle.sort_entries.specs.Laws.Prelude.{ℕ, zero, suc, ◌+◌, ◌-◌, ◌≤◌, ◌<◌, ◌≡◌, refl, ap, ◌∙◌, true, List, [], ◌∷◌, dec_lt, add-one, arith, length, take, get_or, take-suc, take-length, length-take-le, le-leb}
+use Rattle.std.specs.Prelude.{◌+◌, ◌-◌, ◌≤◌, ◌<◌, ◌≡◌, ◌∷◌}
+use Rattle.sort_entries.specs.Laws.Prelude.{ℕ, zero, suc, refl, ap, ◌∙◌, true, List, [], dec_lt, add-one, arith, length, take, get_or, take-suc, take-length, length-take-le, le-leb}
 use Rattle.lists.specs.Lists.{all, rising}
 use Rattle.sort_entries.specs.Entries.{Entry, rebuilt_from, rebuilt, value_at, entries_sound, first_row}
 use Rattle.sort_entries.specs.Laws.Push.{push, push_all, push_few, push_grows, rebuilt_push_all, rebuilt_snoc}

@@ -1,5 +1,6 @@
 -- Sound entries decomposed into facts, and the converse. Assumes nothing.
-use Rattle.sort_entries.specs.Laws.Prelude.{ℕ, ◌+◌, ◌*◌, ◌≤◌, ◌<◌, ◌≡◌, ap, true, ◌&&◌, List, [], ◌∷◌, map, arith, length, get_or, drop, length-map, List·getD-map, drop_of_length-le, drop-cons, ltb, ltb-true, eqb-true, lt-ltb, eq-eqb, and_left, and_right, all_get_d, all_of, rising_tail, rising_at, rising_of}
+use Rattle.std.specs.Prelude.{◌+◌, ◌*◌, ◌≤◌, ◌<◌, ◌≡◌, ◌&&◌, ◌∷◌}
+use Rattle.sort_entries.specs.Laws.Prelude.{ℕ, ap, true, List, [], map, arith, length, get_or, drop, length-map, List·getD-map, drop_of_length-le, drop-cons, ltb, ltb-true, eqb-true, lt-ltb, eq-eqb, and_left, and_right, all_get_d, all_of, rising_tail, rising_at, rising_of}
 use Rattle.lists.specs.Lists.{all, rising, above}
 use Rattle.sort_entries.specs.Entries.{Entry, entry, entries_of, first_row, entries_sound}
 use Rattle.sort_entries.specs.Laws.Stores.{pair_at, get_d_entries_of}

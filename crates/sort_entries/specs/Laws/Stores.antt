@@ -1,5 +1,6 @@
 -- Laws of the pairs in a store: their words, one more pair, and writing a pair. Assumes nothing.
-use Rattle.sort_entries.specs.Laws.Prelude.{ℕ, zero, suc, ◌+◌, ◌-◌, ◌*◌, ◌≤◌, ◌<◌, ◌≡◌, refl, sym, ap, ap₂, ◌∙◌, Bool, true, List, [], ◌∷◌, ◌++◌, add-one, arith, length, take, drop, get_or, length-drop, get_or-drop, get_or-take, take-add, ext_get_or, take_splice, get_d_splice_in}
+use Rattle.std.specs.Prelude.{◌+◌, ◌-◌, ◌*◌, ◌≤◌, ◌<◌, ◌≡◌, ◌∷◌, ◌++◌}
+use Rattle.sort_entries.specs.Laws.Prelude.{ℕ, zero, suc, refl, sym, ap, ap₂, ◌∙◌, Bool, true, List, [], add-one, arith, length, take, drop, get_or, length-drop, get_or-drop, get_or-take, take-add, ext_get_or, take_splice, get_d_splice_in}
 use Rattle.lists.specs.Lists.{splice}
 use Rattle.sort_entries.specs.Entries.{Entry, entry, entries_of, entry_words}
 use Rattle.sort_entries.specs.Laws.Push.{last_passes, last_snoc}

@@ -1,5 +1,6 @@
 -- Laws of a test of values: the values of all rows pass exactly if those of all entries do. Assumes nothing.
-use Rattle.sort_entries.specs.Laws.Prelude.{ℕ, suc, ◌≤◌, ◌<◌, ◌≡◌, refl, inl, inr, Bool, true, List, [], ◌∷◌, map, arith, leb, ltb, length, split, all_head, all_tail, all_cons, all_snoc, bool_ext}
+use Rattle.std.specs.Prelude.{◌≤◌, ◌<◌, ◌≡◌, ◌∷◌}
+use Rattle.sort_entries.specs.Laws.Prelude.{ℕ, suc, refl, inl, inr, Bool, true, List, [], map, arith, leb, ltb, length, split, all_head, all_tail, all_cons, all_snoc, bool_ext}
 use Rattle.lists.specs.Lists.{all}
 use Rattle.sort_entries.specs.Entries.{Entry, entry, rebuilt, value_at}
 use Rattle.sort_entries.specs.Laws.Push.{last_passes, push, push_all, push_new, push_same, rebuilt_push_all}

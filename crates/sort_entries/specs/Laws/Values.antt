@@ -1,6 +1,7 @@
 -- Laws of the values that sound entries record: they never fall, and the entries are those rebuilt from them. Assumes
 -- nothing.
-use Rattle.sort_entries.specs.Laws.Prelude.{ℕ, ◌≤◌, ◌<◌, ◌≡◌, refl, sym, ap, ap₂, ◌∙◌, true, List, [], ◌∷◌, dec_lt, arith, length, get_or, le-leb, lt-leb, above_head}
+use Rattle.std.specs.Prelude.{◌≤◌, ◌<◌, ◌≡◌, ◌∷◌}
+use Rattle.sort_entries.specs.Laws.Prelude.{ℕ, refl, sym, ap, ap₂, ◌∙◌, true, List, [], dec_lt, arith, length, get_or, le-leb, lt-leb, above_head}
 use Rattle.sort_entries.specs.Entries.{Entry, entry, first_row, rebuilt, value_at, entries_sound}
 use Rattle.sort_entries.specs.Laws.Sound.{values, Climb, sound_climb, sound_first, climb_tail, climb_in, climb_next, climb_above}
 use Rattle.sort_entries.specs.Laws.Rebuilt.{NeverFalls, rebuilt_sound, rebuilt_value_at}

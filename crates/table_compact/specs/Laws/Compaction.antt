@@ -1,6 +1,7 @@
 -- Laws of a compaction: how the live rows of a store move down row by row, their sort entries and the words that number them; and
 -- that the resulting stores represent the compacted plain table. Assumes nothing.
-use Rattle.table_compact.specs.Laws.Prelude.{ℕ, zero, suc, ◌+◌, ◌-◌, ◌*◌, ◌/◌, ◌%◌, ◌≤◌, ◌<◌, min, suc-le-suc, ◌≡◌, refl, sym, ap, ap₂, ◌∙◌, inl, inr, Bool, true, false, cond, List, [], ◌∷◌, ◌++◌, map, map-append, map-map, append-nil, add-zero, suc-mul, mul-le-mul_right, add-one, ℕ_discrete, arith, length, get_or, set, length-map, get_or-set_same, get_or-set_other, ltb, split, filter_append, length_filter, count_le, all_filter, length_splice, splice_then, part_after, widths, length_rows_of, length_row_at, rows_of_snoc, rows_of_widths, widths_filter, length_flatten, flatten_append, get_d_rows_of, rows_of_put_flatten, is_live, Entry, entry, entries_of, entry_words, rebuilt, Append, last_passes, push, push_new, push_same, rebuilt_snoc, rebuilt_few, length_words, words_snoc, entries_of_put, live_word, new_number, number_rank, filter_at, LiveAt, KeysSound, Fits, small, past_size_class, below_number, live_among, live_rises, Compacted, renumber_sound, slots_renumbered, no_row, compacted_proper, dead_compacted, Header, KeptCounts, index_shape_of, stores, lengths, Represents, SamePast, full_shape_fits, Lendable, KeysUpdated, ClosedUp, Compaction, stored_live, Proper, stores_long, checked_rows_stored, rows_counted, row_shown}
+use Rattle.std.specs.Prelude.{◌+◌, ◌-◌, ◌*◌, ◌/◌, ◌%◌, ◌≤◌, ◌<◌, ◌≡◌, ◌∷◌, ◌++◌}
+use Rattle.table_compact.specs.Laws.Prelude.{ℕ, zero, suc, min, suc-le-suc, refl, sym, ap, ap₂, ◌∙◌, inl, inr, Bool, true, false, cond, List, [], map, map-append, map-map, append-nil, add-zero, suc-mul, mul-le-mul_right, add-one, ℕ_discrete, arith, length, get_or, set, length-map, get_or-set_same, get_or-set_other, ltb, split, filter_append, length_filter, count_le, all_filter, length_splice, splice_then, part_after, widths, length_rows_of, length_row_at, rows_of_snoc, rows_of_widths, widths_filter, length_flatten, flatten_append, get_d_rows_of, rows_of_put_flatten, is_live, Entry, entry, entries_of, entry_words, rebuilt, Append, last_passes, push, push_new, push_same, rebuilt_snoc, rebuilt_few, length_words, words_snoc, entries_of_put, live_word, new_number, number_rank, filter_at, LiveAt, KeysSound, Fits, small, past_size_class, below_number, live_among, live_rises, Compacted, renumber_sound, slots_renumbered, no_row, compacted_proper, dead_compacted, Header, KeptCounts, index_shape_of, stores, lengths, Represents, SamePast, full_shape_fits, Lendable, KeysUpdated, ClosedUp, Compaction, stored_live, Proper, stores_long, checked_rows_stored, rows_counted, row_shown}
 use Rattle.lists.specs.Lists.{splice, filter, row_at, rows_of, flatten}
 use Rattle.key_rebuild.specs.inner.Renumbering.{live_below, Renumbered, new_row}
 use Rattle.plain_table.specs.Plain.{Row, Plain, compacted}

@@ -1,5 +1,6 @@
 -- A compaction of a table without dead rows: only the generation rises. Assumes nothing.
-use Rattle.table_compact.specs.Laws.Prelude.{ℕ, ◌*◌, ◌≤◌, ◌<◌, ◌≡◌, refl, sym, ap, ◌∙◌, inl, inr, true, not, List, [], ◌∷◌, arith, length, all_cons, split, filter_all, splice_front, flatten_rows_of, words_entries_of, compacted_proper, Header, stores, Represents, stored_live, represents_long, entries_few, rows_in_lem, rows_counted, rows_stored, next_generation, ClosedUp, Compaction}
+use Rattle.std.specs.Prelude.{◌*◌, ◌≤◌, ◌<◌, ◌≡◌, ◌∷◌}
+use Rattle.table_compact.specs.Laws.Prelude.{ℕ, refl, sym, ap, ◌∙◌, inl, inr, true, not, List, [], arith, length, all_cons, split, filter_all, splice_front, flatten_rows_of, words_entries_of, compacted_proper, Header, stores, Represents, stored_live, represents_long, entries_few, rows_in_lem, rows_counted, rows_stored, next_generation, ClosedUp, Compaction}
 use Rattle.lists.specs.Lists.{count, all, rows_of}
 use Rattle.plain_table.specs.Plain.{Row, Plain, dead, compacted}
 use Rattle.table.specs.Stores.{entries, header_of, stored, row_store, sort_store}

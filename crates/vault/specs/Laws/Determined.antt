@@ -1,5 +1,6 @@
 -- The contract determines the outcome. Assumes nothing.
-use Rattle.vault.specs.Laws.Prelude.{ℕ, ◌≡◌, refl, sym, ◌∙◌, ⊎_elim, List, arith, length, some_number, Same, ColumnsAnswer, Refused, Written}
+use Rattle.std.specs.Prelude.{◌≡◌}
+use Rattle.vault.specs.Laws.Prelude.{ℕ, refl, sym, ◌∙◌, ⊎_elim, List, arith, length, some_number, Same, ColumnsAnswer, Refused, Written}
 use Rattle.vault.specs.Columns.{columns_view, columns_refusal, Rearranged}
 
 -- an answer is determined by its reply

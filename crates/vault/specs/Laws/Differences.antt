@@ -1,6 +1,6 @@
 -- One column: differences and sums are inverse to each other; the value at each place. Assumes nothing.
-use Rattle.vault.specs.Laws.Prelude.{ℕ, zero, suc, ◌+◌, ◌%◌, ◌^◌, ◌<◌, ◌≡◌, refl, ap, ap₂, ◌∙◌, arith, length, get_or}
-use Rattle.std.specs.Prelude.{List, [], ◌∷◌}
+use Rattle.vault.specs.Laws.Prelude.{ℕ, zero, suc, refl, ap, ap₂, ◌∙◌, arith, length, get_or}
+use Rattle.std.specs.Prelude.{List, [], ◌∷◌, ◌+◌, ◌%◌, ◌^◌, ◌<◌, ◌≡◌}
 use mathlib.Core.List.{zip_with}
 use Rattle.vault.specs.Columns.{minus, differences, sums_below, sums}
 

@@ -1,5 +1,6 @@
 -- "Applying either after the other restores the cells for every list and every width", once for all widths. Assumes nothing.
-use Rattle.vault.specs.Laws.Prelude.{ℕ, ◌*◌, ◌/◌, ◌%◌, ◌<◌, ◌≡◌, sym, ap, ap₂, ◌∙◌, true, List, [], map, append-nil, mul_comm, mul-div_cancel, div-add-mod', arith, length, length-map, take_all, rows_of, flatten, widths, length_rows_of, length_flatten, rows_of_widths, rows_of_flatten, flatten_rows_of}
+use Rattle.std.specs.Prelude.{◌*◌, ◌/◌, ◌%◌, ◌<◌, ◌≡◌}
+use Rattle.vault.specs.Laws.Prelude.{ℕ, sym, ap, ap₂, ◌∙◌, true, List, [], map, append-nil, mul_comm, mul-div_cancel, div-add-mod', arith, length, length-map, take_all, rows_of, flatten, widths, length_rows_of, length_flatten, rows_of_widths, rows_of_flatten, flatten_rows_of}
 use Rattle.vault.specs.Columns.{differences, sums, transposed, to_columns, from_columns, Restores}
 use Rattle.vault.specs.Laws.Differences.{Cells, sums_differences, differences_sums, length_differences, length_sums}
 use Rattle.vault.specs.Laws.Transposed.{length_transposed, transposed_widths, map_widths, transposed_twice, rows_of_cells, transposed_cells, map_undone}

@@ -1,6 +1,6 @@
 -- Both orders place by place: each cell, by the one above it. Assumes nothing.
-use Rattle.vault.specs.Laws.Prelude.{ℕ, zero, suc, ◌+◌, ◌*◌, ◌<◌, ◌≡◌, refl, sym, ap, ap₂, ◌∙◌, mul_comm, arith, length, get_or, length-map, get_d_map_below, length_rows_of, get_d_rows_of, get_d_row_at, rows_of_widths}
-use Rattle.std.specs.Prelude.{List, [], ◌∷◌, map}
+use Rattle.vault.specs.Laws.Prelude.{ℕ, zero, suc, refl, sym, ap, ap₂, ◌∙◌, mul_comm, arith, length, get_or, length-map, get_d_map_below, length_rows_of, get_d_rows_of, get_d_row_at, rows_of_widths}
+use Rattle.std.specs.Prelude.{List, [], ◌∷◌, map, ◌+◌, ◌*◌, ◌<◌, ◌≡◌}
 use mathlib.Core.List.{zip_with}
 use Rattle.lists.specs.Lists.{rows_of, flatten, iota}
 use Rattle.vault.specs.Columns.{minus, differences, sums, transposed, to_columns, from_columns}

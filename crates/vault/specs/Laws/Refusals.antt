@@ -1,5 +1,6 @@
 -- The tests one by one, and what is known if they pass. Assumes nothing.
-use Rattle.vault.specs.Laws.Prelude.{ℕ, ◌%◌, ◌≤◌, ◌<◌, ◌≡◌, dec_lt, ℕ_discrete, arith, lt-ltb, le-ltb, eq-eqb, ne_eqb}
+use Rattle.std.specs.Prelude.{◌%◌, ◌≤◌, ◌<◌, ◌≡◌}
+use Rattle.vault.specs.Laws.Prelude.{ℕ, dec_lt, ℕ_discrete, arith, lt-ltb, le-ltb, eq-eqb, ne_eqb}
 use Rattle.refusals.specs.Refusals.{first_refusal}
 use Rattle.vault.specs.Columns.{columns_refusal}
 

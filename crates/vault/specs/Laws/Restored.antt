@@ -1,6 +1,7 @@
 -- "Applying either after the other restores the cells", for two calls: one accepted, then the other on what it wrote.
 -- Assumes nothing.
-use Rattle.vault.specs.Laws.Prelude.{ℕ, zero, suc, ◌+◌, ◌%◌, ◌≤◌, ◌<◌, ◌≡◌, refl, ap, ◌∙◌, List, [], ◌∷◌, dec_lt, arith, ltb, length, take, lt-ltb, le-ltb, eq-eqb, part_splice, ColumnsAnswer, Written}
+use Rattle.std.specs.Prelude.{◌+◌, ◌%◌, ◌≤◌, ◌<◌, ◌≡◌, ◌∷◌}
+use Rattle.vault.specs.Laws.Prelude.{ℕ, zero, suc, refl, ap, ◌∙◌, List, [], dec_lt, arith, ltb, length, take, lt-ltb, le-ltb, eq-eqb, part_splice, ColumnsAnswer, Written}
 use Rattle.lists.specs.Lists.{splice}
 use Rattle.refusals.specs.Refusals.{check, first_refusal, reply, Effect}
 use Rattle.vault.specs.Columns.{to_columns, from_columns, columns_refusal, columns_view, Rearranged}

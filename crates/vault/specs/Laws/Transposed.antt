@@ -1,5 +1,6 @@
 -- Rows and columns: the columns of the columns are the rows. Assumes nothing.
-use Rattle.vault.specs.Laws.Prelude.{ℕ, zero, suc, ◌+◌, ◌*◌, ◌<◌, ◌≡◌, refl, sym, ap, ap₂, ◌∙◌, true, List, [], ◌∷◌, map, append-nil, zero-add, dec_lt, arith, eqb, length, take, drop, get_or, length-map, List·getD-eq-default, get_or-drop, ext_get_or, eqb-true, eq-eqb, all_get_d, all_head, all_tail, all_cons, get_d_map_below, length_iota, get_d_iota, widths, get_d_rows_of, get_d_row_at, rows_of_flatten}
+use Rattle.std.specs.Prelude.{◌+◌, ◌*◌, ◌<◌, ◌≡◌, ◌∷◌}
+use Rattle.vault.specs.Laws.Prelude.{ℕ, zero, suc, refl, sym, ap, ap₂, ◌∙◌, true, List, [], map, append-nil, zero-add, dec_lt, arith, eqb, length, take, drop, get_or, length-map, List·getD-eq-default, get_or-drop, ext_get_or, eqb-true, eq-eqb, all_get_d, all_head, all_tail, all_cons, get_d_map_below, length_iota, get_d_iota, widths, get_d_rows_of, get_d_row_at, rows_of_flatten}
 use Rattle.lists.specs.Lists.{all, rows_of, flatten, iota}
 use Rattle.vault.specs.Columns.{transposed}
 use Rattle.vault.specs.Laws.Differences.{Cells}
