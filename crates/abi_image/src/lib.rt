@@ -1,5 +1,4 @@
-// Images of tables as C functions. Each returns 0 or the number of a refusal, and stores its answer only if it returns 0. A slice goes as
-// a pointer and a length, a fixed array as a pointer alone.
+// Images of tables, for C (`abi_image_c`). Each function returns 0 or the number of a refusal, and stores its answer only if it returns 0.
 #![tactic(auto)]
 
 ghost use Rattle.table.specs.Numbers.{table_view};
@@ -28,8 +27,7 @@ fn store_length(answer: LengthAnswer, length: &mut [u64; 1]) -> u32
 }
 
 // Stores how many words the image of a table has, with a text of so many bytes. Refuses with 1 or 21.
-#[unsafe(no_mangle)]
-pub extern "C" fn mouldgrey_image_size(header: &[u32; 12], text: usize, words: &mut [u64; 1]) -> u32
+pub fn mouldgrey_image_size(header: &[u32; 12], text: usize, words: &mut [u64; 1]) -> u32
     ensures { Answers (λ answer. ImageSized (decode_header header.now) text answer) length_view encode_number words.old result words.new }
 {
     let h = decode_header(header);
@@ -38,8 +36,7 @@ pub extern "C" fn mouldgrey_image_size(header: &[u32; 12], text: usize, words: &
 }
 
 // Writes the image of a table, with a text, at the start of `image`, and stores how many words it has. Refuses with 1, 2 or 21.
-#[unsafe(no_mangle)]
-pub extern "C" fn mouldgrey_write_image(
+pub fn mouldgrey_write_image(
     header: &[u32; 12],
     rows: &[u32],
     sorts: &[u32],
@@ -56,8 +53,7 @@ pub extern "C" fn mouldgrey_write_image(
 }
 
 // Stores the header of an image. Refuses with 19 words that are no image, with 20 an image of a table that is not sound.
-#[unsafe(no_mangle)]
-pub extern "C" fn mouldgrey_check_image(image: &[u32], header: &mut [u32; 12]) -> u32
+pub fn mouldgrey_check_image(image: &[u32], header: &mut [u32; 12]) -> u32
     ensures { Answers (λ answer. ImageChecked image.now answer) table_view encode_header header.old result header.new }
 {
     let answer = check_image(image);
@@ -66,8 +62,7 @@ pub extern "C" fn mouldgrey_check_image(image: &[u32], header: &mut [u32; 12]) -
 
 // Writes the table of an image at the starts of the stores, with another capacity unless that is 0, and stores its header. Refuses with
 // 19, 20, 1 or 2.
-#[unsafe(no_mangle)]
-pub extern "C" fn mouldgrey_read_image(
+pub fn mouldgrey_read_image(
     image: &[u32],
     capacity: u32,
     header: &mut [u32; 12],
@@ -83,12 +78,7 @@ pub extern "C" fn mouldgrey_read_image(
 }
 
 // Writes the text of an image at the start of `text`, and stores how many bytes it has. Refuses with 19 or 2.
-#[unsafe(no_mangle)]
-pub extern "C" fn mouldgrey_read_image_text(
-    image: &[u32],
-    text: &mut [u8],
-    bytes: &mut [u64; 1],
-) -> u32
+pub fn mouldgrey_read_image_text(image: &[u32], text: &mut [u8], bytes: &mut [u64; 1]) -> u32
     ensures { Answers (λ answer. TextRead image.now text.old answer text.new) length_view encode_number bytes.old result bytes.new }
 {
     let answer = read_text(image, text);

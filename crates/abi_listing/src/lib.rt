@@ -1,4 +1,4 @@
-// Listings as text, and the check of a laboratory's answers against them, as C functions.
+// Listings as text, and the check of a laboratory's answers against them, for C (`abi_listing_c`).
 #![tactic(auto)]
 
 ghost use Rattle.std.specs.Prelude.{◌≡◌, true, false, not, eqb};
@@ -89,8 +89,7 @@ fn store_check(answer: CheckAnswer, verdict: &mut [u64; 2]) -> u32
 }
 
 // Writes a listing of a table, in the new form if numbered is not 0. The answer is how many bytes were written.
-#[unsafe(no_mangle)]
-pub extern "C" fn mouldgrey_write_listing(
+pub fn mouldgrey_write_listing(
     header: &[u32; 12],
     rows: &[u32],
     numbered: u32,
@@ -105,12 +104,7 @@ pub extern "C" fn mouldgrey_write_listing(
 }
 
 // Reads a listing in the old form. The answer is six words: columns, keys, sort, rule, generation, listed.
-#[unsafe(no_mangle)]
-pub extern "C" fn mouldgrey_read_listing(
-    text: &[u8],
-    output: &mut [u32],
-    head: &mut [u32; 6],
-) -> u32
+pub fn mouldgrey_read_listing(text: &[u8], output: &mut [u32], head: &mut [u32; 6]) -> u32
     ensures { Answers (λ answer. ListingRead false text.now output.old (listing_view answer) output.new) listing_view (λ numbers. numbers) head.old result head.new }
 {
     let answer = listing_read::read_listing(text, output);
@@ -118,12 +112,7 @@ pub extern "C" fn mouldgrey_read_listing(
 }
 
 // Reads a listing in the new form. The answer is seven words: columns, keys, sort, rule, generation, count, listed.
-#[unsafe(no_mangle)]
-pub extern "C" fn mouldgrey_read_numbered(
-    text: &[u8],
-    output: &mut [u32],
-    head: &mut [u32; 7],
-) -> u32
+pub fn mouldgrey_read_numbered(text: &[u8], output: &mut [u32], head: &mut [u32; 7]) -> u32
     ensures { Answers (λ answer. ListingRead true text.now output.old (numbered_view answer) output.new) numbered_view (λ numbers. numbers) head.old result head.new }
 {
     let answer = listing_read::read_numbered(text, output);
@@ -131,12 +120,7 @@ pub extern "C" fn mouldgrey_read_numbered(
 }
 
 // From the old form to the new. The answer is how many bytes were written.
-#[unsafe(no_mangle)]
-pub extern "C" fn mouldgrey_to_numbered(
-    text: &[u8],
-    output: &mut [u8],
-    length: &mut [u64; 1],
-) -> u32
+pub fn mouldgrey_to_numbered(text: &[u8], output: &mut [u8], length: &mut [u64; 1]) -> u32
     ensures { Answers (λ answer. ListingConverted false text.now output.old answer output.new) text_view encode_number length.old result length.new }
 {
     let answer = listing_read::to_numbered(text, output);
@@ -144,12 +128,7 @@ pub extern "C" fn mouldgrey_to_numbered(
 }
 
 // From the new form to the old. The answer is how many bytes were written.
-#[unsafe(no_mangle)]
-pub extern "C" fn mouldgrey_from_numbered(
-    text: &[u8],
-    output: &mut [u8],
-    length: &mut [u64; 1],
-) -> u32
+pub fn mouldgrey_from_numbered(text: &[u8], output: &mut [u8], length: &mut [u64; 1]) -> u32
     ensures { Answers (λ answer. ListingConverted true text.now output.old answer output.new) text_view encode_number length.old result length.new }
 {
     let answer = listing_read::from_numbered(text, output);
@@ -158,9 +137,7 @@ pub extern "C" fn mouldgrey_from_numbered(
 
 // Checks a laboratory's answers. The answer is two words: the kind of the verdict, 0 right, 1 misplaced, 2 wrong, and the place or
 // the number, 0 if the numbers are right. A condition is a struct of three words, so a list of them is lent without a conversion.
-// The proof of this function is manual: it checks and stores.
-#[unsafe(no_mangle)]
-pub extern "C" fn mouldgrey_check_answers(
+pub fn mouldgrey_check_answers(
     text: &[u8],
     conditions: &[Constraint],
     given: &[u32],

@@ -1,6 +1,6 @@
-// The queries over a subset as C functions: refine by one and by a list, any match, page. A subset is three words, dense, start and
-// end, with the list of ids passed separately; they make the struct that `query_borrowed` takes. A condition of a list is a struct
-// of three words, so a list of them is lent without a conversion. Each function decodes, queries and stores.
+// The queries over a subset, for C (`abi_query_c`): refine by one and by a list, any match, page. A subset is three words, dense,
+// start and end, with the list of ids passed separately; they make the struct that `query_borrowed` takes. A condition of a list is
+// a struct of three words, so a list of them is lent without a conversion. Each function decodes, queries and stores.
 #![tactic(auto)]
 
 ghost use Rattle.offsets.specs.Answers.{subset_of};
@@ -13,8 +13,7 @@ use constraints::Constraint;
 use query_borrowed::SubsetRef;
 
 // The condition is three words: kind, column, value. The answer is a subset.
-#[unsafe(no_mangle)]
-pub extern "C" fn mouldgrey_refine_one(
+pub fn mouldgrey_refine_one(
     header: &[u32; 12],
     rows: &[u32],
     subset: &[u32; 3],
@@ -39,8 +38,7 @@ pub extern "C" fn mouldgrey_refine_one(
 }
 
 // The answer is a subset.
-#[unsafe(no_mangle)]
-pub extern "C" fn mouldgrey_refine_ref(
+pub fn mouldgrey_refine_ref(
     header: &[u32; 12],
     rows: &[u32],
     subset: &[u32; 3],
@@ -64,8 +62,7 @@ pub extern "C" fn mouldgrey_refine_ref(
 }
 
 // The answer is one word: 1 for a match.
-#[unsafe(no_mangle)]
-pub extern "C" fn mouldgrey_contains_match(
+pub fn mouldgrey_contains_match(
     header: &[u32; 12],
     rows: &[u32],
     subset: &[u32; 3],
@@ -88,8 +85,7 @@ pub extern "C" fn mouldgrey_contains_match(
 }
 
 // The answer is four words: written, dead, has_next, next.
-#[unsafe(no_mangle)]
-pub extern "C" fn mouldgrey_read_page(
+pub fn mouldgrey_read_page(
     header: &[u32; 12],
     rows: &[u32],
     subset: &[u32; 3],
