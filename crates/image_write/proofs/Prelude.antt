@@ -6,7 +6,7 @@ pub use native.Mathlib.Omega.{arith}
 pub use lib.ListN.{length, get_or-eq_default as List·getD-eq-default, set, length-set, take}
 pub use borrow.Author.Rules.{rules}
 pub use lib.Seq.{length-take-le, take-length}
-pub use Rattle.image_write.specs.Laws.Checks.{Accepted, accepted_holds, inside_few, length_is, pending_outside_no, size_accepted, size_text_too_long, size_none, size_outside, write_accepted, write_text_too_long, write_none, write_outside, write_rows_too_short, write_output_too_short, write_sorts_too_short}
+pub use Rattle.image_write.specs.Laws.Checks.{Accepted, accepted_holds, inside_few, length_is, pending_outside_no, size_accepted, size_long, size_none, size_outside, write_accepted, write_long, write_none, write_outside, write_rows, write_short, write_sorts}
 pub use Rattle.table.specs.declared.Header.{Header}
 pub use Rattle.image_spec.specs.declared.LengthAnswer.TheVariants.{Length, Refused}
 pub use Rattle.image_write.specs.Laws.Bodies.{body_written, head_written, image_written, length_header, stores_written, write_step}

@@ -19,7 +19,7 @@ const MOST_ROWS: u32 = 1024;
 const WORDS: usize = 16;
 
 // The header and the response after an opening, a staging, a compaction or a clear.
-fn respond_table(h: Header, answer: TableAnswer) -> Served
+fn taken(h: Header, answer: TableAnswer) -> Served
     ensures { ServedWith (if_accepted (table_view answer) (λ h. h) h) (response_of nothing_response (table_view answer)) result }
 {
     match answer {
@@ -40,7 +40,7 @@ fn stage_by_row(h: Header, numbers: &[u32], pending: &mut [u32]) -> Served
     ensures { OnPending 75 numbers.now h pending.old result pending.new }
 {
     let answer = table_stage::stage_remove_row(h, pending, numbers[0], &numbers[1..]);
-    respond_table(h, answer)
+    taken(h, answer)
 }
 
 // Dispatches I, R and K.
@@ -51,11 +51,11 @@ pub fn stage(h: Header, letter: u8, numbers: &[u32], pending: &mut [u32]) -> Ser
 {
     if letter == b'I' {
         let inserted = table_stage::stage_insert(h, pending, numbers);
-        return respond_table(h, inserted);
+        return taken(h, inserted);
     }
     if letter == b'R' {
         let removed = table_stage::stage_remove(h, pending, numbers);
-        return respond_table(h, removed);
+        return taken(h, removed);
     }
     stage_by_row(h, numbers, pending)
 }
@@ -91,7 +91,7 @@ pub fn open_table(
         sorts,
         pending,
     );
-    respond_table(h, opened)
+    taken(h, opened)
 }
 
 // C: clear.
@@ -99,7 +99,7 @@ pub fn clear(h: Header, keys: &mut [u32]) -> Served
     ensures { OnKeys 67 h keys.old result keys.new }
 {
     let cleared = table_open::clear(h, keys);
-    respond_table(h, cleared)
+    taken(h, cleared)
 }
 
 // G: compact.
@@ -109,7 +109,7 @@ pub fn compact(h: Header, rows: &mut [u32], keys: &mut [u32], sorts: &mut [u32])
     let mut live = [0u64; WORDS];
     let mut base = [0u32; WORDS];
     let compacted = table_compact::compact(h, rows, keys, sorts, &mut live, &mut base);
-    respond_table(h, compacted)
+    taken(h, compacted)
 }
 
 // The header and the response after a merge.

@@ -10,7 +10,7 @@ use levels_spec::Served;
 use table::Header;
 
 // Dispatches O, C and G.
-fn serve_open_clear_compact(
+fn remake(
     h: Header,
     letter: u8,
     numbers: &[u32],
@@ -48,9 +48,7 @@ pub fn serve(
     match letter {
         b'I' | b'R' | b'K' => stage(h, letter, numbers, pending),
         b'M' => merge_pending(h, rows, keys, sorts, pending),
-        b'O' | b'C' | b'G' => serve_open_clear_compact(
-            h, letter, numbers, rows, keys, sorts, pending,
-        ),
+        b'O' | b'C' | b'G' => remake(h, letter, numbers, rows, keys, sorts, pending),
         _ => Served {
             header: h,
             response: query(h, letter, numbers, sorts),

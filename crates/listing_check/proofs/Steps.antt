@@ -10,12 +10,12 @@ use Rattle.listing_parse.specs.Laws.Steps.{rows_from, none_from}
 use Rattle.listing_check.specs.declared.Row.{Row}
 use Rattle.listing_check.specs.Answers.{right_numbers, misplaced, wrong_numbers, lowest, finding_on, verdict_view, check_view, check_reply, AnswersChecked}
 use Rattle.listing_check.specs.Laws.Verdicts.{verdict_for}
-use Rattle.listing_check.specs.inner.Scanning.{first_apart, right_among, unless_wrong, RowRead, rows_left, Underway, finished_scan, Stepped, closed}
+use Rattle.listing_check.specs.inner.Scanning.{first_apart, right_among, unless_wrong, RowRead, rows_left, Underway, finished_as, Stepped, closed}
 use Rattle.listing_check.proofs.Apart.{apart_same, apart_left, apart_right, lowest_first}
 
 -- ---- the final state
 pub settle : {columns : ℕ} {text : List ℕ} {conditions : List Constraint} {given : List ℕ} {answer : CheckAnswer} → AnswersChecked text conditions given answer
-    → Underway columns text conditions given (finished_scan answer (length given))
+    → Underway columns text conditions given (finished_as answer (length given))
 unfolding rows_left right_among row_numbers filter first_apart unless_wrong
 settle {given = given} p = record { whole = λ l. absurd (omega arith); due = λ l. absurd (omega arith); comes = rw (drop_of_length-le given {i = length given} (omega arith)) p }
 
@@ -144,11 +144,11 @@ module _ {columns : ℕ} {text : List ℕ} {conditions : List Constraint} {given
   comes_here : AnswersChecked text conditions given (unless_wrong at.answer (first_apart (drop at.place given) here))
   comes_here = rw right_here at w.comes
 
-  wrong : {x : ℕ} → first_apart (drop at.place given) here ≡ some x → Underway columns text conditions given (finished_scan (Checked (Wrong x)) (length given))
+  wrong : {x : ℕ} → first_apart (drop at.place given) here ≡ some x → Underway columns text conditions given (finished_as (Checked (Wrong x)) (length given))
   unfolding unless_wrong
   wrong e = settle (rw e at comes_here)
 
-  pub given_wrong : next < n → Underway columns text conditions given (finished_scan (Checked (Wrong next)) (length given))
+  pub given_wrong : next < n → Underway columns text conditions given (finished_as (Checked (Wrong next)) (length given))
   given_wrong h = wrong (rw (some_left given at.place (omega (arith, r.fits))) (apart_low next (drop (suc at.place) given) here (above_here meets-all)))
     where
       above_here : (b : Bool) → above next (cond b (n ∷ rest) rest) ≡ true
@@ -166,7 +166,7 @@ module _ {columns : ℕ} {text : List ℕ} {conditions : List Constraint} {given
   next_here : next ≡ n → drop at.place given ≡ next ∷ drop (at.place + 1) given
   next_here e = some_left given at.place (omega (arith, r.fits)) ∙ ap (λ (i : ℕ). next ∷ drop i given) (sym (add-one at.place))
 
-  pub row_wrong : n ≤ next → (eqb next n ≡ meets-all → ⊥) → Underway columns text conditions given (finished_scan (Checked (Wrong n)) (length given))
+  pub row_wrong : n ≤ next → (eqb next n ≡ meets-all → ⊥) → Underway columns text conditions given (finished_as (Checked (Wrong n)) (length given))
   row_wrong h other = wrong (parts meets-all other (ℕ_discrete next n))
     where
       parts : (b : Bool) → (eqb next n ≡ b → ⊥) → Dec (next ≡ n) → first_apart (drop at.place given) (cond b (n ∷ rest) rest) ≡ some n
@@ -196,13 +196,13 @@ alike false true e = e
 alike false false e = refl
 
 module _ {given : List ℕ} {at : CheckScan} {row : Row} {meets-all : Bool} {next : ℕ} (e : next ≡ get_or given at.place 4294967296) where
-  pub step_given : {at' : CheckScan} → next < row.number → at' ≡ finished_scan (Checked (Wrong next)) (length given) → Stepped given at row meets-all at'
+  pub step_given : {at' : CheckScan} → next < row.number → at' ≡ finished_as (Checked (Wrong next)) (length given) → Stepped given at row meets-all at'
   step_given h finished = rw finished (record {
     keeps = λ columns text conditions w l r m. rw e (given_wrong w l r m (omega (arith, e)));
     nearer = λ l f. omega arith;
   })
 
-  pub step_row : {at' : CheckScan} → row.number ≤ next → not (Bool·beq (eqb next row.number) meets-all) ≡ true → at' ≡ finished_scan (Checked (Wrong row.number)) (length given) → Stepped given at row meets-all at'
+  pub step_row : {at' : CheckScan} → row.number ≤ next → not (Bool·beq (eqb next row.number) meets-all) ≡ true → at' ≡ finished_as (Checked (Wrong row.number)) (length given) → Stepped given at row meets-all at'
   step_row h o finished = rw finished (record {
     keeps = λ columns text conditions w l r m. row_wrong w l r m (omega (arith, e)) (rw e at (unlike (eqb next row.number) meets-all o));
     nearer = λ l f. omega arith;

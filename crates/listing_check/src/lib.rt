@@ -5,7 +5,7 @@ ghost use Rattle.std.specs.Prelude.{◌≡◌, true, ◌≤◌, take, get_or};
 ghost use Rattle.constraints.specs.Constraints.{meets};
 ghost use Rattle.listing_parse.specs.inner.Surveys.{Surveyed};
 ghost use Rattle.listing_check.specs.Answers.{misplaced, AnswersChecked};
-ghost use Rattle.listing_check.specs.inner.Scanning.{misplaced_place, Due, RowRead, finished_scan, Begun, Stepped, closed};
+ghost use Rattle.listing_check.specs.inner.Scanning.{misplaced_place, Due, RowRead, finished_as, Begun, Stepped, closed};
 
 use constraints::Constraint;
 use listing_parse::{MOST_FIELDS, Survey, reread_line, scan_text};
@@ -88,8 +88,8 @@ fn first_misplaced(given: &[u32]) -> FirstMisplaced
 }
 
 // The final state: no line or number is left that could change the answer.
-fn finished_scan(answer: CheckAnswer, count: usize) -> CheckScan
-    ensures { result ≡ finished_scan answer count }
+fn finished(answer: CheckAnswer, count: usize) -> CheckScan
+    ensures { result ≡ finished_as answer count }
 {
     CheckScan {
         answer: answer,
@@ -105,10 +105,10 @@ fn begin(s: Survey, known: bool, text: &[u8], given: &[u32]) -> CheckScan
     ensures { Begun s known text.now given.now result }
 {
     if !s.is_listing {
-        return finished_scan(CheckAnswer::Refused(NO_LISTING), given.len());
+        return finished(CheckAnswer::Refused(NO_LISTING), given.len());
     }
     if !known {
-        return finished_scan(CheckAnswer::Refused(NO_SUCH_COLUMN), given.len());
+        return finished(CheckAnswer::Refused(NO_SUCH_COLUMN), given.len());
     }
     match first_misplaced(given) {
         FirstMisplaced::None => CheckScan {
@@ -117,7 +117,7 @@ fn begin(s: Survey, known: bool, text: &[u8], given: &[u32]) -> CheckScan
             end: text.len(),
             place: 0,
         },
-        FirstMisplaced::At(place) => finished_scan(
+        FirstMisplaced::At(place) => finished(
             CheckAnswer::Checked(Verdict::Misplaced(place)),
             given.len(),
         ),
@@ -159,14 +159,14 @@ fn step(given: &[u32], at: CheckScan, row: Row, meets: bool) -> CheckScan
     let next = given_at(given, at.place);
     let number = row.number as u64;
     if next < number {
-        return finished_scan(
+        return finished(
             CheckAnswer::Checked(Verdict::Wrong(next as u32)),
             given.len(),
         );
     }
     let there = next == number;
     if there != meets {
-        return finished_scan(
+        return finished(
             CheckAnswer::Checked(Verdict::Wrong(row.number)),
             given.len(),
         );

@@ -1,12 +1,12 @@
 // Makes the calls of the recorded list on the library. Returns each answer in the list's form.
-use super::lines::{Answer, answer_no_numbers, answer_three_numbers, number_at, part, refused};
+use super::lines::{Answer, answer_bare, answer_three, number_at, part, refused};
 use abi::{encode_bool, places};
 use table::{Header, MergeAnswer, TableAnswer};
 
 fn answer_table(h: Header, answer: TableAnswer) -> Answer {
     match answer {
         TableAnswer::Refused(number) => refused(h, number),
-        TableAnswer::Table(after) => answer_no_numbers(after, b'D'),
+        TableAnswer::Table(after) => answer_bare(after, b'D'),
     }
 }
 
@@ -27,13 +27,7 @@ fn answer_merge(h: Header, answer: MergeAnswer) -> Answer {
     match answer {
         MergeAnswer::Refused(number) => refused(h, number),
         MergeAnswer::Merged(m) => {
-            let mut reply = answer_three_numbers(
-                m.header,
-                b'M',
-                m.status,
-                encode_bool(m.added),
-                m.place,
-            );
+            let mut reply = answer_three(m.header, b'M', m.status, encode_bool(m.added), m.place);
             reply.fourth = m.kept;
             reply.fifth = m.dropped;
             reply.count = 5;

@@ -55,13 +55,7 @@ pub fn part<'a>(numbers: &'a [u32], from: usize, to: usize) -> &'a [u32] {
     &numbers[0..0]
 }
 
-pub fn answer_three_numbers(
-    header: Header,
-    letter: u8,
-    first: u32,
-    second: u32,
-    third: u32,
-) -> Answer {
+pub fn answer_three(header: Header, letter: u8, first: u32, second: u32, third: u32) -> Answer {
     Answer {
         header,
         letter,
@@ -75,26 +69,26 @@ pub fn answer_three_numbers(
     }
 }
 
-pub fn answer_two_numbers(header: Header, letter: u8, first: u32, second: u32) -> Answer {
-    let mut reply = answer_three_numbers(header, letter, first, second, 0);
+pub fn answer_two(header: Header, letter: u8, first: u32, second: u32) -> Answer {
+    let mut reply = answer_three(header, letter, first, second, 0);
     reply.count = 2;
     reply
 }
 
-pub fn answer_one_number(header: Header, letter: u8, number: u32) -> Answer {
-    let mut reply = answer_three_numbers(header, letter, number, 0, 0);
+pub fn answer_one(header: Header, letter: u8, number: u32) -> Answer {
+    let mut reply = answer_three(header, letter, number, 0, 0);
     reply.count = 1;
     reply
 }
 
-pub fn answer_no_numbers(header: Header, letter: u8) -> Answer {
-    let mut reply = answer_three_numbers(header, letter, 0, 0, 0);
+pub fn answer_bare(header: Header, letter: u8) -> Answer {
+    let mut reply = answer_three(header, letter, 0, 0, 0);
     reply.count = 0;
     reply
 }
 
 pub fn refused(header: Header, number: u32) -> Answer {
-    answer_one_number(header, b'X', number)
+    answer_one(header, b'X', number)
 }
 
 // A decimal with one more digit. Other bytes, and digits that do not fit, are skipped.

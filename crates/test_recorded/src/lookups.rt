@@ -1,7 +1,6 @@
 // Makes the lookups, range queries and version queries of the recorded list on the library. Returns each answer in the list's form.
 use super::lines::{
-    Answer, add_offset, answer_no_numbers, answer_one_number, answer_three_numbers,
-    answer_two_numbers, number_at, part, refused,
+    Answer, add_offset, answer_bare, answer_one, answer_three, answer_two, number_at, part, refused,
 };
 use table::{CellAnswer, Header, RangeAnswer, RowAnswer, VersionAnswer};
 
@@ -20,7 +19,7 @@ fn row_place(row: u32, columns: u32) -> usize {
 fn answer_row(h: Header, row: u32, rows: &[u32], out: &mut [u32]) -> Answer {
     let from = row_place(row, h.columns);
     let cells = part(rows, from, add_offset(from, h.columns));
-    let mut reply = answer_one_number(h, b'R', row);
+    let mut reply = answer_one(h, b'R', row);
     if cells.len() <= out.len() {
         row_buffer::write_row(out, 0, cells);
         reply.more = h.columns;
@@ -32,7 +31,7 @@ fn answer_row(h: Header, row: u32, rows: &[u32], out: &mut [u32]) -> Answer {
 pub fn look_up(h: Header, key: &[u32], rows: &[u32], keys: &[u32], out: &mut [u32]) -> Answer {
     match table_read::get_row(h, rows, keys, key) {
         RowAnswer::Refused(number) => refused(h, number),
-        RowAnswer::None => answer_no_numbers(h, b'N'),
+        RowAnswer::None => answer_bare(h, b'N'),
         RowAnswer::Row(row) => answer_row(h, row, rows, out),
     }
 }
@@ -42,16 +41,16 @@ pub fn one_cell(h: Header, numbers: &[u32], rows: &[u32], keys: &[u32]) -> Answe
     let key = part(numbers, 1, numbers.len());
     match table_read::get_row_column(h, rows, keys, key, number_at(numbers, 0)) {
         CellAnswer::Refused(number) => refused(h, number),
-        CellAnswer::None => answer_no_numbers(h, b'N'),
-        CellAnswer::Cell(cell) => answer_one_number(h, b'C', cell),
+        CellAnswer::None => answer_bare(h, b'N'),
+        CellAnswer::Cell(cell) => answer_one(h, b'C', cell),
     }
 }
 
 pub fn answer_range(h: Header, answer: RangeAnswer) -> Answer {
     match answer {
         RangeAnswer::Refused(number) => refused(h, number),
-        RangeAnswer::None => answer_no_numbers(h, b'N'),
-        RangeAnswer::Range(start, end) => answer_three_numbers(h, b'S', 0, start, end),
+        RangeAnswer::None => answer_bare(h, b'N'),
+        RangeAnswer::Range(start, end) => answer_three(h, b'S', 0, start, end),
     }
 }
 
@@ -59,6 +58,6 @@ pub fn answer_range(h: Header, answer: RangeAnswer) -> Answer {
 pub fn version(h: Header) -> Answer {
     match table_read::version(h) {
         VersionAnswer::Refused(number) => refused(h, number),
-        VersionAnswer::Version(v) => answer_two_numbers(h, b'V', v.generation, v.rows),
+        VersionAnswer::Version(v) => answer_two(h, b'V', v.generation, v.rows),
     }
 }

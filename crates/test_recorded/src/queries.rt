@@ -1,7 +1,7 @@
 // Dispatches the queries of the recorded list by their letters, and makes those over subsets on the library.
 use super::lines::{
-    Answer, NOT_COMPARED, add_offset, answer_no_numbers, answer_three_numbers, answer_two_numbers,
-    number_at, part, refused,
+    Answer, NOT_COMPARED, add_offset, answer_bare, answer_three, answer_two, number_at, part,
+    refused,
 };
 use super::lookups::{answer_range, look_up, one_cell, version};
 use constraints::Constraint;
@@ -53,9 +53,9 @@ fn subset(numbers: &[u32], place: usize) -> LineSubset {
 fn answer_subset(h: Header, answer: SubsetAnswer) -> Answer {
     match answer {
         SubsetAnswer::Refused(number) => refused(h, number),
-        SubsetAnswer::Range(start, end) => answer_three_numbers(h, b'S', 0, start, end),
+        SubsetAnswer::Range(start, end) => answer_three(h, b'S', 0, start, end),
         SubsetAnswer::List(count) => {
-            let mut reply = answer_two_numbers(h, b'S', 1, count);
+            let mut reply = answer_two(h, b'S', 1, count);
             reply.more = count;
             reply
         }
@@ -103,6 +103,6 @@ pub fn run_query(
         ),
         b'N' => refine(h, numbers, rows, out),
         b'T' => intersect(h, numbers, out),
-        _ => answer_no_numbers(h, NOT_COMPARED),
+        _ => answer_bare(h, NOT_COMPARED),
     }
 }

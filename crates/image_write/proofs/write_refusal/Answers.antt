@@ -1,5 +1,5 @@
 -- `image_write::write_refusal` meets its contract. Assumes nothing.
-use Rattle.image_write.proofs.Prelude.{◌≡◌, sym, ◌∙◌, false, pending_outside, rows_short, pairs_short, pending_outside_no, write_outside, write_rows_too_short, write_sorts_too_short, write_text_too_long, write_output_too_short, write_none}
+use Rattle.image_write.proofs.Prelude.{◌≡◌, sym, ◌∙◌, false, pending_outside, rows_short, pairs_short, pending_outside_no, write_outside, write_rows, write_sorts, write_long, write_short, write_none}
 use Rattle.image_write.proofs.write_refusal.Goals.{Else-is_pairs_short, Else-is_pending_outside, Else-is_rows_short}
 use Rattle.image_write.proofs.write_refusal.Goals as goal
 
@@ -22,24 +22,24 @@ pub is_rows_short-requires : goal.is_rows_short-requires
 is_rows_short-requires c = pending_outside_no _ _ (inside c)
 
 pub returns-then-is_rows_short : goal.returns-then-is_rows_short
-returns-then-is_rows_short c = write_rows_too_short _ _ _ _ _ _ (inside (goal.at.returns-then-is_rows_short c).Else-is_pending_outside) (sym c.is_rows_short.ensures ∙ c.if-is_rows_short.true)
+returns-then-is_rows_short c = write_rows _ _ _ _ _ _ (inside (goal.at.returns-then-is_rows_short c).Else-is_pending_outside) (sym c.is_rows_short.ensures ∙ c.if-is_rows_short.true)
 
 pub is_pairs_short-requires : goal.is_pairs_short-requires
 is_pairs_short-requires c = pending_outside_no _ _ (inside (goal.at.is_pairs_short-requires c).Else-is_pending_outside)
 
 pub returns-then-is_pairs_short : goal.returns-then-is_pairs_short
-returns-then-is_pairs_short c = write_sorts_too_short _ _ _ _ _ _ (inside (goal.at.returns-then-is_pairs_short c).Else-is_pending_outside) (rows_long (goal.at.returns-then-is_pairs_short c).Else-is_rows_short) (sym c.is_pairs_short.ensures ∙ c.if-is_pairs_short.true)
+returns-then-is_pairs_short c = write_sorts _ _ _ _ _ _ (inside (goal.at.returns-then-is_pairs_short c).Else-is_pending_outside) (rows_long (goal.at.returns-then-is_pairs_short c).Else-is_rows_short) (sym c.is_pairs_short.ensures ∙ c.if-is_pairs_short.true)
 
 pub returns-then-text-gt-MOST_BYTES : goal.returns-then-text-gt-MOST_BYTES
 returns-then-text-gt-MOST_BYTES c =
-    write_text_too_long _ _ _ _ _ _ (inside (goal.at.returns-then-text-gt-MOST_BYTES c).Else-is_pending_outside) (rows_long (goal.at.returns-then-text-gt-MOST_BYTES c).Else-is_rows_short) (sorts_long (goal.at.returns-then-text-gt-MOST_BYTES c).Else-is_pairs_short) c.if-text-gt-MOST_BYTES.true
+    write_long _ _ _ _ _ _ (inside (goal.at.returns-then-text-gt-MOST_BYTES c).Else-is_pending_outside) (rows_long (goal.at.returns-then-text-gt-MOST_BYTES c).Else-is_rows_short) (sorts_long (goal.at.returns-then-text-gt-MOST_BYTES c).Else-is_pairs_short) c.if-text-gt-MOST_BYTES.true
 
 pub image_length-requires : goal.image_length-requires
 image_length-requires c = (pending_outside_no _ _ (inside (goal.at.image_length-requires c).Else-is_pending_outside), c.if-text-gt-MOST_BYTES.false)
 
 pub returns-then-output-image_length : goal.returns-then-output-image_length
 returns-then-output-image_length c =
-    write_output_too_short _ _ _ _ _ _ (inside (goal.at.returns-then-output-image_length c).Else-is_pending_outside) (rows_long (goal.at.returns-then-output-image_length c).Else-is_rows_short) (sorts_long (goal.at.returns-then-output-image_length c).Else-is_pairs_short) c.if-text-gt-MOST_BYTES.false (rw c.image_length.ensures at c.if-output-image_length.true)
+    write_short _ _ _ _ _ _ (inside (goal.at.returns-then-output-image_length c).Else-is_pending_outside) (rows_long (goal.at.returns-then-output-image_length c).Else-is_rows_short) (sorts_long (goal.at.returns-then-output-image_length c).Else-is_pairs_short) c.if-text-gt-MOST_BYTES.false (rw c.image_length.ensures at c.if-output-image_length.true)
 
 pub returns : goal.returns
 returns c =

@@ -37,9 +37,9 @@ module _ (h : Header) (text : ℕ) where
   unfolding size_refusal first_refusal
   size_outside e = rw e
 
-  pub size_text_too_long : outside h ≡ false → 4096 < text → 21 ≡ size_refusal h text
+  pub size_long : outside h ≡ false → 4096 < text → 21 ≡ size_refusal h text
   unfolding size_refusal first_refusal
-  size_text_too_long e k = rw (e, lt-ltb _ _ k)
+  size_long e k = rw (e, lt-ltb _ _ k)
 
   pub size_none : outside h ≡ false → text ≤ 4096 → 0 ≡ size_refusal h text
   unfolding size_refusal first_refusal
@@ -57,22 +57,22 @@ module _ (h : Header) (rows sorts pending text output : ℕ) where
   write_outside e = rw e
 
   module _ (e : pending_outside h pending ≡ false) where
-    pub write_rows_too_short : rows_short h rows ≡ true → 2 ≡ write_refusal h rows sorts pending text output
+    pub write_rows : rows_short h rows ≡ true → 2 ≡ write_refusal h rows sorts pending text output
     unfolding write_refusal first_refusal
-    write_rows_too_short r = rw (e, r)
+    write_rows r = rw (e, r)
 
-    pub write_sorts_too_short : rows_short h rows ≡ false → pairs_short h sorts ≡ true → 2 ≡ write_refusal h rows sorts pending text output
+    pub write_sorts : rows_short h rows ≡ false → pairs_short h sorts ≡ true → 2 ≡ write_refusal h rows sorts pending text output
     unfolding write_refusal first_refusal
-    write_sorts_too_short r s = rw (e, r, s)
+    write_sorts r s = rw (e, r, s)
 
     module _ (r : rows_short h rows ≡ false) (s : pairs_short h sorts ≡ false) where
-      pub write_text_too_long : 4096 < text → 21 ≡ write_refusal h rows sorts pending text output
+      pub write_long : 4096 < text → 21 ≡ write_refusal h rows sorts pending text output
       unfolding write_refusal first_refusal
-      write_text_too_long k = rw (e, r, s, lt-ltb _ _ k)
+      write_long k = rw (e, r, s, lt-ltb _ _ k)
 
-      pub write_output_too_short : text ≤ 4096 → output < image_length h text → 2 ≡ write_refusal h rows sorts pending text output
+      pub write_short : text ≤ 4096 → output < image_length h text → 2 ≡ write_refusal h rows sorts pending text output
       unfolding write_refusal first_refusal
-      write_output_too_short k o = rw (e, r, s, le-ltb _ _ k, lt-ltb _ _ o)
+      write_short k o = rw (e, r, s, le-ltb _ _ k, lt-ltb _ _ o)
 
       pub write_none : text ≤ 4096 → image_length h text ≤ output → 0 ≡ write_refusal h rows sorts pending text output
       unfolding write_refusal first_refusal

@@ -7,14 +7,14 @@ use Rattle.listing_check.proofs.begin.Goals as goal
 pub returns-then-not-s : goal.returns-then-not-s
 returns-then-not-s c = record {
   begins = λ conditions knows.
-      rw c.finished_scan.ensures (settle (no_listing _ conditions _ (sym c.requires.tested ∙ not-true _ c.if-not-s.true)));
+      rw c.finished.ensures (settle (no_listing _ conditions _ (sym c.requires.tested ∙ not-true _ c.if-not-s.true)));
 }
 
 pub returns-then-not-known : goal.returns-then-not-known
 returns-then-not-known c = record {
   begins = λ conditions knows.
       let l = c.requires.found (not-false _ c.if-not-s.false) in
-      rw c.finished_scan-then-not-known.ensures (settle (unknown _ conditions _ _ l (sym knows ∙ c.if-not-known.true)));
+      rw c.finished-then-not-known.ensures (settle (unknown _ conditions _ _ l (sym knows ∙ c.if-not-known.true)));
 }
 
 pub returns-in-None : goal.returns-in-None
@@ -28,6 +28,6 @@ pub returns-in-At : goal.returns-in-At
 returns-in-At c = record {
   begins = λ conditions knows.
       let l = c.requires.found (not-false _ c.if-not-s.false) in
-      rw c.finished_scan-in-At.ensures
+      rw c.finished-in-At.ensures
       (settle (out_of_place _ conditions _ _ l (sym knows ∙ c.if-not-known.false) (one_misplaced _ _ c.first_misplaced.ensures _ c.in-At.is)));
 }

@@ -4,10 +4,10 @@ use Rattle.listing_check.proofs.Steps.{is_left, step_given, step_row, step_on, s
 use Rattle.listing_check.proofs.step.Goals as goal
 
 pub returns-then-next-number : goal.returns-then-next-number
-returns-then-next-number c = step_given c.given_at-next.ensures c.if-next-number.true c.finished_scan.ensures
+returns-then-next-number c = step_given c.given_at-next.ensures c.if-next-number.true c.finished.ensures
 
 pub returns-then-there-meets : goal.returns-then-there-meets
-returns-then-there-meets c = step_row c.given_at-next.ensures c.if-next-number.false c.if-there-meets.true c.finished_scan-then-there-meets.ensures
+returns-then-there-meets c = step_row c.given_at-next.ensures c.if-next-number.false c.if-there-meets.true c.finished-then-there-meets.ensures
 
 pub overflow_add-n : goal.overflow_add-n
 overflow_add-n c =

@@ -63,8 +63,8 @@ pub record Underway (columns : ℕ) (text : List ℕ) (conditions : List Constra
   pub comes : AnswersChecked text conditions given (unless_wrong at.answer (first_apart (drop at.place given) (right_among conditions (rows_left text at))))
 
 -- no row and no number is left
-abbrev pub finished_scan : CheckAnswer → ℕ → CheckScan
-finished_scan answer count = record { answer = answer; start = 0; end = 0; place = count }
+abbrev pub finished_as : CheckAnswer → ℕ → CheckScan
+finished_as answer count = record { answer = answer; start = 0; end = 0; place = count }
 
 pub record Begun (s : Survey) (knows : Bool) (text given : List ℕ) (at : CheckScan) : Type 0 where
   pub begins : (conditions : List Constraint) → knows ≡ all (known s.columns) conditions → Underway s.columns text conditions given at

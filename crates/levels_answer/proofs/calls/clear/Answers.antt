@@ -3,4 +3,4 @@ use Rattle.levels_answer.proofs.Prelude.{clear_served}
 use Rattle.levels_answer.proofs.calls.clear.Goals as goal
 
 pub returns : goal.returns
-returns c = clear_served c.respond_table.ensures c.clear-cleared.ensures
+returns c = clear_served c.taken.ensures c.clear-cleared.ensures

@@ -3,4 +3,4 @@ use Rattle.levels_answer.proofs.Prelude.{refl, compact_served}
 use Rattle.levels_answer.proofs.calls.compact.Goals as goal
 
 pub returns : goal.returns
-returns c = compact_served c.respond_table.ensures refl refl c.compact-compacted.ensures
+returns c = compact_served c.taken.ensures refl refl c.compact-compacted.ensures

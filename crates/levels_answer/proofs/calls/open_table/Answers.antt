@@ -6,4 +6,4 @@ pub returns-then-capacity-gt-MOST_ROWS : goal.returns-then-capacity-gt-MOST_ROWS
 returns-then-capacity-gt-MOST_ROWS c = large_served _ _ c.if-capacity-gt-MOST_ROWS.true
 
 pub returns : goal.returns
-returns c = open_served c.respond_table.ensures _ c.if-capacity-gt-MOST_ROWS.false c.open_table-opened.ensures
+returns c = open_served c.taken.ensures _ c.if-capacity-gt-MOST_ROWS.false c.open_table-opened.ensures

@@ -1,6 +1,6 @@
--- `levels_answer::calls::respond_table` meets its contract. Assumes nothing.
+-- `levels_answer::calls::taken` meets its contract. Assumes nothing.
 use Rattle.levels_answer.proofs.Prelude.{served_refused, served_table}
-use Rattle.levels_answer.proofs.calls.respond_table.Goals as goal
+use Rattle.levels_answer.proofs.calls.taken.Goals as goal
 
 pub returns-in-Refused : goal.returns-in-Refused
 returns-in-Refused c = served_refused _ _ _ c.in-Refused.is

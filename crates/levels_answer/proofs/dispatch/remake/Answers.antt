@@ -1,6 +1,6 @@
--- `levels_answer::dispatch::serve_open_clear_compact` meets its contract. Assumes nothing.
+-- `levels_answer::dispatch::remake` meets its contract. Assumes nothing.
 use Rattle.levels_answer.proofs.Prelude.{form_open, compact_letter, as_letter}
-use Rattle.levels_answer.proofs.dispatch.serve_open_clear_compact.Goals as goal
+use Rattle.levels_answer.proofs.dispatch.remake.Goals as goal
 
 pub open_table-requires : goal.open_table-requires
 open_table-requires c = form_open _ _ c.if-letter-eq79.true c.requires.numbers_value
