@@ -5,7 +5,6 @@ pub use mathlib.Core.List.{List, [], ◌++◌, ◌∷◌, append_assoc, append-n
 pub use mathlib.Core.Path.{◌∙◌, ◌≡◌, ap, refl, sym}
 pub use native.Mathlib.Omega.{arith}
 pub use lib.ListN.{drop, get_or, length, length-append, length-take, take}
-pub use borrow.Author.Rules.{rules}
 pub use Rattle.history.proofs.Laws.Narrowing.{any_both, or_assoc, or-false}
 pub use Rattle.history.specs.Runs.{Outcome, Query, outcome, refines}
 pub use Rattle.replay_frames.specs.Laws.Frames.{framed_end, framed_next}

@@ -1,7 +1,7 @@
 -- The ids left, as an answer encodes them; and the result of a list of queries, each run on the subset that the last accepted query
 -- returned, with an output of this many ids. Assumes nothing.
 use Rattle.std.specs.Prelude.{ℕ, ◌≡◌, cond, List, [], ◌∷◌, ◌++◌, take, eqb}
-use Rattle.std.proofs.Math.Option.{Option, none, Option·elim}
+use Rattle.std.proofs.Math.Option.{Option, none, Option-elim}
 use Rattle.refusals.specs.Refusals.{Reply, if_accepted}
 use Rattle.offsets.specs.Subsets.{Subset}
 use Rattle.offsets.specs.Answers.{subset_of, intersect_reply}
@@ -32,7 +32,7 @@ module _ (h : Header) (rows : List ℕ) (output : ℕ) where
   queried a (refine_list cs) found = by_reply a (refine_list cs) (refine_list_reply h rows a cs output)
   queried a (intersect_with b) found = by_reply a (intersect_with b) (intersect_reply a b output)
   queried a (intersect_range c) found =
-      Option·elim (if_accepted found (λ range. range) none) (outcome a []) (λ b. by_reply a (intersect_range c) (intersect_reply a b output))
+      Option-elim (if_accepted found (λ range. range) none) (outcome a []) (λ b. by_reply a (intersect_range c) (intersect_reply a b output))
 
 -- the queries, in order; each range step has the result of `fast_subset` for its condition
 pub data QueriedAll (h : Header) (rows sorts : List ℕ) (output : ℕ) : Subset → List Query → Outcome → Type 0 where

@@ -2,7 +2,7 @@
 -- determined by the stores and the queries alone. Assumes nothing.
 use Rattle.std.specs.Prelude.{◌≡◌, ◌∷◌, ◌++◌}
 use Rattle.replay_queries.specs.Laws.Prelude.{ℕ, refl, sym, ◌∙◌, inl, inr, true, Option, none, some, List, [], arith, length, replicate, length-replicate, take-length, filter, rising, Reply, refused, accepted, reply, some_number, ruled_refused, Constraint, entries_of, entries_sound, Opening, LentCall, Header, RangeAnswer, range_view, fast_refusal, Stores, stores, fast_subset, RangeRead, reply_refused, reply_accepted, History, wanted, by_reply_lem, term_three, RunAnswer, shorter, RunMade}
-use Rattle.std.proofs.Math.Option.{Option·elim}
+use Rattle.std.proofs.Math.Option.{Option-elim}
 use Rattle.refusals.specs.Refusals.{if_accepted}
 use Rattle.offsets.specs.Subsets.{Subset, members}
 use Rattle.history.specs.Runs.{Query, refine_one, refine_list, intersect_with, intersect_range, Queried, one_refined, list_refined, intersected, range_intersected, range_nothing, Run, end as run_end, next as run-next, Outcome, outcome}
@@ -23,7 +23,7 @@ module _ (h : Header) (rows keys sorts pending : List ℕ) (room : ℕ) where
 
   range_queried : (a : Subset) (c : Constraint) (range : RangeAnswer) (found : Reply (Option Subset)) → RangeRead h sorts c range → range_view range ≡ found
       → Queried table a (intersect_range c) (queried h rows room a (intersect_range c) found)
-  unfolding queried Option·elim if_accepted
+  unfolding queried Option-elim if_accepted
   range_queried a c range (refused n) read e =
       range_nothing c (length sorts) range (rw (take-length sorts) read) (λ b f. absurd (let z : ◌≡◌ {A = ℕ} 0 1 = cc in omega arith))
   range_queried a c range (accepted none) read e =

@@ -2,7 +2,7 @@
 use Rattle.std.specs.Prelude.{ℕ, ◌+◌, ◌≤◌, ◌<◌, Bool, true, false, ◌||◌, List, [], ◌∷◌, ◌++◌, length, take}
 use Rattle.std.proofs.Math.Path.{◌≡◌, refl, sym, ap}
 use Rattle.std.proofs.Common.{◌∙◌, arith, ne_eqb}
-use Rattle.std.proofs.Math.Option.{some, Option·elim}
+use Rattle.std.proofs.Math.Option.{some, Option-elim}
 use Rattle.lists.specs.Lists.{any}
 use Rattle.refusals.specs.Refusals.{Reply, accepted, reply, if_accepted}
 use Rattle.offsets.specs.declared.SubsetAnswer.{SubsetAnswer}
@@ -158,7 +158,7 @@ module _ {h : Header} {rows sorts : List ℕ} {a : Subset} {queries : List Query
     pub put_ranged : (b : Subset) {c : Constraint} {found : RangeAnswer} → queries ≡ intersect_range c ∷ [] → RangeRead h sorts c found
         → range_view found ≡ accepted (some b) → Answered (intersect_reply a b (length output)) output answer output' → l' ≡ apply_answer l place false answer
         → Executed h rows sorts a queries l place output l' output'
-    unfolding queried Option·elim if_accepted refines
+    unfolding queried Option-elim if_accepted refines
     put_ranged b {c} {found} e read is m same =
         put_replied (intersect_range c) _ found e (intersection_replied a b m) same (λ d z. let k : c ≡ d = cc in rw (← k) read) (rw is)
 
