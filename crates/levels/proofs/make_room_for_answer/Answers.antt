@@ -1,0 +1,23 @@
+-- `levels::make_room_for_answer` meets its contract. Assumes nothing.
+use Rattle.levels.proofs.Prelude.{refl, sym, ◌∙◌, false≢true}
+use Rattle.levels.proofs.make_room_for_answer.Goals as goal
+
+pub returns-then-is_written : goal.returns-then-is_written
+returns-then-is_written c =
+    record {
+      same_input = refl;
+      same_length = refl;
+      room = c.make_room-handed.ensures;
+      answers = λ e. (refl, refl);
+      fails = λ e. absurd (false≢true (sym e ∙ (sym c.is_written.ensures ∙ c.if-is_written.true)));
+    }
+
+pub returns : goal.returns
+returns c =
+    record {
+      same_input = refl;
+      same_length = refl;
+      room = c.make_room-handed.ensures;
+      answers = λ e. absurd (false≢true (sym c.if-is_written.false ∙ (c.is_written.ensures ∙ e)));
+      fails = λ e. (refl, refl);
+    }
