@@ -1,4 +1,4 @@
-// The refresh of the rows that contain a given value, as a C function.
+// The refresh of the rows that contain a given value, for C (`abi_refresh_c`).
 #![tactic(auto)]
 
 ghost use Rattle.refresh_spec.specs.Refreshes.{refresh_view, Refreshing};
@@ -23,8 +23,7 @@ fn store_refresh(answer: RefreshAnswer, header: &mut [u32; 12], staged: &mut [u3
 }
 
 // The answer is one word: 1 if a row was staged.
-#[unsafe(no_mangle)]
-pub extern "C" fn mouldgrey_refresh_rows_for_values(
+pub fn mouldgrey_refresh_rows_for_values(
     header: &mut [u32; 12],
     rows: &[u32],
     pending: &mut [u32],
@@ -34,7 +33,7 @@ pub extern "C" fn mouldgrey_refresh_rows_for_values(
     stamp: u32,
     staged: &mut [u32; 1],
 ) -> u32
-    ensures { AnswersWithHeader (λ answer. Refreshing (decode_header header.old) rows.now pending.old index.old (record { columns = columns.entry.now; values = values.now; stamp = stamp }) answer pending.new index.new) refresh_view (λ a. a.header) (λ a. encode_bool a.staged) header.old staged.old result header.new staged.new }
+    ensures { AnswersWithHeader (λ answer. Refreshing (decode_header header.old) rows.now pending.old index.old (record { columns = columns.now; values = values.now; stamp = stamp }) answer pending.new index.new) refresh_view (λ a. a.header) (λ a. encode_bool a.staged) header.old staged.old result header.new staged.new }
 {
     let h = decode_header(header);
     let answer = refresh_rows_for_values(h, rows, pending, index, columns, values, stamp);
