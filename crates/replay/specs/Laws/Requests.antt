@@ -4,7 +4,7 @@ use Rattle.replay.specs.Laws.CallPrelude.{ℕ, refl, sym, ap, ◌∙◌, inl, in
 use Rattle.std.specs.Prelude.{Bool, ◌+◌, ◌*◌, ◌-◌, ◌≤◌, ◌≡◌, ◌∷◌, ◌++◌}
 use Rattle.lists.specs.Lists.{any}
 use Rattle.plain_table.specs.Refreshing.{Refresh, refresh_checks}
-use Rattle.plain_table.specs.Calls.{Call, refreshing, after_all, LentCall}
+use Rattle.plain_table.specs.Calls.{Call, refreshing, after, after_all, LentCall}
 use Rattle.refresh_spec.specs.Refreshes.{refresh_refusal, Refreshing}
 use Rattle.history.specs.Histories.{refreshed_stores, Called, stages, merges, compacts, clears, refreshes as call-refreshes, refreshes_unsound, behind, Steps, end as steps-end, next as steps_next, History, lent_call}
 use Rattle.replay.specs.Requests.{Request, make, refresh, lent_to, Served, made, refreshed, refreshed_unsound, ServedAll, end, next}
@@ -79,7 +79,7 @@ unfolding after_all
 index_past r (end s index) = refl
 index_past {l} {p} r (next {c = c} one call more) =
     let opening = (onward_all p (lent_to l c ∷ [])).opening in
-    (rw opening at (index_past (step_represents r (whole_step call)) more)) ∙ served_past r one
+    (rw opening at (index_past {p = after p l c} (step_represents r (whole_step call)) more)) ∙ served_past r one
 
 -- ---- the key store
 
@@ -97,7 +97,7 @@ unfolding after_all
 slots_past r (end s index) = refl
 slots_past {l} {p} r (next {c = c} one call more) =
     let opening = (onward_all p (lent_to l c ∷ [])).opening in
-    (rw opening at (slots_past (step_represents r (whole_step call)) more)) ∙ (rw (ap (λ (h : Header). h.capacity) r.shown.header) at (called_slots call))
+    (rw opening at (slots_past {p = after p l c} (step_represents r (whole_step call)) more)) ∙ (rw (ap (λ (h : Header). h.capacity) r.shown.header) at (called_slots call))
 
 -- ---- with a new index store
 
