@@ -1,5 +1,4 @@
 use mathlib.Core.Path.{ap}
-use native.Mathlib.Omega.{arith}
 use Rattle.plain_table.specs.Refusing.{Lengths}
 use Rattle.replay.proofs.ReplaySteps.{lengths_same, going_begin, going_again, going_end}
 use Rattle.replay.proofs.make_calls.Goals as goal
