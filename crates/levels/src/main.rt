@@ -6,7 +6,7 @@ ghost use Rattle.std.specs.Prelude.{◌≤◌, ◌<◌, length as len};
 ghost use Rattle.levels_io.specs.inner.Scanning.{InputIn};
 ghost use Rattle.levels.specs.Run.{machine, Ran};
 ghost use Rattle.levels.specs.inner.Turns.{Within, Turned};
-ghost use Rattle.levels.specs.inner.Advancing.{FlushedAndRead, RoomForAnswer, Advanced};
+ghost use Rattle.levels.specs.inner.Advancing.{ReadOn, Ready, Advanced};
 ghost use Rattle.levels.specs.inner.Stepping.{Shorter};
 ghost use Rattle.levels.specs.inner.Running.{Finished};
 
@@ -52,7 +52,7 @@ struct LineProgress {
 }
 
 // Writes all buffered bytes, then reads. Reads nothing if the write fails.
-fn flush_and_read(
+fn read_on(
     stdin: Stdin,
     stdout: Stdout,
     chunk: &mut [u8],
@@ -64,7 +64,7 @@ fn flush_and_read(
     requires used_bound { used ≤ len text.now }
     requires end_le_next { rest.end ≤ rest.next }
     requires reads_nonzero { 0 < rest.reads }
-    ensures { FlushedAndRead chunk.old rest length used chunk.new result }
+    ensures { ReadOn chunk.old rest length used chunk.new result }
 {
     let handed = flush(stdout, text, used);
     if is_written(handed) {
@@ -87,7 +87,7 @@ fn flush_and_read(
 }
 
 // Makes room in the buffer for the answer of a line.
-fn make_room_for_answer(
+fn ready(
     stdout: Stdout,
     text: &[u8],
     rest: Input,
@@ -96,7 +96,7 @@ fn make_room_for_answer(
     is_last: bool,
 ) -> LineProgress
     requires { used ≤ len text.now }
-    ensures { RoomForAnswer (len text.now) rest length used is_last result }
+    ensures { Ready (len text.now) rest length used is_last result }
 {
     let handed = make_room(stdout, text, used, MOST_TEXT);
     if is_written(handed) {
@@ -137,13 +137,13 @@ fn advance(
     let rest = taken.input;
     let kept = taken.length;
     if taken.is_whole {
-        return make_room_for_answer(stdout, text, rest, kept, used, false);
+        return ready(stdout, text, rest, kept, used, false);
     }
     if !is_at_end(rest) {
-        return flush_and_read(stdin, stdout, chunk, text, rest, kept, used);
+        return read_on(stdin, stdout, chunk, text, rest, kept, used);
     }
     if kept > 0 {
-        return make_room_for_answer(stdout, text, rest, kept, used, true);
+        return ready(stdout, text, rest, kept, used, true);
     }
     LineProgress {
         input: rest,

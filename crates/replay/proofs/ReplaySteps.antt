@@ -6,7 +6,7 @@ use mathlib.Core.List.{List}
 use native.Mathlib.Omega.{arith}
 use lib.ListN.{length, take, drop, get_or}
 use Rattle.replay_frames.specs.Frames.{framed}
-use Rattle.replay_frames.specs.inner.Lengths.{Incomplete, Whole}
+use Rattle.replay_frames.specs.inner.Lengths.{Cut, Whole}
 use Rattle.replay_frames.specs.Laws.Frames.{framed_end, framed_next}
 use Rattle.plain_table.specs.Refusing.{Lengths}
 use Rattle.table.specs.Outcomes.{Stores, CompactionWords}
@@ -46,5 +46,5 @@ module _ {words : List ℕ} {l : Lengths} {s : Stores} {w : CompactionWords} {in
         }
 
     -- no request is left
-    pub going_end : Incomplete words at → Made (framed request_of words) l s w index s' w' index'
+    pub going_end : Cut words at → Made (framed request_of words) l s w index s' w' index'
     going_end none = v.rest s' w' index' (none_made l s' w' index' (framed_end request_of none))

@@ -8,7 +8,7 @@ pub use lib.ListN.{drop, get_or, length, length-append, length-take, take}
 pub use Rattle.history.proofs.Laws.Narrowing.{any_both, or_assoc, or-false}
 pub use Rattle.history.specs.Runs.{Outcome, Query, outcome, refines}
 pub use Rattle.replay_frames.specs.Laws.Frames.{framed_end, framed_next}
-pub use Rattle.replay_frames.specs.inner.Lengths.{Incomplete, Whole}
+pub use Rattle.replay_frames.specs.inner.Lengths.{Cut, Whole}
 pub use Rattle.replay_queries.specs.Encoding.{query_of}
 pub use Rattle.replay_queries.specs.declared.RunAnswer.{RunAnswer}
 pub use Rattle.replay_queries.specs.Laws.Running.{execute_first, execute_neither, execute_second, queried_then}

@@ -1,5 +1,5 @@
 -- A run, query by query. Assumes nothing.
-use Rattle.replay_queries.proofs.Prelude.{ℕ, zero, suc, ◌+◌, ◌-◌, ◌≤◌, min, ◌≡◌, refl, sym, ap, ◌∙◌, Bool, false, ◌||◌, List, [], ◌∷◌, ◌++◌, append_assoc, append-nil, arith, length, take, drop, get_or, length-take, length-append, Incomplete, Whole, framed_end, framed_next, Header, Query, refines, Outcome, outcome, or_assoc, or-false, any_both, RunAnswer, query_of, shorter, RunMade, QueriesExecuted, QueryExecuted, queried_then}
+use Rattle.replay_queries.proofs.Prelude.{ℕ, zero, suc, ◌+◌, ◌-◌, ◌≤◌, min, ◌≡◌, refl, sym, ap, ◌∙◌, Bool, false, ◌||◌, List, [], ◌∷◌, ◌++◌, append_assoc, append-nil, arith, length, take, drop, get_or, length-take, length-append, Cut, Whole, framed_end, framed_next, Header, Query, refines, Outcome, outcome, or_assoc, or-false, any_both, RunAnswer, query_of, shorter, RunMade, QueriesExecuted, QueryExecuted, queried_then}
 use mathlib.Core.Bool.{cond}
 use lib.Dec.{eqb}
 use borrow.Author.Tests.{ne_eqb}
@@ -96,7 +96,7 @@ module _ {h : Header} {rows sorts ids words first₀ second₀ : List ℕ} {l₀
         }
 
     -- no query is left
-    pub going_end : Incomplete words at → QueriesExecuted h rows sorts ids (framed query_of words) l₀ first₀ second₀ l first second
+    pub going_end : Cut words at → QueriesExecuted h rows sorts ids (framed query_of words) l₀ first₀ second₀ l first second
     going_end none =
         let frame : framed query_of (drop at words) ≡ [] = framed_end query_of none in
         record {

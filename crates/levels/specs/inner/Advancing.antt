@@ -8,7 +8,7 @@ use Rattle.levels_io.specs.inner.Flushing.{RoomMade}
 use Rattle.levels.specs.declared.LineProgress.{LineProgress}
 
 -- All buffered bytes are written; then a read is made, unless the write failed.
-pub record FlushedAndRead (chunk : List ℕ) (rest : Input) (count used : ℕ) (chunk' : List ℕ) (r : LineProgress) : Type 0 where
+pub record ReadOn (chunk : List ℕ) (rest : Input) (count used : ℕ) (chunk' : List ℕ) (r : LineProgress) : Type 0 where
   pub same_length : r.length ≡ count
   pub all_handed : r.handed.count ≡ used
   pub no_line : r.is_line ≡ false
@@ -16,7 +16,7 @@ pub record FlushedAndRead (chunk : List ℕ) (rest : Input) (count used : ℕ) (
   pub fails : r.handed.is_written ≡ false → (r.is_over ≡ true) × (r.input ≡ rest) × (chunk' ≡ chunk)
 
 -- there is room for an answer, unless a write failed
-pub record RoomForAnswer (text : ℕ) (rest : Input) (count used : ℕ) (last : Bool) (r : LineProgress) : Type 0 where
+pub record Ready (text : ℕ) (rest : Input) (count used : ℕ) (last : Bool) (r : LineProgress) : Type 0 where
   pub same_input : r.input ≡ rest
   pub same_length : r.length ≡ count
   pub room : RoomMade text used 103492 r.handed
@@ -24,7 +24,7 @@ pub record RoomForAnswer (text : ℕ) (rest : Input) (count used : ℕ) (last : 
   pub fails : r.handed.is_written ≡ false → (r.is_line ≡ false) × (r.is_over ≡ true)
 
 -- nothing remains to be done
-pub record InputEnded (rest : Input) (r : LineProgress) : Type 0 where
+pub record Over (rest : Input) (r : LineProgress) : Type 0 where
   pub same_input : r.input ≡ rest
   pub no_length : r.length ≡ 0
   pub none_handed : r.handed.count ≡ 0
@@ -35,10 +35,10 @@ pub record InputEnded (rest : Input) (r : LineProgress) : Type 0 where
 module _ (line : List ℕ) (count : ℕ) (chunk : List ℕ) (input : Input) (text : List ℕ) (used : ℕ) (line' chunk' : List ℕ) (r : LineProgress) where
   pub data Advanced : Type 0 where
     found : (taken : TakenLine) → LineTaken line count chunk input line' taken → taken.is_whole ≡ true
-        → RoomForAnswer (length text) taken.input taken.length used false r → chunk' ≡ chunk → Advanced
+        → Ready (length text) taken.input taken.length used false r → chunk' ≡ chunk → Advanced
     more : (taken : TakenLine) → LineTaken line count chunk input line' taken → taken.is_whole ≡ false → (0 < bytes_read taken.input.got) × (0 < taken.input.reads)
-        → FlushedAndRead chunk taken.input taken.length used chunk' r → Advanced
+        → ReadOn chunk taken.input taken.length used chunk' r → Advanced
     ended : (taken : TakenLine) → LineTaken line count chunk input line' taken → taken.is_whole ≡ false → AtEnd taken.input → 0 < taken.length
-        → RoomForAnswer (length text) taken.input taken.length used true r → chunk' ≡ chunk → Advanced
+        → Ready (length text) taken.input taken.length used true r → chunk' ≡ chunk → Advanced
     nothing_left : (taken : TakenLine) → LineTaken line count chunk input line' taken → taken.is_whole ≡ false → AtEnd taken.input → taken.length ≡ 0
-        → InputEnded taken.input r → chunk' ≡ chunk → Advanced
+        → Over taken.input r → chunk' ≡ chunk → Advanced

@@ -22,7 +22,7 @@ use Rattle.levels.specs.declared.LineProgress.{LineProgress}
 use Rattle.levels.specs.declared.State.{State}
 use Rattle.levels.specs.Run.{Program, program, answered, line_step, read_step, last_step, over_step, Machine, Holds}
 use Rattle.levels.specs.inner.Turns.{Within, StepMade, Turned}
-use Rattle.levels.specs.inner.Advancing.{FlushedAndRead, RoomForAnswer, InputEnded, Advanced, found, more, ended, nothing_left}
+use Rattle.levels.specs.inner.Advancing.{ReadOn, Ready, Over, Advanced, found, more, ended, nothing_left}
 
 -- Termination measure: the most bytes that may still be taken. Each step but the last decreases it.
 abbrev pub input_left : Input → ℕ
@@ -119,7 +119,7 @@ module _ (s : Stores) (line₀ : List ℕ) (count : ℕ) (chunk : List ℕ) (inp
     no_newline : (p : Program) → Holds p before → elem 10 (p.begun ++ p.unread) ≡ false
     no_newline p h = rw (all_bytes p h) (k.line_is p.begun h.line_begun).no_newline
 
-    module _ (y : FlushedAndRead chunk taken.input taken.length used chunk' r) (written : r.handed.is_written ≡ true) where
+    module _ (y : ReadOn chunk taken.input taken.length used chunk' r) (written : r.handed.is_written ≡ true) where
       one_read : r.input.reads + 1 ≡ input.reads
       one_read = (y.reads written).1.one_read ∙ k.same_read.reads
 
@@ -155,7 +155,7 @@ module _ (s : Stores) (line₀ : List ℕ) (count : ℕ) (chunk : List ℕ) (inp
           }
 
     -- ---- the input is over, with no line begun
-    module _ (wide : 0 < length line') (end : AtEnd taken.input) (empty : taken.length ≡ 0) (y : InputEnded taken.input r) (still : chunk' ≡ chunk) where
+    module _ (wide : 0 < length line') (end : AtEnd taken.input) (empty : taken.length ≡ 0) (y : Over taken.input r) (still : chunk' ≡ chunk) where
       nothing_begun : (p : Program) → Holds p before → length (p.begun ++ p.unread) ≡ 0
       nothing_begun p h =
           let counted = (k.line_is p.begun h.line_begun).counted in
@@ -232,7 +232,7 @@ module _ (s : Stores) (line₀ : List ℕ) (count : ℕ) (chunk : List ℕ) (inp
           bytes_buffered = sym (rw (same, left_is) at (a.text_is p.table held));
         }
 
-    module _ (taken : TakenLine) (k : Taking taken) {over : Bool} (y : RoomForAnswer (length text) taken.input taken.length used over r) (still : chunk' ≡ chunk) where
+    module _ (taken : TakenLine) (k : Taking taken) {over : Bool} (y : Ready (length text) taken.input taken.length used over r) (still : chunk' ≡ chunk) where
       line_cut : (p : Program) → Holds p before → take r.length line' ≡ take 121 (p.begun ++ k.bytes)
       line_cut p h = rw (y.same_length, ← wide) (k.line_is p.begun h.line_begun).kept
 
@@ -254,7 +254,7 @@ module _ (s : Stores) (line₀ : List ℕ) (count : ℕ) (chunk : List ℕ) (inp
                 };
           }
 
-    line_made : (taken : TakenLine) (k : Taking taken) → taken.is_whole ≡ true → RoomForAnswer (length text) taken.input taken.length used false r → chunk' ≡ chunk
+    line_made : (taken : TakenLine) (k : Taking taken) → taken.is_whole ≡ true → Ready (length text) taken.input taken.length used false r → chunk' ≡ chunk
         → (p : Program) → Holds p before → StepMade p before r.handed after_line false
     line_made taken k whole y still p h =
         let rest = unread chunk taken.input in (
@@ -264,7 +264,7 @@ module _ (s : Stores) (line₀ : List ℕ) (count : ℕ) (chunk : List ℕ) (inp
           answered_holds p (p.begun ++ k.bytes) rest h.table_held (line_cut taken k y still p h) (rw (still, y.same_input)),
         )
 
-    last_made : (taken : TakenLine) (k : Taking taken) → taken.is_whole ≡ false → 0 < taken.length → RoomForAnswer (length text) taken.input taken.length used true r → chunk' ≡ chunk
+    last_made : (taken : TakenLine) (k : Taking taken) → taken.is_whole ≡ false → 0 < taken.length → Ready (length text) taken.input taken.length used true r → chunk' ≡ chunk
         → (p : Program) → Holds p before → StepMade p before r.handed after_line true
     last_made taken k none some y still p h =
         let counted = (k.line_is p.begun h.line_begun).counted in

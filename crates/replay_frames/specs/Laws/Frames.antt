@@ -6,17 +6,17 @@ use Rattle.std.proofs.Common.{◌∙◌, arith, length-drop, drop-drop, get_or-d
 use mathlib.Core.List.{List, [], ◌∷◌, ◌++◌}
 use Rattle.std.proofs.lemmas.Bool.{lt-leb}
 use Rattle.replay_frames.specs.Frames.{framed_after, framed}
-use Rattle.replay_frames.specs.inner.Lengths.{Incomplete, Whole}
+use Rattle.replay_frames.specs.inner.Lengths.{Cut, Whole}
 
 -- ---- the item at a place
 
 module _ (words : List ℕ) (at : ℕ) (inside : at ≤ length words) where
   -- fewer than two words are left
-  pub cut_end : length words - at < 2 → Incomplete words at
+  pub cut_end : length words - at < 2 → Cut words at
   cut_end h = record { short = omega arith }
 
   -- fewer than the count are left
-  pub cut_count : length words - at < get_or words (at + 1) 0 + 2 → Incomplete words at
+  pub cut_count : length words - at < get_or words (at + 1) 0 + 2 → Cut words at
   cut_count h = record { short = omega arith }
 
   -- all words of the item are left
@@ -50,7 +50,7 @@ module _ {A : Type 0} (of : ℕ → List ℕ → List A) where
 
   module _ {words : List ℕ} {at : ℕ} where
     -- no more items
-    pub framed_end : Incomplete words at → framed of (drop at words) ≡ []
+    pub framed_end : Cut words at → framed of (drop at words) ≡ []
     framed_end l = framed_cut (drop at words) (omega (arith, length-drop at words, second words at, l.short))
 
     -- an item, and those behind it

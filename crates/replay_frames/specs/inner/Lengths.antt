@@ -4,7 +4,7 @@ use Rattle.replay_frames.specs.declared.Frame.{Frame}
 use Rattle.replay_frames.specs.declared.Frame.TheVariants.{None, Words}
 
 -- no complete item begins here
-pub record Incomplete (words : List ℕ) (at : ℕ) : Type 0 where
+pub record Cut (words : List ℕ) (at : ℕ) : Type 0 where
   pub short : length words < at + 2 + get_or words (at + 1) 0
 
 -- an item of n words, including its kind and count
@@ -13,5 +13,5 @@ pub record Whole (words : List ℕ) (at n : ℕ) : Type 0 where
   pub counted : n ≡ get_or words (at + 1) 0 + 2
 
 abbrev pub FrameIs : List ℕ → ℕ → Frame → Type 0
-FrameIs words at None = Incomplete words at
+FrameIs words at None = Cut words at
 FrameIs words at (Words n) = Whole words at n

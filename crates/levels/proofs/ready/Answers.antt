@@ -1,6 +1,6 @@
--- `levels::make_room_for_answer` meets its contract. Assumes nothing.
+-- `levels::ready` meets its contract. Assumes nothing.
 use Rattle.levels.proofs.Prelude.{refl, sym, ◌∙◌, false≢true}
-use Rattle.levels.proofs.make_room_for_answer.Goals as goal
+use Rattle.levels.proofs.ready.Goals as goal
 
 pub returns-then-is_written : goal.returns-then-is_written
 returns-then-is_written c =

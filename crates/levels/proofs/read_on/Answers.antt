@@ -1,6 +1,6 @@
--- `levels::flush_and_read` meets its contract. Assumes nothing.
+-- `levels::read_on` meets its contract. Assumes nothing.
 use Rattle.levels.proofs.Prelude.{refl, sym, ◌∙◌, false≢true}
-use Rattle.levels.proofs.flush_and_read.Goals as goal
+use Rattle.levels.proofs.read_on.Goals as goal
 
 pub returns-then-is_written : goal.returns-then-is_written
 returns-then-is_written c =
