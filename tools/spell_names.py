@@ -22,7 +22,11 @@ APART = {
     "refreshed-stores": "stores_refreshed",
     "stores-short": "are_stores_short",
     "slice-val": "slice_value",
+    "refine-one": "refine_one",
+    "refine-list": "refine_list",
 }
+# A word of the library that the kit's script leaves to be turned by hand.
+LIBRARY = {"Option·elim": "Option-elim"}
 
 NAME = r"[^\s(){}.;,@\"«»\[\]]+"
 TOKEN = re.compile(NAME)
@@ -129,6 +133,8 @@ def main():
     bare = {}
     by_new = {}
     for name, new in table.items():
+        if name in APART:
+            continue
         by_new.setdefault(new, []).append(name)
     for new, names in by_new.items():
         humped = [it for it in names if HUMP.search(it)]
@@ -147,6 +153,8 @@ def main():
     for new, names in sorted(fallen.items()):
         if len(names) > 1 or new in own or new in brought:
             print(f"look: {names} and {new}: {'own' if new in own else ''} {'library' if new in brought else ''}")
+
+    table.update(LIBRARY)
 
     def spelled(text):
         def one(m):
