@@ -1,5 +1,5 @@
-// Lists of calls and of queries as C functions: the two of the order's term 3, an opening with a list of calls and a list of queries;
-// and all short histories.
+// Lists of calls and of queries, for C (`abi_replay_c`): the two of the order's term 3, an opening with a list of calls and a list of
+// queries; and all short histories.
 #![tactic(auto)]
 
 ghost use Rattle.std.specs.Prelude.{◌≡◌, min, get_or};
@@ -27,8 +27,7 @@ const MOST_TAKEN: u32 = 4294967295;
 
 // Opens a table and makes the calls in order, including refreshes over the index store. The opening is six words: columns, keys,
 // sort, rule, capacity, generation.
-#[unsafe(no_mangle)]
-pub extern "C" fn mouldgrey_replay(
+pub fn mouldgrey_replay(
     opening: &[u32; 6],
     header: &mut [u32; 12],
     calls: &[u32],
@@ -88,8 +87,7 @@ fn store_run(l: RunAnswer, words: &mut [u32; 7]) -> u32
 
 // Runs the queries in order, each on the ids that the last accepted one left. The answer is seven words: dense, start, end, count,
 // place, refined, taken.
-#[unsafe(no_mangle)]
-pub extern "C" fn mouldgrey_run_queries(
+pub fn mouldgrey_run_queries(
     header: &[u32; 12],
     rows: &[u32],
     sorts: &[u32],
@@ -116,7 +114,7 @@ const REMOVE: u32 = 1;
 const MERGE: u32 = 2;
 
 fn store_step(answer: StepAnswer, words: &mut [u32; 4]) -> u32
-    ensures { Stored step_words (λ words. words) answer words.entry.now result words.exit.now }
+    ensures { Stored step_words (λ words. words) answer words.old result words.new }
 {
     match answer {
         StepAnswer::Refused(number) => number,
@@ -164,27 +162,20 @@ fn store_sequence(answer: SequenceAnswer, words: &mut [u32; 2]) -> u32
 }
 
 // The call of a step, in four words: 0, key, stamp, third cell; 1, key, 0, 0; 2, 0, 0, 0.
-#[unsafe(no_mangle)]
-pub extern "C" fn mouldgrey_step_at(step: u32, answer: &mut [u32; 4]) -> u32
+pub fn mouldgrey_step_at(step: u32, answer: &mut [u32; 4]) -> u32
     ensures { Answers (StepAnswered step) step_words (λ words. words) answer.old result answer.new }
 {
     store_step(short_histories::step_at(step), answer)
 }
 
-#[unsafe(no_mangle)]
-pub extern "C" fn mouldgrey_position_of(sequence: &[u32], position: &mut [u32; 1]) -> u32
+pub fn mouldgrey_position_of(sequence: &[u32], position: &mut [u32; 1]) -> u32
     ensures { Answers (PositionAnswered sequence.now) position_view encode_number position.old result position.new }
 {
     store_position(short_histories::position_of(sequence), position)
 }
 
 // The answer is two words: found, length.
-#[unsafe(no_mangle)]
-pub extern "C" fn mouldgrey_sequence_at(
-    position: u32,
-    output: &mut [u32],
-    answer: &mut [u32; 2],
-) -> u32
+pub fn mouldgrey_sequence_at(position: u32, output: &mut [u32], answer: &mut [u32; 2]) -> u32
     ensures { Answers (λ a. SequenceFound position output.old a output.new) sequence_view encode_option answer.old result answer.new }
 {
     let found = short_histories::sequence_at(position, output);
@@ -192,12 +183,7 @@ pub extern "C" fn mouldgrey_sequence_at(
 }
 
 // The answer is two words: found, length; 0 and 0 after the last sequence.
-#[unsafe(no_mangle)]
-pub extern "C" fn mouldgrey_next_sequence(
-    sequence: &[u32],
-    output: &mut [u32],
-    answer: &mut [u32; 2],
-) -> u32
+pub fn mouldgrey_next_sequence(sequence: &[u32], output: &mut [u32], answer: &mut [u32; 2]) -> u32
     ensures { Answers (λ a. NextFound sequence.now output.old a output.new) sequence_view encode_option answer.old result answer.new }
 {
     let found = short_histories::next_sequence(sequence, output);
