@@ -1,4 +1,4 @@
-//! Links the library of single parts, which `rt staticlib test_probes` builds.
+//! Links the library of single parts, which `./build test_probes` builds.
 
 use std::path::Path;
 

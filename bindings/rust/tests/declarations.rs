@@ -213,16 +213,16 @@ fn sorted(mut lines: Vec<String>) -> Vec<String> {
 
 /// The crates whose functions the library has.
 const CRATES: [&str; 10] = [
-    "abi_table",
-    "abi_read",
-    "abi_row",
-    "abi_query",
-    "abi_refresh",
-    "abi_precedence",
-    "abi_vault",
-    "abi_listing",
-    "abi_image",
-    "abi_replay",
+    "abi_table_c",
+    "abi_read_c",
+    "abi_row_c",
+    "abi_query_c",
+    "abi_refresh_c",
+    "abi_precedence_c",
+    "abi_vault_c",
+    "abi_listing_c",
+    "abi_image_c",
+    "abi_replay_c",
 ];
 
 fn shipped() -> Vec<Exported> {
