@@ -1,4 +1,4 @@
-# make                     proves and builds the library and the program levels (a first run takes about 13 minutes), and builds the
+# make                     proves and builds the library and the program levels (a first run takes some minutes), and builds the
 #                          program mouldgrey if there is a cargo
 # make tool                builds the program mouldgrey alone, over the library that is built
 # make install PREFIX=/usr/local    installs header, libraries, mouldgrey.pc, levels and, if it is built, mouldgrey
