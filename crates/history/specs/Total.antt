@@ -1,7 +1,7 @@
 -- Every outcome of a call that meets the contract of its entry point is a call of a history, for any lent stores, any arguments and
 -- any answer. So histories leave out no outcome that a contract allows. Of the constructors of `Called`, `stages`, `merges`, `compacts`
 -- and `clears` require the contract alone. Refreshes have two, for sound and for unsound index stores; that one of the two always
--- applies rules that soundness is decided (`refresh_spec` law `index_decided`). Assumes nothing.
+-- applies needs that soundness is decided (`refresh_spec` law `index_decided`). Assumes nothing.
 use Rattle.std.specs.Prelude.{ℕ, List}
 use Rattle.plain_table.specs.Refreshing.{Refresh}
 use Rattle.plain_table.specs.Calls.{LentCall}

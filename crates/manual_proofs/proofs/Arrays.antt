@@ -1,5 +1,5 @@
 -- The manual proof of a function that is lent fixed arrays: each token and what each parameter owns is an entry of the context of
--- its own, and a call takes those that it rules.
+-- its own, and a call takes those that it needs.
 --     shared-array, lent-array    `Known` of a `&[T; n]` and of a `&mut [T; n]`
 --     lends-array      a `&mut [T; n]` is lent on
 --     FinalArray       the last words of a `&mut [T; n]`

@@ -11,7 +11,7 @@
 --     Value, typed, own      types of plain values: their machine values are of their types, and owned for nothing. By kind: struct-value, enum-value
 --     value-lands, value-settles    one that a call returns lands: its machine value is known, and it is in range
 --     Known R                a type's machine values, and that they are of its MIR types. By kind: number, reads, writes, struct
---     Passed s k             all that a manual proof rules of a parameter: what is had of it at exit, and its machine values.
+--     Passed s k             all that a manual proof needs of a parameter: what is had of it at exit, and its machine values.
 --                            By kind: by_value, lent_slice, kept-slice, given-slice
 --     walk-runs              from the manual proof over a function's MIR to its theorem
 -- Assumes `Logic`.

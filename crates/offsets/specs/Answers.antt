@@ -30,7 +30,7 @@ pub record Answered (r : Reply Subset) (output : List ℕ) (answer : SubsetAnswe
   pub inside : (n : ℕ) → answer ≡ Ids n → n ≤ length output'
   pub writes : output' ≡ splice output 0 (written r)
 
--- the output length that `intersect` rules: "output shorter than the first list, or than the second where the first is a range"
+-- the output length that `intersect` needs: "output shorter than the first list, or than the second where the first is a range"
 unfoldable pub room_needed : Subset → Subset → ℕ
 room_needed (range a b) (range c d) = 0
 room_needed (range a b) (list ids) = length ids

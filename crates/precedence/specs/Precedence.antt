@@ -14,7 +14,7 @@ use Rattle.table.specs.Outcomes.{of_rows}
 use Rattle.precedence.specs.declared.PrecedenceAnswer.{PrecedenceAnswer}
 use Rattle.precedence.specs.declared.PrecedenceAnswer.TheVariants.{Refused, Met, Fails}
 
--- a pair of values: a row with the first rules a row with the second
+-- a pair of values: a row with the first needs a row with the second
 pub record Pair : Type 0 where
   pub first : ℕ
   pub second : ℕ
@@ -37,7 +37,7 @@ precedes o column value cells before =
     && same (other_key_cells o.keys column before) (other_key_cells o.keys column cells)
     && leb (get_or before o.sort 0) (get_or cells o.sort 0)
 
--- "each live row with a pair's first value in that column rules a live row with the second value there, .."
+-- "each live row with a pair's first value in that column needs a live row with the second value there, .."
 unfoldable pub meets_pair : Plain → ℕ → List ℕ → Pair → Bool
 meets_pair p column cells pair =
     not (eqb (get_or cells column 0) pair.first) || any (λ row. precedes p.opening column pair.second cells row.cells) (live_rows p)

@@ -7,7 +7,7 @@ use Rattle.table.specs.Refusing.{outside, pending_outside, rows_short}
 use Rattle.refresh_spec.specs.Refreshes.{refresh_refusal}
 use Rattle.refresh.specs.inner.Testing.{early_refusal}
 
--- the words that an index store rules fit a u32
+-- the words that an index store needs fit a u32
 pub index_fits : (h : Header) (columns : ℕ) → outside h ≡ false → columns ≤ 8 → h.capacity * columns ≤ 524288
 index_fits h columns inside few = omega (arith, mul-le-mul (outside_inside h inside).bounds.capacity_few few)
 

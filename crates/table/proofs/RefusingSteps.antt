@@ -95,7 +95,7 @@ module _ (h : Header) where
 
   -- ---- test 2
 
-  -- the number of cells that a capacity rules is a u32
+  -- the number of cells that a capacity needs is a u32
   pub cells_few : outside h ≡ false → h.capacity * h.columns ≤ 524288
   cells_few e = let i = outside_inside h e in mul-le-mul i.bounds.capacity_few i.bounds.columns_few
 

@@ -91,7 +91,7 @@ abbrev pub WordsPast : ℕ → CompactionWords → CompactionWords → Type 0
 WordsPast capacity w w' = SamePast ((capacity + 63) / 64) w.live w'.live × SamePast ((capacity + 63) / 64) w.base w'.base
 
 -- Choices of the program: the contracts require only that the key store is sound and that no slot past it is written. After a
--- compaction they require nothing of the compaction words that it rules.
+-- compaction they require nothing of the compaction words that it needs.
 
 -- the refusal of an opening on these stores
 abbrev pub open_refusal_on : Opening → Body → List ℕ → ℕ

@@ -20,7 +20,7 @@ use Rattle.history.proofs.Laws.Queries.{by_reply_lem}
 use Rattle.history.proofs.Laws.Theorem.{term_three}
 use Rattle.history.proofs.Laws.LentLengths.{example}
 
--- the row cells that a query rules
+-- the row cells that a query needs
 abbrev pub needed : Stores → ℕ
 needed s = s.header.capacity * s.header.columns
 
@@ -94,7 +94,7 @@ at_least_one = record { kind = 5; column = 1; value = 1 }
 abbrev kept_by : Subset → Subset
 kept_by a = retain (matches longer.header (take 12 thirteen) (at_least_one ∷ [])) a
 
--- lent all 12 cells that it rules, it is accepted
+-- lent all 12 cells that it needs, it is accepted
 twelve : replied longer 12 (range 0 0) at_least_one 0 ≡ accepted (kept_by (range 0 0))
 unfolding refine_one_reply refine_refusal query_checks rows_short past_rows outside openable known all first_refusal reply
 twelve = rw (formed_range 0 0 (omega arith), end_range 0 0, size_range 0 0)

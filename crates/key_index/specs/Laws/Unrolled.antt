@@ -1,5 +1,5 @@
 -- The ring of slots, unrolled into a line at a free slot. No path from a home to its row's slot passes a free slot. So each path is
--- a contiguous part of the line, and closing a hole rules only plain arithmetic. Re-exports the laws of distances on the ring from
+-- a contiguous part of the line, and closing a hole needs only plain arithmetic. Re-exports the laws of distances on the ring from
 -- Ring.antt. Assumes nothing.
 use Rattle.std.specs.Prelude.{◌+◌, ◌≤◌, ◌<◌, ◌≡◌, ◌⊎◌}
 use Rattle.key_index.specs.Laws.Prelude.{ℕ, refl, sym, ap, ◌∙◌, inl, inr, List, dec_lt, ℕ_discrete, arith, length, get_or, set, get_or-set_same, get_or-set_other, slot_from}

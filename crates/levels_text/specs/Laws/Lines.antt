@@ -1,4 +1,4 @@
--- Laws of fields and decimals in the order in which a reader rules them: byte by byte up to a comma or the end, and field by field.
+-- Laws of fields and decimals in the order in which a reader needs them: byte by byte up to a comma or the end, and field by field.
 -- Assumes nothing.
 use Rattle.std.specs.Prelude.{◌+◌, ◌≤◌, ◌<◌, ◌≡◌, ◌&&◌, ◌∷◌}
 use Rattle.levels_text.specs.Laws.Prelude.{ℕ, refl, ap, inl, inr, true, false, and-false, or-false, List, [], add-one, arith, leb, eqb, length, drop, get_or, length-drop, drop_of_length-le, drop-cons, drop-drop, eq-eqb, ne_eqb, le-leb, lt-leb, eqb-true, eqb-false, leb-true, split}

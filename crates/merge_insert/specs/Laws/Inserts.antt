@@ -165,7 +165,7 @@ module _ (h : Header) (rows keys cells : List ℕ) (hash : ℕ) (fits : Fits (fu
   used_fits : Fits (index_shape_of h) rows keys
   used_fits = full_shape_fits h rows keys fits
 
-  -- there is a slot for the row, unless it rules more slots
+  -- there is a slot for the row, unless it needs more slots
   has_slot : outgrown h ≡ false → h.rows < size_class_for h.capacity h.rows
   has_slot o = omega (arith, slots_same h o, size_class_enough h.capacity (h.rows + 1) (omega (arith, room)) fits.most)
 

@@ -60,11 +60,11 @@ AdmissionIs h sorts value sorts' (Entries n) = Entered h sorts value n sorts'
 abbrev pub grown_to : Header → ℕ → ℕ → ℕ → Header
 grown_to h dead entries value = with_counts h (h.rows + 1) dead entries (Value value)
 
--- one more row rules more slots in the key store
+-- one more row needs more slots in the key store
 unfoldable pub outgrown : Header → Bool
 outgrown h = not (eqb (size_class_for h.capacity (h.rows + 1)) (size_class_for h.capacity h.rows))
 
--- The key store after an append: rebuilt over all rows if the row rules more slots, otherwise as `Entry` states.
+-- The key store after an append: rebuilt over all rows if the row needs more slots, otherwise as `Entry` states.
 pub record KeysGrown (h h' : Header) (rows' keys : List ℕ) (Entry : Type 0) (keys' : List ℕ) : Type 0 where
   pub more : outgrown h ≡ true → KeysSound (index_shape_of h') rows' keys'
   pub stepped : outgrown h ≡ false → Entry

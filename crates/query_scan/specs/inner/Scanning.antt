@@ -96,7 +96,7 @@ pub record BeginsAt (subset : Subset) (refused next end most : ℕ) (s : Scan) :
   pub none_found : BuilderBegins s.found
   pub id_is : s.next < s.end → s.id ≡ get_or (members subset) s.next 0
 
--- A scan can start: it wants an id, and the output has room for all ids that it may keep. A scan that keeps one id at most rules no
+-- A scan can start: it wants an id, and the output has room for all ids that it may keep. A scan that keeps one id at most needs no
 -- room, because the first id can be kept without being written.
 pub record CanStart (h : Header) (rows : ℕ) (subset : Subset) (s : Scan) (output : List ℕ) : Type 0 where
   pub queryable : s.next < s.end → Queryable h rows subset

@@ -34,7 +34,7 @@ slots_alike {t} {rows} {store} {store'} same sound =
 
 -- ---- the stores
 
--- all cells that a table rules are equal in the other stores
+-- all cells that a table needs are equal in the other stores
 pub record Fronts (h : Header) (b : Body) (pending : List ℕ) (b' : Body) (pending' : List ℕ) : Type 0 where
   pub long : LongEnough (opening_of h) (length b'.rows) (length b'.keys) (length b'.sorts)
   pub rows_same : take (h.capacity * h.columns) b'.rows ≡ take (h.capacity * h.columns) b.rows
