@@ -4,7 +4,16 @@ use Rattle.refusals.specs.Refusals.{if_accepted}
 use Rattle.image_spec.specs.Outcomes.{length_view}
 use Rattle.abi.specs.Encoding.{encode_number, returned}
 use Rattle.abi.specs.Laws.Encoding.{stored_as}
+use borrow.Author.Rules.{rules}
 use Rattle.abi_image.proofs.store_length.Goals as goal
+
+pub enum_known-answer : goal.enum_known-answer
+unfolding length_view encode_number returned if_accepted
+enum_known-answer c = search rules
+
+pub enum_known-answer-in-Length-1 : goal.enum_known-answer-in-Length-1
+unfolding length_view encode_number returned if_accepted
+enum_known-answer-in-Length-1 c = search rules
 
 pub returns-in-Refused : goal.returns-in-Refused
 unfolding length_view encode_number returned if_accepted

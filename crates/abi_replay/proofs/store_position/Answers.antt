@@ -4,7 +4,16 @@ use Rattle.refusals.specs.Refusals.{if_accepted}
 use Rattle.short_histories.specs.Sequences.{position_view}
 use Rattle.abi.specs.Encoding.{encode_number, returned}
 use Rattle.abi.specs.Laws.Encoding.{stored_as}
+use borrow.Author.Rules.{rules}
 use Rattle.abi_replay.proofs.store_position.Goals as goal
+
+pub enum_known-answer : goal.enum_known-answer
+unfolding position_view encode_number returned if_accepted
+enum_known-answer c = search rules
+
+pub enum_known-answer-in-Position-1 : goal.enum_known-answer-in-Position-1
+unfolding position_view encode_number returned if_accepted
+enum_known-answer-in-Position-1 c = search rules
 
 pub returns-in-Refused : goal.returns-in-Refused
 unfolding position_view encode_number returned if_accepted

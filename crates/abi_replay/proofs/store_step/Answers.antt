@@ -4,7 +4,24 @@ use Rattle.refusals.specs.Refusals.{if_accepted}
 use Rattle.abi.specs.Encoding.{returned}
 use Rattle.abi.specs.Laws.Encoding.{stored_as}
 use Rattle.abi_replay.specs.Encoding.{step_words}
+use borrow.Author.Rules.{rules}
 use Rattle.abi_replay.proofs.store_step.Goals as goal
+
+pub enum_known-answer : goal.enum_known-answer
+unfolding step_words returned if_accepted
+enum_known-answer c = search rules
+
+pub enum_known-answer-in-Insert-1 : goal.enum_known-answer-in-Insert-1
+unfolding step_words returned if_accepted
+enum_known-answer-in-Insert-1 c = search rules
+
+pub enum_known-answer-in-Remove-1 : goal.enum_known-answer-in-Remove-1
+unfolding step_words returned if_accepted
+enum_known-answer-in-Remove-1 c = search rules
+
+pub enum_told-1 : goal.enum_told-1
+unfolding step_words returned if_accepted
+enum_told-1 c = search rules
 
 pub returns-in-Refused : goal.returns-in-Refused
 unfolding step_words returned if_accepted
