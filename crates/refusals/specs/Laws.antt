@@ -1,3 +1,4 @@
 -- What follows from the definitions.
 pub mod Determined
 pub mod Replies
+pub mod Numbers

@@ -1,6 +1,8 @@
 -- Refusals: "a refusal gives its number". An operation has a list of checks, in the paper's order; the first that applies gives the
 -- number. Assumes nothing.
-use Rattle.std.specs.Prelude.{ℕ, zero, suc, ◌<◌, ◌≡◌, Bool, cond, List, [], ◌∷◌}
+use Rattle.std.specs.Prelude.{ℕ, zero, suc, ◌<◌, ◌≡◌, Bool, cond, List, [], ◌∷◌, Result, Ok, Err}
+use Rattle.refusals.specs.declared.Refusal.{Refusal}
+use Rattle.refusals.specs.declared.Refusal.TheVariants.{OutOfBounds, TooShort, WrongWidth, MalformedSubset, PastTheRows, NoSuchColumn, PendingFull, OldSortValue, LastGeneration, NoListing, TooManyColumns, BrokenRow, PairCount, UnknownSequence, PastTheLast, MissingRow, OldNote, NoImage, UnsoundImage, TextTooLong}
 
 -- a check: whether it applies, and its number
 pub data Check : Type 0 where
@@ -37,3 +39,36 @@ pub record Effect {A B : Type 0} (refusal : ℕ) (answer : Reply A) (value : A) 
   pub answers : answer ≡ reply refusal value
   pub unchanged : 0 < refusal → store' ≡ store
   pub written : refusal ≡ 0 → store' ≡ after
+
+-- the number of each refusal
+abbrev pub number : Refusal → ℕ
+number OutOfBounds = 1
+number TooShort = 2
+number WrongWidth = 3
+number MalformedSubset = 4
+number PastTheRows = 5
+number NoSuchColumn = 6
+number PendingFull = 7
+number OldSortValue = 9
+number LastGeneration = 10
+number NoListing = 11
+number TooManyColumns = 12
+number BrokenRow = 13
+number PairCount = 14
+number UnknownSequence = 15
+number PastTheLast = 16
+number MissingRow = 17
+number OldNote = 18
+number NoImage = 19
+number UnsoundImage = 20
+number TextTooLong = 21
+
+-- the number of a result's refusal, 0 if it has none
+abbrev pub refusal_number : {A : Type 0} → Result A Refusal → ℕ
+refusal_number (Ok value) = 0
+refusal_number (Err refusal) = number refusal
+
+-- the reply that a result is
+unfoldable pub answer_view : {A : Type 0} → Result A Refusal → Reply A
+answer_view (Ok value) = accepted value
+answer_view (Err refusal) = refused (number refusal)
