@@ -1,7 +1,7 @@
 -- Cells, the dead mark, the compact hash and the hash of a key: document 01, "Cells" and "Compact hash". A cell is a
 -- number below 2 ^ 32. Assumes nothing.
-use Rattle.std.specs.Prelude.{ℕ, ◌+◌, ◌*◌, ◌/◌, ◌%◌, ◌^◌, Bool, eqb}
-use mathlib.Core.List.{List, foldl}
+use Rattle.std.specs.Prelude.{ℕ, ◌+◌, ◌*◌, ◌/◌, ◌%◌, ◌^◌, Bool, List, eqb}
+use Rattle.std.specs.List.{fold}
 pub mod Hash
 
 -- "a row whose first cell is 4294967295 is dead (`is_stale`)": the argument is that cell; `constraints` `is_live` takes the row
@@ -29,4 +29,4 @@ mixed hash cell =
 -- "any hash of the key cells alone will do": ours has 32 bits, repeated in both halves of the 64, so that the compact hash has all of
 -- them. Only the laws in Cells/Hash.antt unfold this definition; no other proof depends on which hash it is.
 pub key_hash : List ℕ → ℕ
-key_hash key = foldl mixed 0 key * (2 ^ 32 + 1)
+key_hash key = fold mixed 0 key * (2 ^ 32 + 1)

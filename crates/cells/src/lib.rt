@@ -57,12 +57,7 @@ fn mix(hash: u32, cell: u32) -> u32
 pub fn key_hash(key: &[u32]) -> u64
     ensures { result ≡ key_hash key.now }
 {
-    let mut hash: u32 = 0;
-    let mut i = 0;
-    while i < key.len() {
-        hash = mix(hash, key[i]);
-        i += 1;
-    }
+    let hash = key.iter().fold(0, |hash, cell| mix(hash, *cell));
     hash as u64 * 0x1_0000_0001
 }
 
