@@ -1,7 +1,6 @@
--- The turns of `push_row`, `push_live`, `fill` and `empty_buckets`: entries pushed one after another, and buckets emptied. Assumes
--- nothing.
-use Rattle.refresh_index.proofs.Prelude.{ℕ, suc, ◌+◌, ◌-◌, ◌*◌, ◌≤◌, ◌<◌, ◌≡◌, refl, sym, ap, ◌∙◌, true, false, false≢true, List, ℕ_discrete, dec_lt, add-one, arith, length, drop, get_or, set, get_or-set_same, get_or-set_other, drop-set-lt, elem, row_at, elem_here, is_live, Header, bucket_of, chain, chain_longer, pushed_own, pushed_keeps, entry_in, bucket_below}
-use Rattle.refresh_index.specs.inner.Entries.{cell_named, entry_live, entry_value, heads_at, pushed, Listed, Fillable, Pushed, Emptied}
+-- The turns of `push_row`, `push_live` and `fill`: entries pushed one after another. Assumes nothing.
+use Rattle.refresh_index.proofs.Prelude.{ℕ, suc, ◌+◌, ◌-◌, ◌*◌, ◌≤◌, ◌<◌, ◌≡◌, refl, sym, ap, ◌∙◌, true, false, false≢true, List, ℕ_discrete, dec_lt, add-one, arith, length, drop, get_or, set, get_or-set_other, drop-set-lt, elem, row_at, elem_here, is_live, Header, bucket_of, chain, chain_longer, pushed_own, pushed_keeps, entry_in, bucket_below}
+use Rattle.refresh_index.specs.inner.Entries.{cell_named, entry_live, entry_value, heads_at, pushed, Listed, Fillable, Pushed}
 use Rattle.refresh_index.proofs.Sizes.{small}
 
 pushed_past : (index : List ℕ) (head entry n : ℕ) → 16 + entry < n → head < n → drop n (pushed index head entry) ≡ drop n index
@@ -105,16 +104,3 @@ module _ (h : Header) (rows columns : List ℕ) (buckets : ℕ) where
           lists = λ l. rw (done, next, e) (listed_one (row * length columns + place) index₁ a.below (rw e at inside) l);
           past = rw done (pushed_past index₁ (heads_at h columns + bucket_of buckets value) (row * length columns + place) (16 + 3 * (h.capacity * length columns)) (omega arith) (omega (arith, f.room)));
         }
-
--- one more bucket is empty
-pub empty_one : (index : List ℕ) (heads bucket : ℕ) (index' : List ℕ) → heads + bucket < length index' → Emptied index heads bucket index'
-    → Emptied index heads (bucket + 1) (set index' (heads + bucket) 0)
-empty_one index heads bucket index' inside e =
-    record {
-      empty = λ b h.
-          elim (ℕ_discrete b bucket) [
-            | yes p ↦ rw p (get_or-set_same index' (heads + bucket) 0 0 inside)
-            | no p ↦ get_or-set_other index' (heads + bucket) (heads + b) 0 0 (omega arith) ∙ e.empty b (omega arith)
-          ];
-      past = λ n h. drop-set-lt n index' (heads + bucket) 0 (omega arith) ∙ e.past n (omega arith);
-    }

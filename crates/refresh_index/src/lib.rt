@@ -11,6 +11,7 @@ ghost use Rattle.refresh_index.specs.inner.Entries.{Readable, cell_named, fronte
 ghost use Rattle.refresh_index.specs.inner.Marking.{MarkedAll, Noted};
 
 use row_buffer::row_start;
+use std::mem;
 use table::Header;
 
 // The number of words before the entries.
@@ -108,11 +109,9 @@ fn push_row(h: Header, rows: &[u32], index: &mut [u32], columns: &[u32], buckets
 {
     let heads = heads_at(h, columns.len());
     let first = row * columns.len() as u32;
-    let mut place = 0;
-    while place < columns.len() {
+    for place in 0..columns.len() {
         let value = cell_named(h, rows, columns, row, place);
         push_entry(index, heads, buckets, first + place as u32, value);
-        place += 1;
     }
 }
 
@@ -143,10 +142,8 @@ fn fill(h: Header, rows: &[u32], index: &mut [u32], columns: &[u32], buckets: u3
     requires { Fillable h rows.now columns.now buckets index.old × (from ≤ h.rows) }
     ensures { Filled h rows.now columns.now buckets from index.old index.new }
 {
-    let mut row = from;
-    while row < h.rows {
+    for row in from..h.rows {
         push_live(h, rows, index, columns, buckets, row);
-        row += 1;
     }
     write_front(h, index, columns, buckets);
 }
@@ -156,11 +153,7 @@ fn empty_buckets(index: &mut [u32], heads: usize, buckets: u32)
     requires { heads + buckets ≤ length index.old }
     ensures { Emptied index.old heads buckets index.new }
 {
-    let mut bucket = 0;
-    while bucket < buckets {
-        index[heads + bucket as usize] = 0;
-        bucket += 1;
-    }
+    index[heads..heads + buckets as usize].fill(0);
 }
 
 // Makes the store an index of the whole table. It continues after the rows seen, or starts again with twice as many buckets as
@@ -238,9 +231,7 @@ fn is_repeated(recent: &mut [u32], value: u32) -> bool
     ensures { (result ≡ eqb (get_or recent.old (bucket_of 1024 value) 0) value) × (recent.new ≡ set recent.old (bucket_of 1024 value) value) }
 {
     let slot = bucket_of(RECENT as u32, value);
-    let before = recent[slot];
-    recent[slot] = value;
-    before == value
+    mem::replace(&mut recent[slot], value) == value
 }
 
 // Sets the bits of the live rows seen that the store lists under the values. Values found among the recent ones are not looked up
@@ -258,10 +249,7 @@ fn mark_values(
     ensures { ListedMarked h rows.now index.now columns.now values.now words.old words.new result }
 {
     let mut marked: u32 = 0;
-    let mut i = 0;
-    while i < values.len() {
-        let value = values[i];
-        i += 1;
+    for &value in values {
         if !is_repeated(recent, value) {
             marked += mark_chain(h, rows, index, columns, value, words);
         }

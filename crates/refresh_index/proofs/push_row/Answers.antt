@@ -1,4 +1,4 @@
-use Rattle.refresh_index.proofs.Prelude.{◌≡◌, refl, ◌∙◌, add-zero, arith, length, row_in}
+use Rattle.refresh_index.proofs.Prelude.{◌≡◌, add-zero, arith, length, row_in}
 use Rattle.refresh_index.proofs.Sizes.{small, readable}
 use Rattle.refresh_index.proofs.Fills.{push_none, push_then, push_one, Pushable, pushable}
 use Rattle.refresh_index.proofs.push_row.Goals.{In-loop-place}
@@ -7,7 +7,7 @@ use Rattle.refresh_index.proofs.push_row.Goals as goal
 -- the entry fits
 fits : (c : In-loop-place) → let a = c.args in
     Pushable a.h a.rows.now a.columns.now a.buckets a.row c.loop-place.place c.loop-place.index
-fits c = pushable _ _ _ _ _ c.requires.0 _ _ c.requires.1 c.loop-place-test.true _ c.loop-place.invariant.1
+fits c = pushable _ _ _ _ _ c.requires.0 _ _ c.requires.1 c.loop-place-test.true _ c.loop-place.auto.index
 
 pub heads_at-heads-requires : goal.heads_at-heads-requires
 heads_at-heads-requires c = (c.requires.0.lendable.inside, c.requires.0.lendable.columns_few)
@@ -18,7 +18,7 @@ overflow_mul-first c =
     omega (arith, small _ _ l.inside l.columns_few, row_in _ _ (length c.args.columns.now) c.requires.1)
 
 pub loop-place-init : goal.loop-place-init
-loop-place-init c = (omega arith, refl, rw add-zero push_none)
+loop-place-init c = rw add-zero push_none
 
 pub cell_named-value-requires : goal.cell_named-value-requires
 cell_named-value-requires c = (readable c.requires.0.lendable, c.requires.1, c.loop-place-test.true)
@@ -31,16 +31,13 @@ push_entry-requires c = let a = fits (goal.at.push_entry-requires c).In-loop-pla
 
 pub loop-place-preserved : goal.loop-place-preserved
 loop-place-preserved c =
-    let l = c.loop-place in (
-      omega arith,
-      c.push_entry.auto.index ∙ l.invariant.1,
-      push_then l.invariant.2
-          (push_one _ _ _ _ _ c.requires.0 _ _ c.requires.1 c.loop-place-test.true _ l.invariant.1 _ c.cell_named-value.ensures _
-          (rw c.heads_at-heads.ensures at c.push_entry.ensures)),
-    )
+    let l = c.loop-place in
+    push_then l.invariant
+    (push_one _ _ _ _ _ c.requires.0 _ _ c.requires.1 c.loop-place-test.true _ l.auto.index _ c.cell_named-value.ensures _
+    (rw c.heads_at-heads.ensures at c.push_entry.ensures))
 
 pub returns : goal.returns
 returns c =
     let l = c.loop-place in
     let e : l.place ≡ length c.args.columns.now = omega arith in
-    rw e at l.invariant.2
+    rw e at l.invariant
