@@ -23,6 +23,10 @@ module _ (ids : List ℕ) (rises : Bool) (i : ℕ) (s : Tested ids rises i) wher
 
 -- ---- small steps
 
+-- a difference modulo 2 ^ 32 leads back
+pub difference_back : (a b : ℕ) → a < 2 ^ 32 → b < 2 ^ 32 → ((a + (2 ^ 32 - b)) % 2 ^ 32 + b) % 2 ^ 32 ≡ a
+difference_back a b h k = omega arith
+
 -- the difference of the earlier and the later id, modulo 2 ^ 32, shows that the later one is larger, by at most 2 ^ 24
 small_step : (a b d : ℕ) → (d + b) % 2 ^ 32 ≡ a → 4278190080 ≤ d → d < 2 ^ 32 → b < 2 ^ 32 → a < 4278190080 → (a < b) × (b ≤ a + 16777216)
 small_step a b d e h k m n = (omega arith, omega arith)

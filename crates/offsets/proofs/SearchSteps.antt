@@ -1,7 +1,6 @@
 -- The loops of the searches, one step at a time, and the result of each return of a scan. Assumes nothing.
 use Rattle.offsets.proofs.Prelude.{ℕ, ◌+◌, ◌-◌, ◌*◌, ◌≤◌, ◌<◌, ◌≡◌, sym, ap, true, false, List, dec_lt, arith, length, get_or, rising, elem, first_not_below, not_below_le, not_below_past, not_below_upto, not_below_at, elem_not_below, elem_not_not_below}
-use Rattle.offsets.specs.declared.search.Scan.{Scan}
-use Rattle.offsets.specs.declared.search.Scan.TheVariants.{Hit, Next}
+use Rattle.std.specs.Prelude.{Result, Ok, Err}
 use Rattle.offsets.specs.Laws.Strides.{stride_bound}
 use Rattle.offsets.specs.inner.Search.{Bracketed, SearchedPart, ReachedBetween, scan_place, scan, ScannedAt, Scanned}
 
@@ -99,38 +98,38 @@ module _ (ids : List ℕ) (target low left step : ℕ) (s : Strides ids target l
 
 -- ---- the result of a scan
 
-scan_hit : (ids : List ℕ) (target p : ℕ) → rising ids ≡ true → p < length ids → get_or ids p 0 ≡ target → Hit p ≡ scan target ids
+scan_hit : (ids : List ℕ) (target p : ℕ) → rising ids ≡ true → p < length ids → get_or ids p 0 ≡ target → Ok p ≡ scan target ids
 unfolding scan
-scan_hit ids target p e h k = rw (elem_not_below target ids p h k) (ap Hit (sym (not_below_at target ids e p h k)))
+scan_hit ids target p e h k = rw (elem_not_below target ids p h k) (ap Ok (sym (not_below_at target ids e p h k)))
 
-scan_miss : (ids : List ℕ) (target p : ℕ) → rising ids ≡ true → p ≡ first_not_below target ids → (p < length ids → get_or ids p 0 ≡ target → ⊥) → Next p ≡ scan target ids
+scan_miss : (ids : List ℕ) (target p : ℕ) → rising ids ≡ true → p ≡ first_not_below target ids → (p < length ids → get_or ids p 0 ≡ target → ⊥) → Err p ≡ scan target ids
 unfolding scan
 scan_miss ids target p e q f =
     let n : elem target ids ≡ false = elem_not_not_below target ids e (rw q at f) in
-    rw n (ap Next q)
+    rw n (ap Err q)
 
-pub at_end : (ids : List ℕ) (at target : ℕ) → at ≤ length ids → length ids ≤ at → ScannedAt ids at target (Next at)
+pub at_end : (ids : List ℕ) (at target : ℕ) → at ≤ length ids → length ids ≤ at → ScannedAt ids at target (Err at)
 unfolding scan_place
 at_end ids at target h k = record { within = h; finds = λ e q. scan_miss ids target at e q (λ a b. omega arith) }
 
-pub at_hit : (ids : List ℕ) (at target : ℕ) → at < length ids → get_or ids at 0 ≡ target → ScannedAt ids at target (Hit at)
+pub at_hit : (ids : List ℕ) (at target : ℕ) → at < length ids → get_or ids at 0 ≡ target → ScannedAt ids at target (Ok at)
 unfolding scan_place
 at_hit ids at target h k = record { within = omega arith; finds = λ e q. scan_hit ids target at e h k }
 
-pub at_miss : (ids : List ℕ) (at target : ℕ) → at ≤ length ids → (get_or ids at 0 ≡ target → ⊥) → ScannedAt ids at target (Next at)
+pub at_miss : (ids : List ℕ) (at target : ℕ) → at ≤ length ids → (get_or ids at 0 ≡ target → ⊥) → ScannedAt ids at target (Err at)
 unfolding scan_place
 at_miss ids at target h k = record { within = h; finds = λ e q. scan_miss ids target at e q (λ a b. k b) }
 
-pub scanned_end : (ids : List ℕ) (start target : ℕ) → length ids ≤ start → Scanned ids start target (Next (length ids))
+pub scanned_end : (ids : List ℕ) (start target : ℕ) → length ids ≤ start → Scanned ids start target (Err (length ids))
 unfolding scan_place
 scanned_end ids start target h =
     record { within = omega arith; finds = λ e q. scan_miss ids target (length ids) e (let p = not_below_le target ids in omega arith) (λ a b. omega arith) }
 
-pub scanned_hit : (ids : List ℕ) (start target p : ℕ) → p < length ids → get_or ids p 0 ≡ target → Scanned ids start target (Hit p)
+pub scanned_hit : (ids : List ℕ) (start target p : ℕ) → p < length ids → get_or ids p 0 ≡ target → Scanned ids start target (Ok p)
 unfolding scan_place
 scanned_hit ids start target p h k = record { within = omega arith; finds = λ e q. scan_hit ids target p e h k }
 
-pub scanned_before : (ids : List ℕ) (start target : ℕ) → start < length ids → target < get_or ids start 0 → Scanned ids start target (Next start)
+pub scanned_before : (ids : List ℕ) (start target : ℕ) → start < length ids → target < get_or ids start 0 → Scanned ids start target (Err start)
 unfolding scan_place
 scanned_before ids start target h k =
     record {
@@ -139,6 +138,6 @@ scanned_before ids start target h k =
     }
 
 -- after the strides: the binary search gives the position, and `scan_at` compares the id there
-pub scanned_part : (ids : List ℕ) (start target low high p : ℕ) (r : Scan) → ReachedBetween ids target low high → SearchedPart ids low high target p → ScannedAt ids p target r
+pub scanned_part : (ids : List ℕ) (start target low high p : ℕ) (r : Result ℕ ℕ) → ReachedBetween ids target low high → SearchedPart ids low high target p → ScannedAt ids p target r
     → Scanned ids start target r
 scanned_part ids start target low high p r g s a = record { within = a.within; finds = λ e q. a.finds e (s.first e (g.after e) (g.upto e)) }

@@ -63,14 +63,12 @@ fn rises_by_small_steps(ids: &[u32]) -> bool
         return false;
     }
     let mut rises = true;
-    let mut i = 1;
-    while i <= HALF {
+    for i in 1..HALF + 1 {
         let id = ids[HALF + i];
-        let step = std::num::wrapping_sub_u32(ids[i - 1], ids[i]);
-        let second = std::num::wrapping_sub_u32(last, id);
+        let step = ids[i - 1].wrapping_sub(ids[i]);
+        let second = last.wrapping_sub(id);
         rises = rises & (SMALL_STEP <= step) & (SMALL_STEP <= second);
         last = id;
-        i += 1;
     }
     rises
 }
@@ -94,10 +92,8 @@ fn rises_pairwise(ids: &[u32]) -> bool
     ensures { result ≡ rising ids.now }
 {
     let mut rises = true;
-    let mut i = 1;
-    while i < ids.len() {
+    for i in 1..ids.len() {
         rises = rises & (ids[i - 1] < ids[i]);
-        i += 1;
     }
     rises
 }

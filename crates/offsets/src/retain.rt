@@ -15,14 +15,66 @@ pub struct RetainBuilder {
     pub written: u32,
 }
 
-// The initial state: nothing is kept.
-pub fn empty() -> RetainBuilder
-    ensures { BuilderBegins result }
-{
-    RetainBuilder {
-        start: 0,
-        count: 0,
-        written: 0,
+impl RetainBuilder {
+    // The initial state: nothing is kept.
+    pub fn new() -> RetainBuilder
+        ensures { BuilderBegins result }
+    {
+        RetainBuilder {
+            start: 0,
+            count: 0,
+            written: 0,
+        }
+    }
+
+    // Adds a kept id, which is above the others.
+    pub fn add(self, output: &mut [u32], id: u32) -> RetainBuilder
+        requires { CanAdd output.old self id }
+        ensures { Adds output.old self id result output.new }
+    {
+        if self.written != 0 {
+            return self.push(output, id);
+        }
+        if self.count == 0 {
+            return RetainBuilder {
+                start: id,
+                count: 1,
+                ..self
+            };
+        }
+        if self.start + self.count == id {
+            return RetainBuilder {
+                count: self.count + 1,
+                ..self
+            };
+        }
+        fill_from_dense(output, self.start, self.count);
+        self.push(output, id)
+    }
+
+    // Appends an id to the output. All others are written already.
+    fn push(self, output: &mut [u32], id: u32) -> RetainBuilder
+        requires { (self.count < length output.old) × (self.count < 4294967295) }
+        ensures { (result ≡ pushed self) × (output.new ≡ slice_set output.old self.count id) }
+    {
+        output[self.count as usize] = id;
+        let count = self.count + 1;
+        RetainBuilder {
+            count,
+            written: count,
+            ..self
+        }
+    }
+
+    // The answer, once all kept ids are added.
+    pub fn finish(self) -> SubsetAnswer
+        requires { self.written ≡ 0 → self.start + self.count < 4294967296 }
+        ensures { BuilderEnds self result }
+    {
+        if self.written == 0 {
+            return SubsetAnswer::Range(self.start, self.start + self.count);
+        }
+        SubsetAnswer::List(self.count)
     }
 }
 
@@ -31,56 +83,7 @@ pub fn fill_from_dense(output: &mut [u32], start: u32, count: u32)
     requires { (start + count < 4294967296) × (count ≤ length output.old) }
     ensures { output.new ≡ splice output.old 0 (iota start count) }
 {
-    let mut i = 0;
-    while i < count {
-        let at = i as usize;
-        output[at] = start + i;
-        i += 1;
+    for i in 0..count {
+        output[i as usize] = start + i;
     }
-}
-
-// Appends an id to the output. All others are written already.
-fn push_id(g: RetainBuilder, output: &mut [u32], id: u32) -> RetainBuilder
-    requires { (g.count < length output.old) × (g.count < 4294967295) }
-    ensures { (result ≡ pushed g) × (output.new ≡ slice_set output.old g.count id) }
-{
-    let at = g.count as usize;
-    output[at] = id;
-    let mut more = g;
-    more.count = g.count + 1;
-    more.written = g.count + 1;
-    more
-}
-
-// Adds a kept id, which is above the others.
-pub fn add_row_sorted(g: RetainBuilder, output: &mut [u32], id: u32) -> RetainBuilder
-    requires { CanAdd output.old g id }
-    ensures { Adds output.old g id result output.new }
-{
-    if g.written != 0 {
-        return push_id(g, output, id);
-    }
-    let mut more = g;
-    if g.count == 0 {
-        more.start = id;
-        more.count = 1;
-        return more;
-    }
-    if g.start + g.count == id {
-        more.count = g.count + 1;
-        return more;
-    }
-    fill_from_dense(output, g.start, g.count);
-    push_id(g, output, id)
-}
-
-// The answer, once all kept ids are added.
-pub fn finish_retain(g: RetainBuilder) -> SubsetAnswer
-    requires { g.written ≡ 0 → g.start + g.count < 4294967296 }
-    ensures { BuilderEnds g result }
-{
-    if g.written == 0 {
-        return SubsetAnswer::Range(g.start, g.start + g.count);
-    }
-    SubsetAnswer::List(g.count)
 }

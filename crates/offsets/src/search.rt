@@ -1,9 +1,9 @@
 // Searches in a rising list of ids: offsets/mod.rs. A binary search, and the search by doubling strides that `offsets_intersect`
 // makes in the longer of two lists. A list has at most 65,536 ids, so positions and strides have 32 bits.
-ghost use Rattle.std.specs.Prelude.{◌≡◌, ◌<◌, ◌≤◌, true, length};
+ghost use Rattle.std.specs.Prelude.{◌≡◌, ◌<◌, ◌≤◌, true, length, MatchResult};
 ghost use Rattle.lists.specs.Lists.{rising};
 ghost use Rattle.lists.specs.inner.Searching.{first_not_below};
-ghost use Rattle.offsets.specs.inner.Search.{Spaced, Bracketed, Searched, SearchedFrom, SearchedPart, Reached, ScannedAt, Scanned};
+ghost use Rattle.offsets.specs.inner.Search.{Spaced, Bracketed, Searched, SearchedFrom, SearchedPart, ReachedAt, ReachedBetween, ScannedAt, Scanned};
 
 // Binary search: a position such that the number before it is below the target and the number at it is not. The numbers are `width`
 // cells apart. Sort entries, which are pairs, use it too.
@@ -50,25 +50,11 @@ pub fn binary_search_by_id(ids: &[u32], target: u32) -> u32
     binary_search_from(ids, 0, target)
 }
 
-// The position of the target, or the position to insert it at.
-#[derive(Clone, Copy)]
-pub enum Scan {
-    Hit(u32),
-    Next(u32),
-}
-
-// The result of the strides: the position of the target, or two positions between which it is.
-#[derive(Clone, Copy)]
-enum Reach {
-    At(u32),
-    Between(u32, u32),
-}
-
 // Strides from `start`, whose id is below the target. Each stride is twice as long as the one before. Stops at the target, past it,
-// or at the end of the list.
-fn gallop(ids: &[u32], start: u32, target: u32) -> Reach
+// or at the end of the list. Returns the position of the target, or two positions between which it is.
+fn gallop(ids: &[u32], start: u32, target: u32) -> Result<u32, (u32, u32)>
     requires { (length ids.now ≤ 65536) × (start < length ids.now) × (rising ids.now ≡ true → start < first_not_below target ids.now) }
-    ensures { Reached ids.now target result }
+    ensures { MatchResult result (λ p. ReachedAt ids.now target p) (λ between. ReachedBetween ids.now target between.0 between.1) }
 {
     let mut low = start;
     let mut left = ids.len() as u32 - start;
@@ -77,51 +63,51 @@ fn gallop(ids: &[u32], start: u32, target: u32) -> Reach
         let probe = low + step;
         let id = ids[probe as usize];
         if id == target {
-            return Reach::At(probe);
+            return Ok(probe);
         }
         if target < id {
-            return Reach::Between(low + 1, probe);
+            return Err((low + 1, probe));
         }
         low = probe;
         left -= step;
         step *= 2;
     }
-    Reach::Between(low + 1, low + left)
+    Err((low + 1, low + left))
 }
 
-// Whether the target is at its position.
-fn scan_at(ids: &[u32], at: u32, target: u32) -> Scan
+// The position if the target is there, else the position to insert it at.
+fn scan_at(ids: &[u32], at: u32, target: u32) -> Result<u32, u32>
     requires { at ≤ length ids.now }
     ensures { ScannedAt ids.now at target result }
 {
     if ids.len() <= at as usize {
-        return Scan::Next(at);
+        return Err(at);
     }
     if ids[at as usize] == target {
-        return Scan::Hit(at);
+        return Ok(at);
     }
-    Scan::Next(at)
+    Err(at)
 }
 
-// The target's position from `start` on, by doubling strides and a binary search in the last stride. The ids must rise, and those
-// before `start` must be below the target.
-pub fn scan_for_offset(ids: &[u32], start: u32, target: u32) -> Scan
+// The target's position from `start` on, or the position to insert it at, by doubling strides and a binary search in the last
+// stride. The ids must rise, and those before `start` must be below the target.
+pub fn scan_for_offset(ids: &[u32], start: u32, target: u32) -> Result<u32, u32>
     requires { length ids.now ≤ 65536 }
     ensures { Scanned ids.now start target result }
 {
     if ids.len() <= start as usize {
-        return Scan::Next(ids.len() as u32);
+        return Err(ids.len() as u32);
     }
     let id = ids[start as usize];
     if id == target {
-        return Scan::Hit(start);
+        return Ok(start);
     }
     if target < id {
-        return Scan::Next(start);
+        return Err(start);
     }
     match gallop(ids, start, target) {
-        Reach::At(p) => Scan::Hit(p),
-        Reach::Between(low, high) => {
+        Ok(p) => Ok(p),
+        Err((low, high)) => {
             let p = binary_search_part(ids, low, high, target);
             scan_at(ids, p, target)
         }

@@ -1,6 +1,6 @@
 -- The intersection of two lists, one step at a time: a block, an id, an id that is common, a search by strides. Assumes nothing.
 use Rattle.offsets_intersect.proofs.Prelude.{ℕ, zero, suc, ◌+◌, ◌-◌, ◌≤◌, ◌<◌, ◌≡◌, refl, sym, ap, ◌∙◌, inl, inr, Bool, true, false, not, ◌&&◌, List, [], ◌∷◌, ◌++◌, append_assoc, append-nil, dec_lt, add-one, arith, eqb, length, take, drop, get_or, set, length-take, length-drop, length-set, take-append-drop, drop_of_length-le, length-take-le, drop-cons, drop-drop, get_or-take, get_or-drop, not-true, eqb-false, splice, filter, rising, elem, splice_alike, set_splice, front_splice, drop_splice, split, and_left, and_right, filter_append, filter_yes, rising_at, rising_drop, elem_at, elem_not_below, filter_all_fail, Wrote, common, Lacks, Apart, ApartAt, SkippedTo, MergedTo, true≢false, not_below_le, not_below_past, not_below_mono, elem_in_not_below, scan_place, scan, Scanned, Fitting, Searchable, first_not_below, not_below_below}
-use Rattle.offsets.specs.declared.search.Scan.TheVariants.{Hit, Next}
+use Rattle.std.specs.Prelude.{Ok, Err}
 use Rattle.offsets_intersect.proofs.Common.{common_comm}
 
 -- ---- ids that the others lack
@@ -353,20 +353,20 @@ module _ {ids others output₀ output : List ℕ} {i o n : ℕ} (f : Fitting ids
           true≢false (sym (elem_not_below id others m c (sym x)) ∙ e)
 
   -- the two results of a scan
-  pub scan_hit : (p : ℕ) → Scanned others o id (Hit p) → GallopInvariant ids others output₀ (set output n id) (i + 1) (p + 1) (n + 1)
+  pub scan_hit : (p : ℕ) → Scanned others o id (Ok p) → GallopInvariant ids others output₀ (set output n id) (i + 1) (p + 1) (n + 1)
   unfolding scan scan_place
   scan_hit p r =
-      let z : Hit p ≡ scan id others = r.finds g.up (w.past h) in
+      let z : Ok p ≡ scan id others = r.finds g.up (w.past h) in
       elim (split (elem id others)) [
-        | inl e ↦ let y : Hit p ≡ Hit place = rw e at z in let x : p ≡ place = ap scan_place y in rw x (found e)
-        | inr e ↦ let y : Hit p ≡ Next place = rw e at z in absurd (let w : ◌≡◌ {A = ℕ} 0 1 = cc in omega arith)
+        | inl e ↦ let y : Ok p ≡ Ok place = rw e at z in let x : p ≡ place = ap scan_place y in rw x (found e)
+        | inr e ↦ let y : Ok p ≡ Err place = rw e at z in absurd (let w : ◌≡◌ {A = ℕ} 0 1 = cc in omega arith)
       ]
 
-  pub scan_miss : (p : ℕ) → Scanned others o id (Next p) → GallopInvariant ids others output₀ output (i + 1) p n
+  pub scan_miss : (p : ℕ) → Scanned others o id (Err p) → GallopInvariant ids others output₀ output (i + 1) p n
   unfolding scan scan_place
   scan_miss p r =
-      let z : Next p ≡ scan id others = r.finds g.up (w.past h) in
+      let z : Err p ≡ scan id others = r.finds g.up (w.past h) in
       elim (split (elem id others)) [
-        | inl e ↦ let y : Next p ≡ Hit place = rw e at z in absurd (let w : ◌≡◌ {A = ℕ} 0 1 = cc in omega arith)
-        | inr e ↦ let y : Next p ≡ Next place = rw e at z in let x : p ≡ place = ap scan_place y in rw x (lacking e)
+        | inl e ↦ let y : Err p ≡ Ok place = rw e at z in absurd (let w : ◌≡◌ {A = ℕ} 0 1 = cc in omega arith)
+        | inr e ↦ let y : Err p ≡ Err place = rw e at z in let x : p ≡ place = ap scan_place y in rw x (lacking e)
       ]

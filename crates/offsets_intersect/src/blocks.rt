@@ -33,10 +33,8 @@ fn are_apart(ids: &[u32], others: &[u32]) -> bool
     ensures { result ≡ true → Apart ids.now others.now (length ids.now) }
 {
     let mut apart = true;
-    let mut i = 0;
-    while i < ids.len() {
-        apart = apart & is_none_of(ids[i], others);
-        i += 1;
+    for id in ids {
+        apart = apart & is_none_of(*id, others);
     }
     apart
 }
@@ -78,8 +76,7 @@ fn stop_from(i: usize, end: usize) -> usize
     requires { (i < end) × (end ≤ 65536) }
     ensures { (i < result) × (result ≤ end) }
 {
-    let far = i + MAX_MISSES;
-    if end < far { end } else { far }
+    end.min(i + MAX_MISSES)
 }
 
 // Merges in step from two positions inside the lists. Stops at the end of a list, or after many consecutive ids that the other list

@@ -2,7 +2,7 @@
 // longer list is searched for the ids of the shorter one.
 #![tactic(auto)]
 
-ghost use Rattle.std.specs.Prelude.{◌≡◌, true, ℕ, ◌≤◌, min, max, List, length};
+ghost use Rattle.std.specs.Prelude.{◌≡◌, true, ℕ, ◌≤◌, List, length};
 ghost use Rattle.lists.specs.Lists.{filter, within};
 ghost use Rattle.refusals.specs.Refusals.{accepted};
 ghost use Rattle.offsets.specs.Subsets.{range, list, list_or_nothing};
@@ -10,7 +10,7 @@ ghost use Rattle.offsets.specs.Answers.{subset_of, Answered, room_needed, inters
 ghost use Rattle.offsets.specs.inner.Writing.{Wrote};
 ghost use Rattle.offsets_intersect.specs.inner.Common.{Fitting, Searchable, common, similar, MuchLonger};
 
-use offsets::search::{Scan, binary_search_by_id, binary_search_from, scan_for_offset};
+use offsets::search::{binary_search_by_id, binary_search_from, scan_for_offset};
 use offsets::{SubsetAnswer, SubsetHead, is_well_formed};
 use refusals::{ACCEPTED, MALFORMED_SUBSET, TOO_SHORT};
 
@@ -34,29 +34,25 @@ fn gallop_along(ids: &[u32], others: &[u32], output: &mut [u32]) -> usize
     requires { Fitting ids.now output.old × Searchable others.now × MuchLonger (length ids.now) (length others.now) }
     ensures { Wrote output.old (common ids.now others.now) result output.new }
 {
-    let count = ids.len() as u32;
     let end = others.len() as u32;
-    let mut i = 0;
     let mut o = 0;
-    let mut n: u32 = 0;
-    while i < count {
+    let mut n = 0;
+    for id in ids {
         if end <= o {
-            return n as usize;
+            return n;
         }
-        let id = ids[i as usize];
-        i += 1;
-        match scan_for_offset(others, o, id) {
-            Scan::Hit(p) => {
-                output[n as usize] = id;
+        match scan_for_offset(others, o, *id) {
+            Ok(p) => {
+                output[n] = *id;
                 n += 1;
                 o = p + 1;
             }
-            Scan::Next(p) => {
+            Err(p) => {
                 o = p;
             }
         }
     }
-    n as usize
+    n
 }
 
 // Two lists are of similar length if neither has more ids than this, or neither is more than `RATIO` times as long as the other.
@@ -86,18 +82,6 @@ fn keep_common(ids: &[u32], others: &[u32], output: &mut [u32]) -> usize
     gallop_along(ids, others, output)
 }
 
-fn larger(a: u32, b: u32) -> u32
-    ensures { result ≡ max a b }
-{
-    if a < b { b } else { a }
-}
-
-fn smaller(a: u32, b: u32) -> u32
-    ensures { result ≡ min a b }
-{
-    if a < b { a } else { b }
-}
-
 // Two ranges give a range. If they do not meet, it starts and ends at the larger start.
 pub fn intersect_ranges(a: u32, b: u32, c: u32, d: u32) -> SubsetAnswer
     ensures { (output : List ℕ) → Answered (intersect_reply (range a b) (range c d) (length output)) output result output }
@@ -108,9 +92,9 @@ pub fn intersect_ranges(a: u32, b: u32, c: u32, d: u32) -> SubsetAnswer
     if d < c {
         return SubsetAnswer::Refused(MALFORMED_SUBSET);
     }
-    let start = larger(a, c);
-    let end = smaller(b, d);
-    SubsetAnswer::Range(start, larger(start, end))
+    let start = a.max(c);
+    let end = b.min(d);
+    SubsetAnswer::Range(start, start.max(end))
 }
 
 // A range with a list gives a list, or 0..0 if they have no id in common.

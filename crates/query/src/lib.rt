@@ -32,7 +32,7 @@ pub fn refine_one(
         return SubsetAnswer::Refused(done.refused);
     }
     if head.dense {
-        return offsets::retain::finish_retain(done.found);
+        return done.found.finish();
     }
     let count = write_found(done.found, out);
     SubsetAnswer::List(count)

@@ -145,7 +145,7 @@ fn at_place(head: SubsetHead, ids: &[u32], refused: u32, next: u32, end: u32, mo
         id: 0,
         most: most,
         dead: 0,
-        found: offsets::retain::empty(),
+        found: RetainBuilder::new(),
     };
     if next < end {
         s.id = id_at(head, ids, next);
@@ -158,7 +158,7 @@ fn keep_id(s: Scan, out: &mut [u32]) -> Scan
     requires { (s.next < s.end) × CanAdd out.old s.found s.id }
     ensures { Keeps s out.old result out.new }
 {
-    let found = offsets::retain::add_row_sorted(s.found, out, s.id);
+    let found = s.found.add(out, s.id);
     let mut n = s;
     n.found = found;
     if found.count == s.most {

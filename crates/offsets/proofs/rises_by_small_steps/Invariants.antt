@@ -1,10 +1,6 @@
 -- `offsets::rises_by_small_steps` meets its contract. Assumes nothing.
-use Rattle.offsets.proofs.Prelude.{◌-◌}
 use Rattle.offsets.proofs.Rising.{Steps}
 use Rattle.offsets.proofs.rises_by_small_steps.Given as goal
 
 abbrev pub invariant-loop-i : goal.invariant-loop-i
 invariant-loop-i l = Steps l.ids l.last l.rises l.i
-
-abbrev pub decreases-loop-i : goal.decreases-loop-i
-decreases-loop-i l = 65 - l.i

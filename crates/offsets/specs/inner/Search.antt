@@ -1,11 +1,7 @@
 -- Contracts of the searches in a list of ids. Assumes nothing.
-use Rattle.std.specs.Prelude.{◌≡◌, ℕ, ◌+◌, ◌*◌, ◌<◌, ◌≤◌, true, cond, List, length, slice_index, slice_index_or}
+use Rattle.std.specs.Prelude.{◌≡◌, ℕ, ◌+◌, ◌*◌, ◌<◌, ◌≤◌, true, cond, List, length, slice_index, slice_index_or, Result, Ok, Err}
 use Rattle.lists.specs.Lists.{rising, elem}
 use Rattle.lists.specs.inner.Searching.{first_not_below}
-use Rattle.offsets.specs.declared.search.Scan.{Scan}
-use Rattle.offsets.specs.declared.search.Scan.TheVariants.{Hit, Next}
-use Rattle.offsets.specs.declared.search.Reach.{Reach}
-use Rattle.offsets.specs.declared.search.Reach.TheVariants.{At, Between}
 
 -- n numbers, `width` cells apart, are inside a store
 pub record Spaced (cells : List ℕ) (width n : ℕ) : Type 0 where
@@ -48,23 +44,19 @@ pub record ReachedBetween (ids : List ℕ) (target low high : ℕ) : Type 0 wher
   pub after : rising ids ≡ true → low ≤ first_not_below target ids
   pub upto : rising ids ≡ true → first_not_below target ids ≤ high
 
-unfoldable pub Reached : List ℕ → ℕ → Reach → Type 0
-Reached ids target (At p) = ReachedAt ids target p
-Reached ids target (Between low high) = ReachedBetween ids target low high
-
 -- the position in a result
-unfoldable pub scan_place : Scan → ℕ
-scan_place (Hit p) = p
-scan_place (Next p) = p
+unfoldable pub scan_place : Result ℕ ℕ → ℕ
+scan_place (Ok p) = p
+scan_place (Err p) = p
 
 -- the result of a scan: the target at its position, or the position to insert it at
-unfoldable pub scan : ℕ → List ℕ → Scan
-scan target ids = cond (elem target ids) (Hit (first_not_below target ids)) (Next (first_not_below target ids))
+unfoldable pub scan : ℕ → List ℕ → Result ℕ ℕ
+scan target ids = cond (elem target ids) (Ok (first_not_below target ids)) (Err (first_not_below target ids))
 
-pub record ScannedAt (ids : List ℕ) (at target : ℕ) (r : Scan) : Type 0 where
+pub record ScannedAt (ids : List ℕ) (at target : ℕ) (r : Result ℕ ℕ) : Type 0 where
   pub within : scan_place r ≤ length ids
   pub finds : rising ids ≡ true → at ≡ first_not_below target ids → r ≡ scan target ids
 
-pub record Scanned (ids : List ℕ) (start target : ℕ) (r : Scan) : Type 0 where
+pub record Scanned (ids : List ℕ) (start target : ℕ) (r : Result ℕ ℕ) : Type 0 where
   pub within : scan_place r ≤ length ids
   pub finds : rising ids ≡ true → start ≤ first_not_below target ids → r ≡ scan target ids

@@ -1,10 +1,6 @@
 -- `offsets_intersect::gallop_along` meets its contract. Assumes nothing.
-use Rattle.offsets_intersect.proofs.Prelude.{◌-◌, length}
 use Rattle.offsets_intersect.proofs.Passing.{GallopInvariant}
 use Rattle.offsets_intersect.proofs.gallop_along.Given as goal
 
-abbrev pub invariant-loop-i : goal.invariant-loop-i
-invariant-loop-i l = GallopInvariant l.ids l.others l.initial.output l.output l.i l.o l.n
-
-abbrev pub decreases-loop-i : goal.decreases-loop-i
-decreases-loop-i l = length l.ids - l.i
+abbrev pub invariant-loop-id : goal.invariant-loop-id
+invariant-loop-id l = GallopInvariant l.ids l.others l.initial.output l.output l.id-index l.o l.n

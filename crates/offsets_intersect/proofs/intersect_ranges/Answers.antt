@@ -11,6 +11,5 @@ returns-then-d-c c = λ output. ranges_second _ _ _ _ output c.if-b-a.false c.if
 
 pub returns : goal.returns
 returns c = λ output.
-    let s = c.larger-start.ensures in
-    let e = c.smaller-end.ensures in
-    rw (ap₂ Range s (c.larger.ensures ∙ ap₂ max s e)) (ranges_answered _ _ _ _ output c.if-b-a.false c.if-d-c.false)
+    let s = c.max-start.ensures in
+    rw (ap₂ Range s (c.max.ensures ∙ ap₂ max s c.min-end.ensures)) (ranges_answered _ _ _ _ output c.if-b-a.false c.if-d-c.false)

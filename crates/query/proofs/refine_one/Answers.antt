@@ -8,7 +8,7 @@ returns-then-done-ne-ACCEPTED c = one_refused _ _ _ _ _ _ _ c.scan_one-done.ensu
 pub returns-then-head : goal.returns-then-head
 returns-then-head c =
     one_answered _ _ _ _ _ _ _ c.scan_one-done.ensures _ _ c.if-done-ne-ACCEPTED.false
-    (retained_range _ _ _ _ _ _ _ c.if-head.true (kept_all _ _ _ _ _ _ _ c.scan_one-done.ensures c.if-done-ne-ACCEPTED.false) c.finish_retain.ensures)
+    (retained_range _ _ _ _ _ _ _ c.if-head.true (kept_all _ _ _ _ _ _ _ c.scan_one-done.ensures c.if-done-ne-ACCEPTED.false) c.finish.ensures)
 
 pub write_found-count-requires : goal.write_found-count-requires
 write_found-count-requires c = can_write _ _ _ _ _ _ _ c.scan_one-done.ensures c.if-done-ne-ACCEPTED.false

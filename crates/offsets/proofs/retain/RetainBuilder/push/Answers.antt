@@ -1,7 +1,7 @@
--- `offsets::retain::push_id` meets its contract. Assumes nothing.
+-- `offsets::retain::RetainBuilder::push` meets its contract. Assumes nothing.
 use Rattle.std.proofs.Common.{refl}
 use Rattle.offsets.specs.inner.RetainBuilder.{pushed}
-use Rattle.offsets.proofs.retain.push_id.Goals as goal
+use Rattle.offsets.proofs.retain.RetainBuilder.push.Goals as goal
 
 pub returns : goal.returns
 returns c = unfold pushed in (refl, refl)
