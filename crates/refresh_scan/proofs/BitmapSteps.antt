@@ -1,5 +1,5 @@
 -- The turns of the passes: a row, the rows from one on, the parts of the values. Assumes nothing.
-use Rattle.refresh_scan.proofs.Prelude.{ℕ, ◌+◌, ◌-◌, ◌*◌, ◌≤◌, ◌<◌, min, ◌≡◌, refl, sym, ap, ◌∙◌, Bool, true, false, not, ◌&&◌, ◌||◌, false≢true, List, [], ◌∷◌, ◌++◌, dec_lt, add-zero, suc-mul, add-one, arith, leb, ltb, eqb, length, take, drop, get_or, take-append-drop, length-take, take-add, take_all, eq-eqb, eqb-true, le-leb, leb-true, lt-ltb, ltb-true, and_left, and_right, and_both, or_right, part_width, elem_append, length_row_at, get_d_row_at, Inside, inside, Header, outside_inside, MarkedOne, Marked, marked_one, marked_none, marked_then, marked_weaker}
+use Rattle.refresh_scan.proofs.Prelude.{ℕ, ◌+◌, ◌-◌, ◌*◌, ◌≤◌, ◌<◌, ◌≡◌, refl, sym, ap, ◌∙◌, Bool, true, false, not, ◌&&◌, ◌||◌, false≢true, List, [], ◌∷◌, ◌++◌, dec_lt, add-zero, suc-mul, add-one, arith, leb, ltb, eqb, length, take, drop, get_or, append_assoc, append-nil, eq-eqb, eqb-true, le-leb, leb-true, lt-ltb, ltb-true, and_left, and_right, and_both, or_right, part_width, elem_append, length_row_at, get_d_row_at, Inside, inside, Header, outside_inside, MarkedOne, Marked, marked_one, marked_none, marked_then, marked_weaker}
 use Rattle.lists.specs.Lists.{all, any, elem, row_at}
 use Rattle.cells.specs.Cells.{is_dead}
 use Rattle.constraints.specs.Constraints.{is_live}
@@ -140,9 +140,6 @@ module _ (h : Header) (rows columns values : List ℕ) where
 
 -- ---- the parts of the values
 
-pub part_few : (values : List ℕ) (at end : ℕ) → end ≡ min (at + 1024) (length values) → length (take (end - at) (drop at values)) ≤ 1024
-part_few values at end e = omega (arith, length-take (end - at) (drop at values))
-
 any_none : (l : List ℕ) → any (λ (column : ℕ). false) l ≡ false
 unfolding any
 any_none [] = refl
@@ -187,30 +184,30 @@ module _ (h : Header) (rows columns : List ℕ) (from : ℕ) where
       over true true m n = refl
 
   module _ (values : List ℕ) where
-    pub parts_begin : {words : List ℕ} → Marked (wants values) (wants (take 0 values)) words words 0
-    parts_begin = marked_weaker (λ i e. e) (λ i e. absurd (wants_none i e)) marked_none
+    -- the rows of the values before the rest are marked
+    pub record Parted (rest words words' : List ℕ) (more : ℕ) : Type 0 where
+      pub done : List ℕ
+      pub cut : values ≡ done ++ rest
+      pub marked : Marked (wants values) (wants done) words words' more
 
-    module _ (at end : ℕ) (e : end ≡ min (at + 1024) (length values)) (k : at ≤ length values) where
-      abbrev part : List ℕ
-      part = take (end - at) (drop at values)
+    pub parts_begin : {words : List ℕ} → Parted values words words 0
+    parts_begin = record { done = []; cut = refl; marked = marked_weaker (λ i e. e) (λ i e. absurd (wants_none i e)) marked_none }
 
-      reached : (i : ℕ) → wants (take end values) i ≡ true → (wants (take at values) i || wants part i) ≡ true
-      reached i w =
-          let l : at + (end - at) ≡ end = omega arith in
-          let cut : take end values ≡ take at values ++ part = rw l at (take-add at (end - at) values) in
-          sym (wants_append (take at values) part i) ∙ rw (← cut) w
+    pub parts_on : {words words' words'' rest : List ℕ} {a b : ℕ} (part rest' : List ℕ) → rest ≡ part ++ rest' → Parted rest words words' a
+        → Marked (wants part) (wants part) words' words'' b → Parted rest' words words'' (a + b)
+    parts_on {rest = rest} part rest' e p n =
+        let cut : values ≡ p.done ++ (part ++ rest') = p.cut ∙ ap (λ (l : List ℕ). p.done ++ l) e in
+        record {
+          done = p.done ++ part;
+          cut = cut ∙ sym (append_assoc p.done part rest');
+          marked = marked_weaker (λ i w. w) (λ i w. sym (wants_append p.done part i) ∙ w) (marked_then p.marked (marked_weaker (within cut) (λ i w. w) n));
+        }
+      where
+        within : values ≡ p.done ++ (part ++ rest') → (i : ℕ) → wants part i ≡ true → wants values i ≡ true
+        within cut i w =
+            ap (λ (v : List ℕ). wants v i) cut
+            ∙ wants_append p.done (part ++ rest') i
+            ∙ or_right (wants p.done i) _ (wants_append part rest' i ∙ rw w)
 
-      within : (i : ℕ) → wants part i ≡ true → wants values i ≡ true
-      within i w =
-          let cut : values ≡ take at values ++ (part ++ drop (end - at) (drop at values)) = rw (take-append-drop (end - at) (drop at values), take-append-drop at values) in
-          ap (λ (v : List ℕ). wants v i) cut
-          ∙ wants_append (take at values) _ i
-          ∙ or_right (wants (take at values) i) _ (wants_append part (drop (end - at) (drop at values)) i ∙ rw w)
-
-      pub parts_on : {words words' words'' : List ℕ} {a b : ℕ} → Marked (wants values) (wants (take at values)) words words' a → Marked (wants part) (wants part) words' words'' b
-          → Marked (wants values) (wants (take end values)) words words'' (a + b)
-      parts_on m n = marked_weaker (λ i w. w) reached (marked_then m (marked_weaker within (λ i w. w) n))
-
-    pub parts_end : {words words' : List ℕ} {more : ℕ} (at : ℕ) → length values ≤ at → Marked (wants values) (wants (take at values)) words words' more
-        → Marked (wants values) (wants values) words words' more
-    parts_end at k m = rw (take_all at values k) at m
+    pub parts_end : {words words' rest : List ℕ} {more : ℕ} → rest ≡ [] → Parted rest words words' more → Marked (wants values) (wants values) words words' more
+    parts_end e p = let whole : p.done ≡ values = sym (p.cut ∙ rw e (append-nil p.done)) in rw whole at p.marked

@@ -1,5 +1,7 @@
 -- The names that the proofs of this crate take from elsewhere, re-exported. It defines nothing of its own.
 pub use Prim.Native.Nat.{◌*◌, ◌+◌, ◌-◌, ◌<◌, ◌≤◌, min, suc, zero, ℕ}
+pub use Rattle.std.proofs.Common.{append_assoc}
+pub use Rattle.std.proofs.lemmas.List.{append-nil, nil_from_length}
 pub use mathlib.Core.Bool.{Bool, ◌&&◌, ◌||◌, false, false≢true, not, true}
 pub use mathlib.Core.List.{List, [], ◌++◌, ◌∷◌}
 pub use mathlib.Core.Logic.{inl, inr}
@@ -16,7 +18,7 @@ pub use borrow.Author.Tests.{eq-eqb, eqb-false, eqb-true, le-leb, leb-true, lt-l
 pub use Rattle.bitmap.specs.Laws.Bitmaps.{bitmap_of, marked_few, marked_none, marked_one, marked_then, marked_weaker}
 pub use Rattle.bitmap.specs.inner.Bitmaps.{Marked, MarkedOne}
 pub use Rattle.key_index.specs.Laws.Places.{Inside, inside}
-pub use Rattle.lists.specs.Laws.All.{and_both, or_right}
+pub use Rattle.lists.specs.Laws.All.{and_both, any_at, any_of, or_right}
 pub use Rattle.lists.specs.Laws.Filter.{all_get_d, and_left, and_right, split}
 pub use Rattle.lists.specs.Laws.Parts.{part_width}
 pub use Rattle.lists.specs.Laws.Rising.{elem_append, elem_of, elem_there}

@@ -3,7 +3,7 @@
 // compared with all values.
 #![tactic(auto)]
 
-ghost use Rattle.std.specs.Prelude.{◌≡◌, true, ◌+◌, ◌≤◌, ◌<◌, min, ltb, length};
+ghost use Rattle.std.specs.Prelude.{◌≡◌, true, ◌+◌, ◌≤◌, ◌<◌, ltb, length};
 ghost use Rattle.lists.specs.Lists.{all, elem};
 ghost use Rattle.plain_table.specs.Refreshing.{mentions};
 ghost use Rattle.bitmap.specs.inner.Bitmaps.{Marked};
@@ -33,12 +33,10 @@ fn link_values(values: &[u32], links: &mut [u32])
     requires { Linked values.now 0 links.old }
     ensures { Linked values.now (length values.now) links.new }
 {
-    let mut place = 0;
-    while place < values.len() {
-        let bucket = bucket_place(values[place]);
+    for (place, &value) in values.iter().enumerate() {
+        let bucket = bucket_place(value);
         links[place] = links[bucket];
-        place += 1;
-        links[bucket] = place as u32;
+        links[bucket] = place as u32 + 1;
     }
 }
 
@@ -63,15 +61,9 @@ fn mentions_one(row: &[u32], columns: &[u32], values: &[u32], links: &[u32]) -> 
     requires { (all (λ column. ltb column (length row.now)) columns.now ≡ true) × Linked values.now (length values.now) links.now }
     ensures { result ≡ mentions columns.now values.now row.now }
 {
-    let mut i = 0;
-    while i < columns.len() {
-        let column = columns[i] as usize;
-        if is_among(values, links, row[column]) {
-            return true;
-        }
-        i += 1;
-    }
-    false
+    columns
+        .iter()
+        .any(|&column| is_among(values, links, row[column as usize]))
 }
 
 // Sets the bit of a row if it is live and has a value of a part.
@@ -92,8 +84,7 @@ fn mark_row(
     if row_buffer::is_dead(rows, at) {
         return 0;
     }
-    let end = at + width;
-    if !mentions_one(&rows[at..end], columns, values, links) {
+    if !mentions_one(&rows[at..at + width], columns, values, links) {
         return 0;
     }
     bitmap::mark(words, row)
@@ -113,10 +104,8 @@ fn mark_rows(
     ensures { Marked (mentions_from h rows.now columns.now values.now from) (mentions_from h rows.now columns.now values.now from) words.old words.new result }
 {
     let mut marked: u32 = 0;
-    let mut row = from;
-    while row < h.rows {
+    for row in from..h.rows {
         marked += mark_row(h, rows, row, columns, values, links, words);
-        row += 1;
     }
     marked
 }
@@ -138,17 +127,6 @@ fn mark_part(
     mark_rows(h, rows, from, columns, values, &links, words)
 }
 
-// The end of the part that starts at a place.
-fn part_end(at: usize, count: usize) -> usize
-    requires { at ≤ count }
-    ensures { result ≡ min (at + 1024) count }
-{
-    if count - at < PART {
-        return count;
-    }
-    at + PART
-}
-
 // Sets the bits of the live rows from this one on that have one of the values in one of the columns. Returns how many were not set
 // before.
 pub fn mark_unlisted(
@@ -166,11 +144,8 @@ pub fn mark_unlisted(
         return 0;
     }
     let mut marked: u32 = 0;
-    let mut at = 0;
-    while at < values.len() {
-        let end = part_end(at, values.len());
-        marked += mark_part(h, rows, from, columns, &values[at..end], words);
-        at = end;
+    for part in values.chunks(PART) {
+        marked += mark_part(h, rows, from, columns, part, words);
     }
     marked
 }

@@ -14,8 +14,8 @@ pub returns-then-is_dead : goal.returns-then-is_dead
 returns-then-is_dead c =
     row_passed _ _ _ _ _ (dead_mentions _ _ _ _ _ (lies (goal.at.returns-then-is_dead c).Start) c.requires.1 _ (rw c.row_start-at.ensures at c.is_dead.ensures) c.if-is_dead.true)
 
-pub overflow_add-end : goal.overflow_add-end
-overflow_add-end c = omega (arith, lies (goal.at.overflow_add-end c).Start)
+pub overflow_add-at : goal.overflow_add-at
+overflow_add-at c = omega (arith, lies (goal.at.overflow_add-at c).Start)
 
 pub offset_bounds-rows-at : goal.offset_bounds-rows-at
 offset_bounds-rows-at c = omega (arith, lies (goal.at.offset_bounds-rows-at c).Start)
