@@ -1,6 +1,9 @@
 -- The loops: steps tested, a position counted up, a sequence written from its last step back. Assumes nothing.
-use Rattle.short_histories.proofs.Prelude.{ℕ, suc, ◌+◌, ◌-◌, ◌*◌, ◌/◌, ◌%◌, ◌≤◌, ◌<◌, ◌≡◌, refl, sym, ap, ap₂, ◌∙◌, arith, length, take, drop, get_or, set, length-take, length-append, length-set, drop_of_length-le, lt-ltb, le-ltb, le-leb, lt-leb, true, false, ◌&&◌, List, [], ◌∷◌, ◌++◌, append_assoc, add-one, ltb, drop-cons, drop-set-lt, get_or-set_same, get_or-take, take-suc, take-length, all_get_d, all_of, splice_nil, Steps, known_short, known_steps, known_of, position_below, position_more, sequence_at_known, sequence_at_none, sequence_at_more}
-use Rattle.lists.specs.Lists.{splice, all}
+use Rattle.short_histories.proofs.Prelude.{ℕ, zero, suc, ◌+◌, ◌-◌, ◌*◌, ◌/◌, ◌%◌, ◌≤◌, ◌<◌, ◌≡◌, refl, sym, ap, ap₂, ◌∙◌, arith, length, take, drop, get_or, set, length-take, length-append, length-set, lt-ltb, lt-leb, true, false, List, [], ◌∷◌, ◌++◌, append_assoc, add-one, ltb, ltb-true, drop-cons, drop-set-lt, get_or-set_same, get_or-take, take-suc, take-length, all_get_d, all_of, splice_nil, Steps, known_short, known_steps, known_of, position_below, position_more, sequence_at_known, sequence_at_none, sequence_at_more}
+use Rattle.std.specs.Prelude.{Bool, ◌↔◌, IsTrue, EachIndex}
+use Rattle.std.proofs.Common.{inl, inr}
+use Rattle.lists.specs.Lists.{splice}
+use Rattle.lists.specs.Laws.Filter.{split}
 use Rattle.short_histories.specs.Sequences.{position_of, sequence_at, known}
 
 -- ---- the steps tested
@@ -10,25 +13,15 @@ module _ (s : List ℕ) where
   unfolding known
   too_long h = rw (lt-leb (length s) 6 h)
 
-  -- whether it is known depends on the steps from a place on
-  pub known_start : length s ≤ 6 → known s ≡ all (λ step. ltb step 7) (drop 0 s)
+  -- whether it is known is whether each step is
+  pub known_tested : length s ≤ 6 → (b : Bool) → (IsTrue b ↔ EachIndex s (λ k. get_or s k 0 < 7)) → b ≡ known s
   unfolding known
-  known_start h = rw (le-leb (length s) 6 h)
-
-  module _ (i : ℕ) (h : i < length s) (e : known s ≡ all (λ step. ltb step 7) (drop i s)) where
-    here : known s ≡ (ltb (get_or s i 0) 7 && all (λ step. ltb step 7) (drop (suc i) s))
-    unfolding all
-    here = e ∙ ap (all (λ step. ltb step 7)) (drop-cons s i 0 h)
-
-    pub unknown_here : 7 ≤ get_or s i 0 → known s ≡ false
-    unknown_here k = here ∙ rw (le-ltb (get_or s i 0) 7 k)
-
-    pub known_on : get_or s i 0 < 7 → known s ≡ all (λ step. ltb step 7) (drop (i + 1) s)
-    known_on k = here ∙ rw (lt-ltb (get_or s i 0) 7 k, add-one)
-
-  pub known_end : (i : ℕ) → length s ≤ i → known s ≡ all (λ step. ltb step 7) (drop i s) → known s ≡ true
-  unfolding all
-  known_end i h e = e ∙ rw (drop_of_length-le s h)
+  known_tested h true e = sym (known_of s h (all_of (λ step. ltb step 7) 0 s (λ i k. lt-ltb (get_or s i 0) 7 (e.0 refl i k))))
+  known_tested h false e =
+      elim (split (known s)) [
+        | inl k ↦ let no : false ≡ true = e.1 (λ i m. ltb-true (get_or s i 0) 7 (all_get_d (λ step. ltb step 7) s (known_steps s k) i m 0)) in absurd cc
+        | inr k ↦ sym k
+      ]
 
 -- ---- a position counted up
 
@@ -101,15 +94,22 @@ pub writing_begun : (position : ℕ) (output : List ℕ) (steps : ℕ) → posit
     → Writing position output output steps position
 writing_begun position output steps h e r = record { inside = h; left = e; room = r; same = refl; written = refl }
 
+-- some steps are left exactly where the position is above 0
+step_left : (rest at : ℕ) → at ≡ length (sequence_at rest) → 0 < at → 0 < rest
+step_left zero at e some = let n : length (sequence_at 0) ≡ 0 = ap length sequence_at_none in absurd (omega arith)
+step_left (suc rest) at e some = omega arith
+
+none_left : (rest at : ℕ) → rest < 137257 → at ≡ length (sequence_at rest) → at ≤ 0 → rest ≡ 0
+none_left zero at h e none = refl
+none_left (suc rest) at h e none = let n = length_back (suc rest) (omega arith) h in absurd (omega arith)
+
 module _ {position : ℕ} {output₀ output : List ℕ} {at rest : ℕ} (w : Writing position output₀ output at rest) where
-  pub some_left : 0 < rest → 0 < at
-  some_left some = let e = length_back rest some w.inside in let l = w.left in omega arith
+  pub some_left : 0 < at → 0 < rest
+  some_left = step_left rest at w.left
 
-  pub writing_inside : 0 < rest → at - 1 < length output
-  writing_inside some = let k = some_left some in let r = w.room in omega arith
-
-  pub writing_on : 0 < rest → Writing position output₀ (set output (at - 1) ((rest - 1) % 7)) (at - 1) ((rest - 1) / 7)
-  writing_on some =
+  pub writing_on : 0 < at → Writing position output₀ (set output (at - 1) ((rest - 1) % 7)) (at - 1) ((rest - 1) / 7)
+  writing_on here =
+      let some = some_left here in
       let e = length_back rest some w.inside in
       let l = w.left in
       let n = length-set output (at - 1) ((rest - 1) % 7) in
@@ -124,5 +124,7 @@ module _ {position : ℕ} {output₀ output : List ℕ} {at rest : ℕ} (w : Wri
             ∙ ap (λ (k : ℕ). splice (set output (k - 1) ((rest - 1) % 7)) 0 (sequence_at ((rest - 1) / 7))) (sym l);
       }
 
-  pub writing_ended : rest ≤ 0 → output ≡ splice output₀ 0 (sequence_at position)
-  writing_ended h = let e : rest ≡ 0 = omega arith in sym (w.written ∙ ap (λ (p : ℕ). splice output 0 (sequence_at p)) e ∙ ap (splice output 0) sequence_at_none ∙ splice_nil output 0)
+  pub writing_ended : at ≤ 0 → output ≡ splice output₀ 0 (sequence_at position)
+  writing_ended h =
+      let e : rest ≡ 0 = none_left rest at w.inside w.left h in
+      sym (w.written ∙ ap (λ (p : ℕ). splice output 0 (sequence_at p)) e ∙ ap (splice output 0) sequence_at_none ∙ splice_nil output 0)

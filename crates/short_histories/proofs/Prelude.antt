@@ -21,3 +21,5 @@ pub use Rattle.short_histories.specs.Laws.Positions.{known_of, known_short, know
 pub use lib.Dec.{ltb}
 pub use Rattle.short_histories.specs.Laws.Refusals.{next_none, next_unknown, next_written, position_answered, position_refused, sequence_no_room, sequence_past_last, sequence_written}
 pub use Rattle.lists.specs.Laws.Parts.{copy_step, splice_nil}
+pub use Rattle.std.proofs.Common.{length-drop}
+pub use Rattle.std.proofs.lemmas.List.{set_at}

@@ -3,7 +3,7 @@
 // empty sequence, and each number has one sequence.
 #![tactic(auto)]
 
-ghost use Rattle.std.specs.Prelude.{◌≡◌, true, ◌≤◌, ◌<◌, length, get_or};
+ghost use Rattle.std.specs.Prelude.{◌≡◌, true, ◌≤◌, ◌<◌, length};
 ghost use Rattle.lists.specs.Lists.{splice};
 ghost use Rattle.short_histories.specs.Sequences.{sequence_at, position_of, known, StepAnswered, PositionAnswered, SequenceFound, NextFound};
 ghost use Rattle.short_histories.specs.inner.Raised.{RaisedEnd, raised, ToRaise};
@@ -62,17 +62,7 @@ pub fn step_at(step: u32) -> StepAnswer
 fn is_known(sequence: &[u32]) -> bool
     ensures { result ≡ known sequence.now }
 {
-    if sequence.len() > LONGEST {
-        return false;
-    }
-    let mut i = 0;
-    while i < sequence.len() {
-        if sequence[i] >= STEPS {
-            return false;
-        }
-        i += 1;
-    }
-    true
+    sequence.len() <= LONGEST && sequence.iter().all(|step| *step < STEPS)
 }
 
 // The position of a known sequence.
@@ -81,10 +71,8 @@ fn known_position(sequence: &[u32]) -> u32
     ensures { (result ≡ position_of sequence.now) × (result < 137257) }
 {
     let mut position = 0;
-    let mut i = 0;
-    while i < sequence.len() {
-        position = position * STEPS + sequence[i] + 1;
-        i += 1;
+    for step in sequence {
+        position = position * STEPS + *step + 1;
     }
     position
 }
@@ -108,10 +96,8 @@ fn write_sequence(position: u32, steps: usize, output: &mut [u32])
     requires { (position < 137257) × (steps ≡ length (sequence_at position)) × (steps ≤ length output.old) }
     ensures { output.new ≡ splice output.old 0 (sequence_at position) }
 {
-    let mut at = steps;
     let mut rest = position;
-    while rest > 0 {
-        at -= 1;
+    for at in (0..steps).rev() {
         output[at] = (rest - 1) % STEPS;
         rest = (rest - 1) / STEPS;
     }
@@ -148,14 +134,10 @@ pub fn sequence_at(position: u32, output: &mut [u32]) -> SequenceAnswer
 fn raised_end(sequence: &[u32]) -> usize
     ensures { RaisedEnd sequence.now result }
 {
-    let mut end = sequence.len();
-    while 0 < end {
-        if sequence[end - 1] != LAST_STEP {
-            return end;
-        }
-        end -= 1;
+    match sequence.iter().rposition(|step| *step != LAST_STEP) {
+        Some(last) => last + 1,
+        None => 0,
     }
-    end
 }
 
 // The number of steps of the next sequence.
@@ -169,30 +151,15 @@ fn raised_length(sequence: &[u32], end: usize) -> usize
     sequence.len()
 }
 
-// A step of the next sequence.
-fn raised_step(sequence: &[u32], end: usize, at: usize) -> u32
-    requires { ToRaise sequence.now end }
-    ensures { result ≡ get_or (raised sequence.now end) at 0 }
-{
-    if end <= at {
-        return 0;
-    }
-    let step = sequence[at];
-    if at + 1 < end {
-        return step;
-    }
-    step + 1
-}
-
 // Writes the next sequence to the start of the output.
 fn write_raised(sequence: &[u32], end: usize, steps: usize, output: &mut [u32])
     requires { ToRaise sequence.now end × (steps ≡ length (raised sequence.now end)) × (steps ≤ length output.old) }
     ensures { output.new ≡ splice output.old 0 (raised sequence.now end) }
 {
-    let mut at = 0;
-    while at < steps {
-        output[at] = raised_step(sequence, end, at);
-        at += 1;
+    output[..steps].fill(0);
+    if let Some(last) = end.checked_sub(1) {
+        output[..last].copy_from_slice(&sequence[..last]);
+        output[last] = sequence[last] + 1;
     }
 }
 

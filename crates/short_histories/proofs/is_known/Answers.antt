@@ -1,21 +1,15 @@
-use Rattle.short_histories.proofs.Prelude.{sym, arith}
-use Rattle.short_histories.proofs.LoopSteps.{too_long, known_start, unknown_here, known_on, known_end}
+-- `short_histories::is_known` meets its contract. Assumes nothing.
+use Rattle.std.proofs.Common.{rules}
+use Rattle.std.specs.Prelude.{EachIndex, ◌↔◌, IsTrue}
+use Rattle.short_histories.proofs.Prelude.{sym, ◌∙◌, ◌<◌, get_or, lt-leb}
+use Rattle.short_histories.proofs.LoopSteps.{too_long, known_tested}
 use Rattle.short_histories.proofs.is_known.Goals as goal
 
-pub returns-then-sequence-gt-LONGEST : goal.returns-then-sequence-gt-LONGEST
-returns-then-sequence-gt-LONGEST c = sym (too_long _ c.if-sequence-gt-LONGEST.true)
+pub returns-then-sequence-le-LONGEST : goal.returns-then-sequence-le-LONGEST
+returns-then-sequence-le-LONGEST c =
+    let s = c.args.sequence.now in
+    let tested : IsTrue c.all.result ↔ EachIndex s (λ k. get_or s k 0 < 7) = search rules in
+    known_tested s c.if-sequence-le-LONGEST.true c.all.result tested
 
-pub loop-i-init : goal.loop-i-init
-loop-i-init c = known_start _ c.if-sequence-gt-LONGEST.false
-
-pub returns-then-sequence-i-ge-STEPS : goal.returns-then-sequence-i-ge-STEPS
-returns-then-sequence-i-ge-STEPS c = sym (unknown_here _ _ c.loop-i-test.true c.loop-i.invariant c.if-sequence-i-ge-STEPS.true)
-
-pub loop-i-smaller : goal.loop-i-smaller
-loop-i-smaller c = omega (arith, c.loop-i-test.true)
-
-pub loop-i-preserved : goal.loop-i-preserved
-loop-i-preserved c = known_on _ _ c.loop-i-test.true c.loop-i.invariant c.if-sequence-i-ge-STEPS.false
-
-pub returns : goal.returns
-returns c = sym (known_end _ _ c.loop-i-test.false c.loop-i.invariant)
+pub returns-else-sequence-le-LONGEST : goal.returns-else-sequence-le-LONGEST
+returns-else-sequence-le-LONGEST c = let h = c.if-sequence-le-LONGEST.false in lt-leb _ 6 h ∙ sym (too_long _ h)

@@ -2,26 +2,20 @@ use Rattle.short_histories.proofs.Prelude.{◌+◌, sym, ◌∙◌, arith, posit
 use Rattle.short_histories.proofs.LoopSteps.{position_on, position_end, prefix_below}
 use Rattle.short_histories.proofs.known_position.Goals as goal
 
-pub loop-i-init : goal.loop-i-init
-loop-i-init c = (omega arith, sym position_nothing)
+pub loop-step-init : goal.loop-step-init
+loop-step-init c = sym position_nothing
 
 pub overflow_mul-position : goal.overflow_mul-position
-overflow_mul-position c = omega (arith, c.loop-i.invariant.1, prefix_below _ c.requires c.loop-i.i)
-
-pub bounds-sequence-i : goal.bounds-sequence-i
-bounds-sequence-i c = c.loop-i-test.true
+overflow_mul-position c = omega (arith, c.loop-step.invariant, prefix_below _ c.requires c.loop-step.step-index)
 
 pub overflow_add-position : goal.overflow_add-position
-overflow_add-position c = omega (arith, c.loop-i.invariant.1, position_on _ c.requires _ c.loop-i-test.true, prefix_below _ c.requires (c.loop-i.i + 1))
+overflow_add-position c = omega (arith, c.loop-step.invariant, position_on _ c.requires _ c.loop-step-test.true, prefix_below _ c.requires (c.loop-step.step-index + 1))
 
-pub overflow_add-position-in-loop-i : goal.overflow_add-position-in-loop-i
-overflow_add-position-in-loop-i c = omega (arith, c.loop-i.invariant.1, position_on _ c.requires _ c.loop-i-test.true, prefix_below _ c.requires (c.loop-i.i + 1))
+pub overflow_add-position-in-loop-step : goal.overflow_add-position-in-loop-step
+overflow_add-position-in-loop-step c = omega (arith, c.loop-step.invariant, position_on _ c.requires _ c.loop-step-test.true, prefix_below _ c.requires (c.loop-step.step-index + 1))
 
-pub loop-i-smaller : goal.loop-i-smaller
-loop-i-smaller c = omega (arith, c.loop-i-test.true)
-
-pub loop-i-preserved : goal.loop-i-preserved
-loop-i-preserved c = (omega (arith, c.loop-i-test.true), omega (arith, c.loop-i.invariant.1, position_on _ c.requires _ c.loop-i-test.true))
+pub loop-step-preserved : goal.loop-step-preserved
+loop-step-preserved c = omega (arith, c.loop-step.invariant, position_on _ c.requires _ c.loop-step-test.true)
 
 pub returns : goal.returns
-returns c = let e = c.loop-i.invariant.1 ∙ position_end _ c.requires _ c.loop-i.invariant.0 c.loop-i-test.false in (e, omega (arith, e, position_below _ c.requires))
+returns c = let e = c.loop-step.invariant ∙ position_end _ c.requires _ c.loop-step.auto.step-index-end c.loop-step-test.false in (e, omega (arith, e, position_below _ c.requires))

@@ -1,2 +1,0 @@
--- Contracts of functions that no user calls.
-pub mod Lengths
