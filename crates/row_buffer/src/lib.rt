@@ -40,37 +40,12 @@ pub fn set_stale(rows: &mut [u32], at: usize) -> bool
     was
 }
 
-// Copies a row to the start of a borrowed part of a store.
-fn copy_row(part: &mut [u32], row: &[u32])
-    requires { length row.now ≤ length part.old }
-    ensures { part.new ≡ row.now ++ drop (length row.now) part.old }
-{
-    let mut i = 0;
-    while i < row.len() {
-        part[i] = row[i];
-        i += 1;
-    }
-}
-
 // Writes a row into the store.
 pub fn write_row(rows: &mut [u32], at: usize, row: &[u32])
     requires { at + length row.now ≤ length rows.old }
     ensures { rows.new ≡ splice rows.old at row.now }
 {
-    copy_row(&mut rows[at..], row);
-}
-
-// Moves a row inside the borrowed part, from `gap` cells after its start to its start. Copies upwards, so each cell is read before
-// it is overwritten.
-fn move_row(part: &mut [u32], gap: usize, width: usize)
-    requires { gap + width ≤ length part.old }
-    ensures { part.new ≡ take width (drop gap part.old) ++ drop width part.old }
-{
-    let mut i = 0;
-    while i < width {
-        part[i] = part[gap + i];
-        i += 1;
-    }
+    rows[at..at + row.len()].copy_from_slice(row);
 }
 
 // Moves a row down to a position at or below its own. Does nothing if the two are equal.
@@ -81,25 +56,14 @@ pub fn move_down(rows: &mut [u32], to: usize, from: usize, width: usize)
     if to == from {
         return;
     }
-    let gap = from - to;
-    move_row(&mut rows[to..], gap, width);
+    rows.copy_within(from..from + width, to);
 }
 
 // The same cells in the same order.
 pub fn same_cells(a: &[u32], b: &[u32]) -> bool
     ensures { result ≡ same a.now b.now }
 {
-    if a.len() != b.len() {
-        return false;
-    }
-    let mut i = 0;
-    while i < a.len() {
-        if a[i] != b[i] {
-            return false;
-        }
-        i += 1;
-    }
-    true
+    a == b
 }
 
 // Whether the row at `at` begins with this key.

@@ -1,21 +1,7 @@
-use Rattle.row_buffer.proofs.Prelude.{refl, sym, ap, ◌∙◌, rules, arith, length, same_ne}
-use Rattle.row_buffer.proofs.Laws.{differ, agree, ended}
+-- `row_buffer::same_cells` meets its contract. Assumes nothing.
+use Rattle.row_buffer.proofs.Prelude.{◌∙◌}
+use Rattle.row_buffer.proofs.Laws.{pointwise_same}
 use Rattle.row_buffer.proofs.same_cells.Goals as goal
 
-pub returns-then-a-b : goal.returns-then-a-b
-returns-then-a-b c = sym (same_ne _ _ (λ e. c.if-a-b.true (ap length e)))
-
-pub loop-i-init : goal.loop-i-init
-loop-i-init c = (search rules, refl)
-
-pub returns-then-a-i : goal.returns-then-a-i
-returns-then-a-i c =
-    sym (c.loop-i.invariant.1 ∙ differ c.args.a.now c.args.b.now c.loop-i.i (omega arith) (omega arith) c.if-a-i.true)
-
-pub loop-i-preserved : goal.loop-i-preserved
-loop-i-preserved c =
-    (search rules, c.loop-i.invariant.1 ∙ agree c.args.a.now c.args.b.now c.loop-i.i (omega arith) (omega arith) c.if-a-i.false)
-
 pub returns : goal.returns
-returns c =
-    sym (c.loop-i.invariant.1 ∙ ended c.args.a.now c.args.b.now c.loop-i.i (omega arith) (omega arith))
+returns c = c.eq.ensures ∙ pointwise_same c.args.a.now c.args.b.now
