@@ -1,6 +1,6 @@
 -- The answers of `find` and `look_up`, one law for each return path: at a free slot, after a full round, and at a slot that leads
 -- to the row; and how `look_up` reaches a slot. Assumes nothing.
-use Rattle.key_index.proofs.Prelude.{ℕ, ◌+◌, ◌/◌, ◌%◌, ◌^◌, ◌≤◌, ◌<◌, ◌≡◌, sym, ap, ◌∙◌, List, add-zero, arith, get_or, dec_lt, ℕ_discrete, IndexShape, None, At, LiveAt, key_at, slots, word, home, slot_from, ReachableAt, KeysSound, spread, home_spread, word_tagged, word_some, word_same, tagged_row, Leads, FoundAt, FoundIs, Ahead}
+use Rattle.key_index.proofs.Prelude.{ℕ, ◌+◌, ◌/◌, ◌%◌, ◌^◌, ◌≤◌, ◌<◌, ◌≡◌, sym, ap, ◌∙◌, List, add-zero, arith, get_or, dec_lt, ℕ_discrete, IndexShape, None, Some, Hit, LiveAt, key_at, slots, word, home, slot_from, ReachableAt, KeysSound, spread, home_spread, word_tagged, word_some, word_same, tagged_row, Leads, FoundAt, FoundIs, Ahead}
 use Rattle.cells.specs.Cells.{compact_hash, key_hash}
 use Rattle.key_index.proofs.ScanSteps.{ScannedSlots, begin_past}
 use Rattle.key_index.proofs.WordSteps.{leads_bits}
@@ -17,8 +17,8 @@ past_bits t rows key hash w few other = record { other = λ i l. other (leads_bi
 pub leads_some : (t : IndexShape) (rows key : List ℕ) (hash w row : ℕ) → t.rows ≤ 65536 → Leads t rows key hash w row → 0 < w % 2 ^ 17
 leads_some t rows key hash w row few l = omega (arith, ap (λ (x : ℕ). x % 2 ^ 17) l.tag, tagged_row hash row (omega (arith, l.below)))
 
-none_at : (row slot : ℕ) → None ≡ At row slot → ⊥
-none_at row slot e = let z : ◌≡◌ {A = ℕ} 0 1 = cc in omega arith
+none_some : (hit : Hit) → None ≡ Some hit → ⊥
+none_some hit e = cc
 
 module _ (t : IndexShape) (rows store key : List ℕ) (hash : ℕ) (few : t.rows ≤ 65536) where
   abbrev Passed : ℕ → ℕ → Type 0
@@ -43,11 +43,11 @@ module _ (t : IndexShape) (rows store key : List ℕ) (hash : ℕ) (few : t.rows
     found_none : (hash ≡ compact_hash (key_hash key) → (i d : ℕ) → passed ≤ d → ReachableAt (slots t) store key i d → ⊥) → FoundIs t rows store key hash None
     found_none f =
         record {
-          row_in = λ row slot e. absurd (none_at row slot e);
-          slot_in = λ row slot e. absurd (none_at row slot e);
-          first = λ row slot e. absurd (none_at row slot e);
+          row_in = λ hit e. absurd (none_some hit e);
+          slot_in = λ hit e. absurd (none_some hit e);
+          first = λ hit e. absurd (none_some hit e);
           none = λ e sound _ i live k. let s = stands sound i live k in f e i s.0 (not_passed at passed w e i s.0 live k s.1) s.1;
-          at = λ _ _ row slot e. absurd (none_at row slot e);
+          at = λ _ _ hit e. absurd (none_some hit e);
         }
 
     -- the scan reached a free slot
@@ -80,16 +80,19 @@ module _ (t : IndexShape) (rows store key : List ℕ) (hash : ℕ) (few : t.rows
           }
 
   -- a slot leads to the row, and none passed does
-  pub found_row : (at passed row : ℕ) → Passed at passed → Leads t rows key hash (get_or store at 0) row → 0 < get_or store at 0 → FoundIs t rows store key hash (At row at)
+  pub found_row : (at passed row : ℕ) → Passed at passed → Leads t rows key hash (get_or store at 0) row → 0 < get_or store at 0 → FoundIs t rows store key hash (Some (record { row = row; slot = at }))
   found_row at passed row walked l some =
       record {
-        row_in = λ r s e. let q : row ≡ r = cc in omega (arith, l.below);
-        slot_in = λ r s e. let q : at ≡ s = cc in omega (arith, walked.inside);
-        first = λ r s e. let q : row ≡ r = cc in rw (← q) (passed, record { leads = rw (← walked.here) l; way = λ e h. (walked.each e h).other });
-        none = λ _ _ e. absurd (none_at row at (sym e));
-        at = λ e sound r s f. let q : row ≡ r = cc in let p : at ≡ s = cc in rw (← q, ← p) (the_one e sound);
+        row_in = λ hit e. rw (← (the_hit hit e)) l.below;
+        slot_in = λ hit e. rw (← (the_hit hit e)) walked.inside;
+        first = λ hit e. rw (← (the_hit hit e)) (passed, record { leads = rw (← walked.here) l; way = λ e h. (walked.each e h).other });
+        none = λ _ _ e. absurd (none_some _ (sym e));
+        at = λ e sound hit f. rw (← (the_hit hit f)) (the_one e sound);
       }
     where
+      the_hit : (hit : Hit) → Some (record { row = row; slot = at }) ≡ Some hit → record { row = row; slot = at } ≡ hit
+      the_hit hit e = cc
+
       the_one : hash ≡ compact_hash (key_hash key) → KeysSound t rows store → FoundAt t rows store key row at
       the_one e sound =
           let o = sound.only_live at walked.inside some in

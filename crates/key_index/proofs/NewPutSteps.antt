@@ -36,7 +36,7 @@ module _ (t : IndexShape) (rows store key : List ℕ) (hash : ℕ) (few : t.rows
         put = λ f. absurd (false≢true f);
         new = λ f. absurd (false≢true f);
         known = λ _ hash-is sound.
-            let f = (found_row t rows store key hash few at passed other (past_all at passed w) l (omega arith)).at hash-is sound other at refl in
+            let f = (found_row t rows store key hash few at passed other (past_all at passed w) l (omega arith)).at hash-is sound _ refl in
             (other, f.live, f.key_is);
       }
 

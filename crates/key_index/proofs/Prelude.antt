@@ -12,7 +12,8 @@ pub use Rattle.key_index.specs.Laws.BackwardShift.{backward_shift_length, backwa
 pub use Rattle.key_index.specs.inner.BackwardShift.{RowRemoved, Shifted, backward_shift}
 pub use Rattle.key_index.specs.inner.Window.{Ahead, has_bits, is_free, FreeSoon, TakenRun, OtherRun}
 unfoldable pub use Rattle.key_index.specs.inner.Window.{some_of}
-pub use Rattle.key_index.specs.declared.Found.TheVariants.{At, None}
+pub use Rattle.std.specs.Prelude.{None, Option, Some}
+pub use Rattle.key_index.specs.declared.Hit.{Hit}
 pub use Rattle.key_index.specs.inner.Index.{EmptyIs, FoundAt, FoundIs, HitIs, Leads, NewPutIs, PutIs, RowsFit, RowsIn, zeros}
 pub use Rattle.key_index.specs.declared.IndexShape.{IndexShape}
 pub use Rattle.key_index.specs.Laws.Places.{Inside, key_part, row_inside}

@@ -23,11 +23,11 @@ pub struct IndexShape {
     pub rows: u32,
 }
 
-// The result of a lookup: no row, or a row and its slot.
+// A row that a lookup finds, and its slot.
 #[derive(Clone, Copy)]
-pub enum Found {
-    None,
-    At(u32, u32),
+pub struct Hit {
+    pub row: u32,
+    pub slot: u32,
 }
 
 // A slot's word: the row's number plus 1 in the low 17 bits, 15 bits of the hash above.
@@ -146,7 +146,7 @@ pub fn is_hit(t: IndexShape, rows: &[u32], key: &[u32], hash: u32, word: u32) ->
 }
 
 // The live row that has a key, and its slot.
-pub fn find(t: IndexShape, rows: &[u32], store: &[u32], key: &[u32], hash: u32) -> Found
+pub fn find(t: IndexShape, rows: &[u32], store: &[u32], key: &[u32], hash: u32) -> Option<Hit>
     requires { (Fits t rows.now store.now) × (length key.now ≡ t.keys) }
     ensures { FoundIs t rows.now store.now key.now hash result }
 {
@@ -156,16 +156,16 @@ pub fn find(t: IndexShape, rows: &[u32], store: &[u32], key: &[u32], hash: u32) 
     while passed < slots {
         let word = store[at as usize];
         if word == 0 {
-            return Found::None;
+            return None;
         }
         if is_hit(t, rows, key, hash, word) {
             let row = word % ROW_RANGE - 1;
-            return Found::At(row, at);
+            return Some(Hit { row, slot: at });
         }
         at = next_slot(slots, at);
         passed += 1;
     }
-    Found::None
+    None
 }
 
 // The number of consecutive slots that are tested together. All of them are read, without an early return, so that the test compiles
@@ -226,7 +226,7 @@ fn skip_other_keys(slots: u32, store: &[u32], from: u32, bits: u32) -> u32
 
 // Same contract as `find`, but faster if it passes many slots: it then skips whole windows. Called by `look_up` alone: a longer `find`
 // would no longer be inlined beside it.
-fn find_far(t: IndexShape, rows: &[u32], store: &[u32], key: &[u32], hash: u32) -> Found
+fn find_far(t: IndexShape, rows: &[u32], store: &[u32], key: &[u32], hash: u32) -> Option<Hit>
     requires { (Fits t rows.now store.now) × (length key.now ≡ t.keys) }
     ensures { FoundIs t rows.now store.now key.now hash result }
 {
@@ -236,11 +236,11 @@ fn find_far(t: IndexShape, rows: &[u32], store: &[u32], key: &[u32], hash: u32) 
     while passed < slots {
         let word = store[at as usize];
         if word == 0 {
-            return Found::None;
+            return None;
         }
         if is_hit(t, rows, key, hash, word) {
             let row = word % ROW_RANGE - 1;
-            return Found::At(row, at);
+            return Some(Hit { row, slot: at });
         }
         at = next_slot(slots, at);
         passed += 1;
@@ -250,7 +250,7 @@ fn find_far(t: IndexShape, rows: &[u32], store: &[u32], key: &[u32], hash: u32) 
             passed += run;
         }
     }
-    Found::None
+    None
 }
 
 // Whether a probe that fails at the home slot reaches a free slot before any other slot with the hash's bits. Decided from the home
@@ -286,14 +286,20 @@ fn is_absent(slots: u32, store: &[u32], home: u32, hash: u32) -> bool
 
 // Same contract as `find`, but faster for a key that has no row: a window detects most of them. Removals use it, where a row found
 // costs more than its lookup. It is short enough to be inlined beside the one call of `look_up`.
-pub fn find_windowed(t: IndexShape, rows: &[u32], store: &[u32], key: &[u32], hash: u32) -> Found
+pub fn find_windowed(
+    t: IndexShape,
+    rows: &[u32],
+    store: &[u32],
+    key: &[u32],
+    hash: u32,
+) -> Option<Hit>
     requires { (Fits t rows.now store.now) × (length key.now ≡ t.keys) }
     ensures { FoundIs t rows.now store.now key.now hash result }
 {
     let slots = 2 * t.room;
     let home = home_slot(slots, hash);
     if is_absent(slots, store, home, hash) {
-        return Found::None;
+        return None;
     }
     find(t, rows, store, key, hash)
 }
@@ -326,7 +332,7 @@ fn bits_ahead(slots: u32, store: &[u32], home: u32, hash: u32) -> u32
 // Same contract as `find`, but faster. Most rows are in their key's home slot. A window detects most keys that have no row. Most
 // other rows are in the next slot with their hash's bits. Otherwise falls back to `find_far`. Call it once in a library object: it is
 // long, and the compiler inlines it only where it is called once.
-pub fn look_up(t: IndexShape, rows: &[u32], store: &[u32], key: &[u32], hash: u32) -> Found
+pub fn look_up(t: IndexShape, rows: &[u32], store: &[u32], key: &[u32], hash: u32) -> Option<Hit>
     requires { (Fits t rows.now store.now) × (length key.now ≡ t.keys) }
     ensures { FoundIs t rows.now store.now key.now hash result }
 {
@@ -335,16 +341,16 @@ pub fn look_up(t: IndexShape, rows: &[u32], store: &[u32], key: &[u32], hash: u3
     let word = store[home as usize];
     if is_hit(t, rows, key, hash, word) {
         let row = word % ROW_RANGE - 1;
-        return Found::At(row, home);
+        return Some(Hit { row, slot: home });
     }
     if is_missing(slots, store, home, hash) {
-        return Found::None;
+        return None;
     }
     let slot = home + bits_ahead(slots, store, home, hash);
     let next = store[slot as usize];
     if is_hit(t, rows, key, hash, next) {
         let row = next % ROW_RANGE - 1;
-        return Found::At(row, slot);
+        return Some(Hit { row, slot });
     }
     find_far(t, rows, store, key, hash)
 }

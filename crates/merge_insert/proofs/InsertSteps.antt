@@ -1,6 +1,6 @@
 -- Steps of an insert in the code's form: the row that the rule makes, and the answers of the parts put together. Assumes
 -- nothing.
-use Rattle.merge_insert.proofs.Prelude.{ℕ, ◌+◌, ◌-◌, ◌*◌, ◌≤◌, ◌<◌, ◌≡◌, refl, sym, ap, ap₂, ◌∙◌, Bool, true, false, not, false≢true, List, add-zero, arith, length, take, drop, get_or, length-take, length-drop, take-take, take_all, get_or-take, get_or-drop, le-leb, lt-leb, not-true, not-false, part_width, part_splice, changes_from, made_from, survivor, survivor_length, survivor_old, IndexShape, Found, None, At, slots, Fits, FoundIs, Header, Insertion, Unchanged, Appended, Stopped, index_shape_of, full_shape_fits, Ready, Inserting, placed, Growable, NewIs, ReplaceIs, length_made, skip_inserts, new_inserts, known_inserts}
+use Rattle.merge_insert.proofs.Prelude.{ℕ, ◌+◌, ◌-◌, ◌*◌, ◌≤◌, ◌<◌, ◌≡◌, refl, sym, ap, ap₂, ◌∙◌, Bool, true, false, not, false≢true, List, add-zero, arith, length, take, drop, get_or, length-take, length-drop, take-take, take_all, get_or-take, get_or-drop, le-leb, lt-leb, not-true, not-false, part_width, part_splice, changes_from, made_from, survivor, survivor_length, survivor_old, IndexShape, Option, None, Some, Hit, slots, Fits, FoundIs, Header, Insertion, Unchanged, Appended, Stopped, index_shape_of, full_shape_fits, Ready, Inserting, placed, Growable, NewIs, ReplaceIs, length_made, skip_inserts, new_inserts, known_inserts}
 use Rattle.lists.specs.Lists.{splice, row_at, same}
 use Rattle.cells.specs.Cells.{is_dead}
 use Rattle.merge_insert.specs.inner.Ruling.{Changes, row_made, Makeable, MadeIs, UnchangedOld, KnownIs}
@@ -150,18 +150,18 @@ module _ (h : Header) (rows keys sorts pending : List ℕ) (from hash : ℕ) (re
         width = ap length (part_width pending from h.columns) ∙ wide;
       }
 
-  module _ (t : IndexShape) (keyed-is : t ≡ index_shape_of h) (f : Found) (found : FoundIs t rows keys (take (from + h.keys - from) (drop from pending)) hash f) where
+  module _ (t : IndexShape) (keyed-is : t ≡ index_shape_of h) (f : Option Hit) (found : FoundIs t rows keys (take (from + h.keys - from) (drop from pending)) hash f) where
     looked_up_rows : FoundIs (index_shape_of h) rows keys (take h.keys (take h.columns (drop from pending))) hash f
     looked_up_rows =
         let k = part_width pending from h.keys ∙ sym (take-take h.keys h.columns (drop from pending) ready.fits.most_keys) in
         rw (keyed-is, k) at found
 
     -- the row and the slot that are found exist
-    pub found_row : (old slot : ℕ) → f ≡ At old slot → old < h.rows
-    found_row old slot e = looked_up_rows.row_in old slot e
+    pub found_row : (hit : Hit) → f ≡ Some hit → hit.row < h.rows
+    found_row hit e = looked_up_rows.row_in hit e
 
-    pub found_slot : (old slot : ℕ) → f ≡ At old slot → slot < slots (index_shape_of h)
-    found_slot old slot e = looked_up_rows.slot_in old slot e
+    pub found_slot : (hit : Hit) → f ≡ Some hit → hit.slot < slots (index_shape_of h)
+    found_slot hit e = looked_up_rows.slot_in hit e
 
     module _ (b : Bool) (e : b ≡ is_dead (get_or pending from 0)) (q : b ≡ false) (rows' keys' sorts' : List ℕ) where
       live : is_dead (get_or (take h.columns (drop from pending)) 0 0) ≡ false
@@ -180,8 +180,8 @@ module _ (h : Header) (rows keys sorts pending : List ℕ) (from hash : ℕ) (re
           rewidth (Stopped n) k = rw (part_width pending from h.columns) at k
 
       -- a known one
-      pub inserts_known : (old slot : ℕ) → f ≡ At old slot → (r : Insertion)
-          → KnownIs h rows keys sorts (take h.columns (drop from pending)) hash old slot rows' keys' sorts' r
+      pub inserts_known : (hit : Hit) → f ≡ Some hit → (r : Insertion)
+          → KnownIs h rows keys sorts (take h.columns (drop from pending)) hash hit.row hit.slot rows' keys' sorts' r
           → Inserting h rows keys sorts (take h.columns (drop from pending)) hash r rows' keys' sorts'
-      inserts_known old slot m r g =
-          known_inserts h rows keys sorts (take h.columns (drop from pending)) hash ready.fits ready.entries_fit wide live f looked_up_rows old slot m r rows' keys' sorts' g
+      inserts_known hit m r g =
+          known_inserts h rows keys sorts (take h.columns (drop from pending)) hash ready.fits ready.entries_fit wide live f looked_up_rows hit m r rows' keys' sorts' g

@@ -14,8 +14,8 @@ pub use Rattle.key_index.specs.Laws.Index.{replace_tail}
 pub use Rattle.key_index.specs.Laws.Places.{fits_stores}
 pub use Rattle.key_index.specs.Laws.SizeClasses.{fits_fewer, past_size_class}
 pub use Rattle.key_index.specs.Slots.{slots}
-pub use Rattle.key_index.specs.declared.Found.TheVariants.{At, None}
-pub use Rattle.key_index.specs.declared.Found.{Found}
+pub use Rattle.std.specs.Prelude.{None, Option, Some}
+pub use Rattle.key_index.specs.declared.Hit.{Hit}
 pub use Rattle.key_index.specs.declared.IndexShape.{IndexShape}
 pub use Rattle.key_index.specs.inner.Index.{Fits, FoundIs, PutIs}
 pub use Rattle.key_index.specs.inner.Ring.{tagged}

@@ -8,7 +8,6 @@ ghost use Rattle.merge_insert.specs.inner.Inserting.{Inserting};
 ghost use Rattle.merge_insert.specs.inner.Ruling.{MadeIs, Makeable, KnownIs};
 
 use super::append::{Insertion, insert_new, replace_row};
-use key_index::Found;
 use merge_rules::TAKE_NEW;
 use row_buffer::row_start;
 use table::{Header, index_shape};
@@ -92,10 +91,10 @@ pub fn insert_row(
     }
     let key = &pending[at..at + h.keys as usize];
     match key_index::look_up(index_shape(h), rows, keys, key, hash) {
-        Found::None => {
+        None => {
             let end = at + h.columns as usize;
             insert_new(h, rows, keys, sorts, &pending[at..end], hash)
         }
-        Found::At(old, slot) => insert_known(h, rows, keys, sorts, pending, from, hash, old, slot),
+        Some(hit) => { insert_known(h, rows, keys, sorts, pending, from, hash, hit.row, hit.slot) }
     }
 }

@@ -16,8 +16,8 @@ pub use Rattle.key_index.specs.Laws.Index.{rows_in_lem}
 pub use Rattle.key_index.specs.Laws.Places.{row_inside}
 pub use Rattle.key_index.specs.Laws.SizeClasses.{past_size_class}
 pub use Rattle.key_index.specs.Slots.{KeysSound, LiveAt, key_at, slots}
-pub use Rattle.key_index.specs.declared.Found.{Found}
-pub use Rattle.key_index.specs.declared.Found.TheVariants.{At, None}
+pub use Rattle.key_index.specs.declared.Hit.{Hit}
+pub use Rattle.std.specs.Prelude.{None, Option, Some}
 pub use Rattle.key_index.specs.declared.IndexShape.{IndexShape}
 pub use Rattle.key_index.specs.inner.Index.{Fits, FoundAt, FoundIs}
 pub use Rattle.key_index.specs.inner.BackwardShift.{RowRemoved}

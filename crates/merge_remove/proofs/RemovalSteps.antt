@@ -1,6 +1,6 @@
 -- The result of a removal, from the contracts of its calls: a row that is marked dead, a key that no live row has, and the live row
 -- of a key. Assumes nothing.
-use Rattle.merge_remove.proofs.Prelude.{ℕ, ◌+◌, ◌*◌, ◌≤◌, ◌<◌, ◌≡◌, refl, sym, ap, ◌∙◌, Bool, true, false, not, false≢true, inl, inr, List, add-zero, arith, eqb, length, eqb-true, eqb-false, eq-eqb, ne_eqb, not-true, not-false, split, live_first, Staled, IndexShape, Found, None, At, LiveAt, key_at, slots, KeysSound, Fits, FoundAt, FoundIs, rows_in_lem, row_inside, past_size_class, RowRemoved, remove_key, remove_row, Plain, Header, index_shape_of, full_index_shape_of, stores, Represents, SamePast, full_shape_fits, in_live, steps_refl, dying, dying_steps, without_key_none, without_key_one, without_row_none, without_row_one, without_row_other}
+use Rattle.merge_remove.proofs.Prelude.{ℕ, ◌+◌, ◌*◌, ◌≤◌, ◌<◌, ◌≡◌, refl, sym, ap, ◌∙◌, Bool, true, false, not, false≢true, inl, inr, List, add-zero, arith, eqb, length, eqb-true, eqb-false, eq-eqb, ne_eqb, not-true, not-false, split, live_first, Staled, IndexShape, Option, None, Some, Hit, LiveAt, key_at, slots, KeysSound, Fits, FoundAt, FoundIs, rows_in_lem, row_inside, past_size_class, RowRemoved, remove_key, remove_row, Plain, Header, index_shape_of, full_index_shape_of, stores, Represents, SamePast, full_shape_fits, in_live, steps_refl, dying, dying_steps, without_key_none, without_key_one, without_row_none, without_row_one, without_row_other}
 use Rattle.cells.specs.Cells.{compact_hash, key_hash}
 use Rattle.merge_pending.specs.inner.Becoming.{Becomes, with_dead, hash_of}
 use Rattle.merge_remove.specs.inner.Removals.{Kills, removal_of, spared, Removal, died, removed}
@@ -36,9 +36,9 @@ spared_row kind row found e = rw (ne_eqb kind 1 e)
 pub find_fits : {t : IndexShape} (h : Header) {rows keys : List ℕ} {n : ℕ} → t ≡ index_shape_of h → (Fits (full_index_shape_of h) rows keys) × (n ≡ h.keys) → (Fits t rows keys) × (n ≡ t.keys)
 find_fits h {rows = rows} {keys = keys} e f = rw e (full_shape_fits h rows keys f.0, f.1)
 
-pub kill_fits : {t : IndexShape} (h : Header) {rows keys key : List ℕ} {hash : ℕ} {found : Found} (row slot : ℕ) → t ≡ index_shape_of h → Fits (full_index_shape_of h) rows keys
-    → FoundIs t rows keys key hash found → found ≡ At row slot → (Fits t rows keys) × (row < t.rows) × (slot < slots t)
-kill_fits h {rows = rows} {keys = keys} row slot e f finds q = (rw e (full_shape_fits h rows keys f), finds.row_in row slot q, finds.slot_in row slot q)
+pub kill_fits : {t : IndexShape} (h : Header) {rows keys key : List ℕ} {hash : ℕ} {found : Option Hit} (hit : Hit) → t ≡ index_shape_of h → Fits (full_index_shape_of h) rows keys
+    → FoundIs t rows keys key hash found → found ≡ Some hit → (Fits t rows keys) × (hit.row < t.rows) × (hit.slot < slots t)
+kill_fits h {rows = rows} {keys = keys} hit e f finds q = (rw e (full_shape_fits h rows keys f), finds.row_in hit q, finds.slot_in hit q)
 
 -- nothing changes
 unchanged : {p p' : Plain} (h : Header) {rows keys sorts pending : List ℕ} (dead : ℕ) → p' ≡ p → Represents p (stores (with_dead h dead) rows keys sorts pending)
@@ -46,7 +46,7 @@ unchanged : {p p' : Plain} (h : Header) {rows keys sorts pending : List ℕ} (de
 unfolding died
 unchanged h dead e r = rw (e, add-zero dead) (steps_refl r)
 
-module _ (h : Header) (rows keys key : List ℕ) (hash : ℕ) (t : IndexShape) (numbers : t ≡ index_shape_of h) (found : Found) (finds : FoundIs t rows keys key hash found) where
+module _ (h : Header) (rows keys key : List ℕ) (hash : ℕ) (t : IndexShape) (numbers : t ≡ index_shape_of h) (found : Option Hit) (finds : FoundIs t rows keys key hash found) where
   -- the key has no live row
   nowhere : found ≡ None → hash ≡ compact_hash (key_hash key) → KeysSound (index_shape_of h) rows keys → (i : ℕ) → LiveAt (index_shape_of h) rows i → key_at (index_shape_of h) rows i ≡ key → ⊥
   nowhere q e sound = (rw numbers at finds).none e sound q
@@ -72,40 +72,40 @@ module _ (h : Header) (rows keys key : List ℕ) (hash : ℕ) (t : IndexShape) (
   unfolding removal_of
   absent kind row q = elim (split (eqb kind 1)) [ inl e ↦ rw e (key_absent q) | inr e ↦ rw e (row_absent row q) ]
 
-  module _ (at slot : ℕ) (is : found ≡ At at slot) where
-    somewhere : hash ≡ compact_hash (key_hash key) → KeysSound (index_shape_of h) rows keys → FoundAt (index_shape_of h) rows keys key at slot
-    somewhere e sound = (rw numbers at finds).at e sound at slot is
+  module _ (hit : Hit) (is : found ≡ Some hit) where
+    somewhere : hash ≡ compact_hash (key_hash key) → KeysSound (index_shape_of h) rows keys → FoundAt (index_shape_of h) rows keys key hit.row hit.slot
+    somewhere e sound = (rw numbers at finds).at e sound hit is
 
     -- it is another row
-    row_other : (row : ℕ) → (at ≡ row → ⊥) → Removal h rows keys (remove_row row key) hash false rows keys
+    row_other : (row : ℕ) → (hit.row ≡ row → ⊥) → Removal h rows keys (remove_row row key) hash false rows keys
     unfolding removed hash_of
     row_other row ne =
         record {
           past = refl;
           table = λ e dead sorts pending p r.
               let f = somewhere e r.keys_sound in
-              unchanged h dead (without_row_other r key at row f.live f.key_is ne) r;
+              unchanged h dead (without_row_other r key hit.row row f.live f.key_is ne) r;
         }
 
-    pub left_alone : (kind row : ℕ) → spared kind row at ≡ true → Removal h rows keys (removal_of kind row key) hash false rows keys
+    pub left_alone : (kind row : ℕ) → spared kind row hit.row ≡ true → Removal h rows keys (removal_of kind row key) hash false rows keys
     unfolding removal_of spared
     left_alone kind row s =
         elim (split (eqb kind 1)) [
           | inl e ↦ absurd (false≢true (rw e at s))
-          | inr e ↦ rw e (row_other row (eqb-false at row (not-true _ (rw e at s))))
+          | inr e ↦ rw e (row_other row (eqb-false hit.row row (not-true _ (rw e at s))))
         ]
 
-    module _ (r : Bool) (rows' keys' : List ℕ) (long : 2 * h.capacity ≤ length keys') (kills : Kills t rows keys at slot r rows' keys') where
+    module _ (r : Bool) (rows' keys' : List ℕ) (long : 2 * h.capacity ≤ length keys') (kills : Kills t rows keys hit.row hit.slot r rows' keys') where
       -- the live row of the key dies
       dead_now : {p : Plain} (dead : ℕ) (sorts pending : List ℕ) → hash ≡ compact_hash (key_hash key) → Represents p (stores (with_dead h dead) rows keys sorts pending)
-          → Becomes p (dying p at) (stores (with_dead h dead) rows keys sorts pending) (stores (with_dead h (dead + died r)) rows' keys' sorts pending)
+          → Becomes p (dying p hit.row) (stores (with_dead h dead) rows keys sorts pending) (stores (with_dead h (dead + died r)) rows' keys' sorts pending)
       unfolding died
       dead_now dead sorts pending e s =
-          let k : Kills (index_shape_of h) rows keys at slot r rows' keys' = rw numbers at kills in
+          let k : Kills (index_shape_of h) rows keys hit.row hit.slot r rows' keys' = rw numbers at kills in
           let f = somewhere e s.keys_sound in
           let lives : r ≡ true = k.was_live ∙ f.live.1 in
           let sound : KeysSound (index_shape_of h) rows' keys' = k.keys_sound s.keys_sound f.live (rw f.key_is f.word_is) in
-          rw (lives, k.marks) (dying_steps s at (in_live s at f.live) keys' long (rw k.marks at sound))
+          rw (lives, k.marks) (dying_steps s hit.row (in_live s hit.row f.live) keys' long (rw k.marks at sound))
 
       past_all : SamePast (2 * h.capacity) keys keys'
       past_all = past_size_class h.capacity h.rows keys keys' (rw numbers at kills.past)
@@ -117,23 +117,23 @@ module _ (h : Header) (rows keys key : List ℕ) (hash : ℕ) (t : IndexShape) (
             past = past_all;
             table = λ e dead sorts pending p s.
                 let f = somewhere e s.keys_sound in
-                rw (without_key_one s key at f.live f.key_is) (dead_now dead sorts pending e s);
+                rw (without_key_one s key hit.row f.live f.key_is) (dead_now dead sorts pending e s);
           }
 
-      row_dead : Removal h rows keys (remove_row at key) hash r rows' keys'
+      row_dead : Removal h rows keys (remove_row hit.row key) hash r rows' keys'
       unfolding removed hash_of
       row_dead =
           record {
             past = past_all;
             table = λ e dead sorts pending p s.
                 let f = somewhere e s.keys_sound in
-                rw (without_row_one s key at f.live f.key_is) (dead_now dead sorts pending e s);
+                rw (without_row_one s key hit.row f.live f.key_is) (dead_now dead sorts pending e s);
           }
 
-      pub dead_one : (kind row : ℕ) → spared kind row at ≡ false → Removal h rows keys (removal_of kind row key) hash r rows' keys'
+      pub dead_one : (kind row : ℕ) → spared kind row hit.row ≡ false → Removal h rows keys (removal_of kind row key) hash r rows' keys'
       unfolding removal_of spared
       dead_one kind row s =
           elim (split (eqb kind 1)) [
             | inl e ↦ rw e key_dead
-            | inr e ↦ rw (e, ← (eqb-true at row (not-false _ (rw e at s)))) row_dead
+            | inr e ↦ rw (e, ← (eqb-true hit.row row (not-false _ (rw e at s)))) row_dead
           ]

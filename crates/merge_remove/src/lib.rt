@@ -8,7 +8,7 @@ ghost use Rattle.key_index.specs.Slots.{slots};
 ghost use Rattle.table.specs.inner.FullIndexShape.{full_index_shape_of};
 ghost use Rattle.merge_remove.specs.inner.Removals.{Kills, removal_of, spared, Removal, RemovalAt, Removed, Removable, Removals, RemovalNext, RemovedNext};
 
-use key_index::{Found, IndexShape};
+use key_index::IndexShape;
 use merge_pending::{next_record, record_length};
 use row_buffer::row_start;
 use table::{HASH_AT, Header, REMOVE_KEY, ROW_AT, index_shape};
@@ -49,12 +49,12 @@ fn remove_one(
     let t = index_shape(h);
     let found = key_index::find_windowed(t, rows, keys, key, hash);
     match found {
-        Found::None => false,
-        Found::At(at, slot) => {
-            if is_spared(kind, row, at) {
+        None => false,
+        Some(hit) => {
+            if is_spared(kind, row, hit.row) {
                 return false;
             }
-            kill(t, rows, keys, at, slot)
+            kill(t, rows, keys, hit.row, hit.slot)
         }
     }
 }

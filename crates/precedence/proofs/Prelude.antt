@@ -5,11 +5,11 @@ pub use native.Mathlib.Omega.{arith}
 pub use lib.ListN.{length, take, drop, get_or, set, length-set, drop_of_length-le}
 pub use borrow.Author.Tests.{leb-false, ltb-false, le-leb, lt-leb, lt-ltb, le-ltb, eq-eqb, ne_eqb, not-true, not-false}
 pub use borrow.Author.Rules.{rules}
-pub use Rattle.key_index.specs.declared.Found.TheVariants.{At, None}
+pub use Rattle.std.specs.Prelude.{None, Option as RustOption, Some}
 pub use mathlib.Core.Bool.{Bool, ◌&&◌, ◌||◌, false, not, true}
 pub use Rattle.precedence.specs.declared.PrecedenceAnswer.TheVariants.{Fails, Met, Refused}
 pub use Rattle.key_index.specs.inner.Index.{Fits, FoundIs}
-pub use Rattle.key_index.specs.declared.Found.{Found}
+pub use Rattle.key_index.specs.declared.Hit.{Hit}
 pub use Rattle.table.specs.declared.Header.{Header}
 pub use Rattle.key_index.specs.declared.IndexShape.{IndexShape}
 pub use Rattle.table.specs.Sound.{KeysDiffer, index_shape_of}

@@ -1,5 +1,5 @@
 -- The steps of the check: what each function answers, against the scans. Assumes nothing.
-use Rattle.precedence.proofs.Prelude.{ℕ, suc, ◌+◌, ◌-◌, ◌*◌, ◌/◌, ◌≤◌, ◌<◌, ◌≡◌, refl, sym, ap, ap₂, ◌∙◌, arith, length, take, drop, get_or, set, length-set, drop_of_length-le, eq-eqb, ne_eqb, inl, inr, Bool, true, false, not, ◌&&◌, List, ◌∷◌, Option, none, some, suc-mul, add-zero, mul-le-mul, add-one, leb, length-take-le, drop-cons, take-set-lt, splice, row_at, split, length_splice, same_refl, same_eq, row_in, length_row_at, get_d_row_at, take_put, key_row, IndexShape, Found, None, At, LiveAt, key_at, Fits, FoundIs, no_row, live_below_lem, Header, opening_of, rows_in, index_shape_of, KeysDiffer, of_rows, row_of_cells, length_rows_in, get_d_rows_in, any_live, any_live_lem, none_live, any_same, key_replaced, length_pairs_of, get_d_pairs_of, fails_here, fails_later, failing_pair, failure_here, failure_later, failure_dead}
+use Rattle.precedence.proofs.Prelude.{ℕ, suc, ◌+◌, ◌-◌, ◌*◌, ◌/◌, ◌≤◌, ◌<◌, ◌≡◌, refl, sym, ap, ap₂, ◌∙◌, arith, length, take, drop, get_or, set, length-set, drop_of_length-le, eq-eqb, ne_eqb, inl, inr, Bool, true, false, not, ◌&&◌, List, ◌∷◌, Option, none, some, suc-mul, add-zero, mul-le-mul, add-one, leb, length-take-le, drop-cons, take-set-lt, splice, row_at, split, length_splice, same_refl, same_eq, row_in, length_row_at, get_d_row_at, take_put, key_row, IndexShape, RustOption, None, Some, Hit, LiveAt, key_at, Fits, FoundIs, no_row, live_below_lem, Header, opening_of, rows_in, index_shape_of, KeysDiffer, of_rows, row_of_cells, length_rows_in, get_d_rows_in, any_live, any_live_lem, none_live, any_same, key_replaced, length_pairs_of, get_d_pairs_of, fails_here, fails_later, failing_pair, failure_here, failure_later, failure_dead}
 use Rattle.cells.specs.Cells.{is_dead, compact_hash, key_hash}
 use Rattle.constraints.specs.Constraints.{is_live}
 use Rattle.plain_table.specs.Staged.{has_key}
@@ -81,22 +81,22 @@ module _ (h : Header) (rows key : List ℕ) (latest : ℕ) where
             ])))
       ]
 
-module _ (h : Header) (rows keys key : List ℕ) (t : IndexShape) (hash : ℕ) (found : Found) (e : t ≡ index_shape_of h) (f : FoundIs t rows keys key hash found) where
+module _ (h : Header) (rows keys key : List ℕ) (t : IndexShape) (hash : ℕ) (found : RustOption Hit) (e : t ≡ index_shape_of h) (f : FoundIs t rows keys key hash found) where
   found_is : FoundIs (index_shape_of h) rows keys key hash found
   found_is = rw e at f
 
-  pub found_in_store : Tested h rows keys → (row slot : ℕ) → found ≡ At row slot → RowInStore h rows row
-  found_in_store tested row slot q = row_in_store h rows keys tested row (found_is.row_in row slot q)
+  pub found_in_store : Tested h rows keys → (hit : Hit) → found ≡ Some hit → RowInStore h rows hit.row
+  found_in_store tested hit q = row_in_store h rows keys tested hit.row (found_is.row_in hit q)
 
   module _ (hashed : hash ≡ compact_hash (key_hash key)) (latest : ℕ) where
     pub found_none : found ≡ None → OnTable h rows keys (false ≡ filed_by h rows key latest)
     found_none q sound differ = not_filed h rows key latest (found_is.none hashed sound q)
 
-    pub found_at : Tested h rows keys → (row slot : ℕ) → found ≡ At row slot
-        → OnTable h rows keys (leb (get_or rows (row * h.columns + h.sort) 0) latest ≡ filed_by h rows key latest)
-    found_at tested row slot q sound differ =
-        let a = found_is.at hashed sound row slot q in
-        rw (← get_d_row_at h.columns row rows h.sort 0 tested.sort_there) (filed_at h rows key latest differ row a.live a.key_is)
+    pub found_at : Tested h rows keys → (hit : Hit) → found ≡ Some hit
+        → OnTable h rows keys (leb (get_or rows (hit.row * h.columns + h.sort) 0) latest ≡ filed_by h rows key latest)
+    found_at tested hit q sound differ =
+        let a = found_is.at hashed sound hit q in
+        rw (← get_d_row_at h.columns hit.row rows h.sort 0 tested.sort_there) (filed_at h rows key latest differ hit.row a.live a.key_is)
 
 pub lookup_pre : (h : Header) (rows keys key : List ℕ) (t : IndexShape) → t ≡ index_shape_of h → Tested h rows keys → length key ≡ h.keys → Fits t rows keys × (length key ≡ t.keys)
 lookup_pre h rows keys key t e tested width = rw e (tested.fits, width)

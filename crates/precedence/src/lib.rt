@@ -6,7 +6,6 @@ ghost use Rattle.std.specs.Prelude.{◌≡◌, ◌/◌, ◌<◌, length};
 ghost use Rattle.precedence.specs.Precedence.{precedence_refusal, PrecedenceChecked};
 ghost use Rattle.precedence.specs.inner.Checking.{Tested, OnTable, filed_by, row_filed, row_meets, row_failing, PlaceIs};
 
-use key_index::Found;
 use refusals::{ACCEPTED, NO_SUCH_COLUMN, PAIR_COUNT};
 use row_buffer::row_start;
 use table::refusing::lookup_refusal;
@@ -53,9 +52,9 @@ fn is_filed_by(h: Header, rows: &[u32], keys: &[u32], key: &[u32], latest: u32) 
 {
     let found = key_index::look_up(index_shape(h), rows, keys, key, cells::compact_hash(key));
     match found {
-        Found::None => false,
-        Found::At(row, slot) => {
-            let at = row_start(row, h.columns) + h.sort as usize;
+        None => false,
+        Some(hit) => {
+            let at = row_start(hit.row, h.columns) + h.sort as usize;
             rows[at] <= latest
         }
     }

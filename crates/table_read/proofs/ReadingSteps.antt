@@ -2,6 +2,7 @@
 use Prim.Native.Nat.{ℕ, ◌+◌, ◌*◌, ◌≤◌, ◌<◌}
 use mathlib.Core.Path.{◌≡◌, refl, sym, ◌∙◌}
 use mathlib.Core.Option.{none, some as one}
+use Rattle.std.specs.Prelude.{Option, Some, None}
 use mathlib.Core.List.{List}
 use native.Mathlib.Nat.{mul-le-mul}
 use native.Mathlib.Omega.{arith}
@@ -16,8 +17,7 @@ use Rattle.sort_entries.specs.declared.Range.{Range as Rows}
 use Rattle.sort_entries.specs.inner.Search.{EntriesFit, Ranged}
 use Rattle.lists.specs.Lists.{row_at}
 use Rattle.key_index.specs.declared.IndexShape.{IndexShape}
-use Rattle.key_index.specs.declared.Found.{Found}
-use Rattle.key_index.specs.declared.Found.TheVariants.{None, At}
+use Rattle.key_index.specs.declared.Hit.{Hit}
 use Rattle.key_index.specs.Slots.{KeysSound}
 use Rattle.key_index.specs.inner.Index.{Fits, FoundIs}
 use Rattle.plain_table.specs.Plain.{lookup}
@@ -62,7 +62,7 @@ module _ (h : Header) (rows keys key : List ℕ) where
   cell_refused n column number some =
       record { refusal = outcome_refused _ _ n refl number some; table = λ accepts. absurd (some (number ∙ accepts)) }
 
-  module _ (t : IndexShape) (hash : ℕ) (found : Found) (e : t ≡ index_shape_of h) (hashed : hash ≡ compact_hash (key_hash key)) (f : FoundIs t rows keys key hash found) where
+  module _ (t : IndexShape) (hash : ℕ) (found : Option Hit) (e : t ≡ index_shape_of h) (hashed : hash ≡ compact_hash (key_hash key)) (f : FoundIs t rows keys key hash found) where
     found_is : FoundIs (index_shape_of h) rows keys key hash found
     found_is = rw e at f
 
@@ -70,10 +70,10 @@ module _ (h : Header) (rows keys key : List ℕ) where
       none_found : found ≡ None → lookup (of_rows h rows) key ≡ none
       none_found q = none_read h rows key (found_is.none hashed sound q)
 
-      row_found : (row slot : ℕ) → found ≡ At row slot → lookup (of_rows h rows) key ≡ one (record { number = row; cells = row_at h.columns row rows })
-      row_found row slot q =
-          let a = found_is.at hashed sound row slot q in
-          row_read h rows key differ row a.live a.key_is
+      row_found : (hit : Hit) → found ≡ Some hit → lookup (of_rows h rows) key ≡ one (record { number = hit.row; cells = row_at h.columns hit.row rows })
+      row_found hit q =
+          let a = found_is.at hashed sound hit q in
+          row_read h rows key differ hit.row a.live a.key_is
 
     pub row_none : (n : ℕ) → n ≡ lookup_refusal h (length rows) (length keys) (length key) → n ≡ 0 → found ≡ None → LookedUp h rows keys key NoRow
     unfolding row_view
@@ -83,12 +83,12 @@ module _ (h : Header) (rows keys key : List ℕ) where
           table = λ accepts sound differ. rw (none_found sound differ q);
         }
 
-    pub row_some : (n row slot : ℕ) → n ≡ lookup_refusal h (length rows) (length keys) (length key) → n ≡ 0 → found ≡ At row slot → LookedUp h rows keys key (Row row)
+    pub row_some : (n : ℕ) (hit : Hit) → n ≡ lookup_refusal h (length rows) (length keys) (length key) → n ≡ 0 → found ≡ Some hit → LookedUp h rows keys key (Row hit.row)
     unfolding row_view
-    row_some n row slot number zero_is q =
+    row_some n hit number zero_is q =
         record {
-          refusal = outcome_accepted _ _ (one row) refl (sym number ∙ zero_is);
-          table = λ accepts sound differ. rw (row_found sound differ row slot q);
+          refusal = outcome_accepted _ _ (one hit.row) refl (sym number ∙ zero_is);
+          table = λ accepts sound differ. rw (row_found sound differ hit q);
         }
 
     module _ (n column : ℕ) (number : n ≡ cell_refusal h (length rows) (length keys) (length key) column) (zero_is : n ≡ 0) where
@@ -103,12 +103,12 @@ module _ (h : Header) (rows keys key : List ℕ) where
             table = λ accepts sound differ. rw (none_found sound differ q);
           }
 
-      pub cell_in : (row slot : ℕ) → found ≡ At row slot → CellIn h rows row column
-      cell_in row slot q =
+      pub cell_in : (hit : Hit) → found ≡ Some hit → CellIn h rows hit.row column
+      cell_in hit q =
           let a = readable in
           let i = a.lookable.inside in
-          let k : row < h.capacity = omega (arith, found_is.row_in row slot q, i.rows_fit) in
-          let whole = row_in row h.capacity h.columns k in
+          let k : hit.row < h.capacity = omega (arith, found_is.row_in hit q, i.rows_fit) in
+          let whole = row_in hit.row h.capacity h.columns k in
           let most = mul-le-mul i.bounds.capacity_few i.bounds.columns_few in
           record {
             row_few = omega arith;
@@ -116,12 +116,12 @@ module _ (h : Header) (rows keys key : List ℕ) where
             inside = omega (arith, a.column_there, a.lookable.rows_long);
           }
 
-      pub cell_found : (row slot : ℕ) → found ≡ At row slot → CellRead h rows keys key column (Cell (get_or rows (row * h.columns + column) 0))
+      pub cell_found : (hit : Hit) → found ≡ Some hit → CellRead h rows keys key column (Cell (get_or rows (hit.row * h.columns + column) 0))
       unfolding cell_view
-      cell_found row slot q =
+      cell_found hit q =
           record {
             refusal = outcome_accepted _ _ (one _) refl (sym number ∙ zero_is);
-            table = λ accepts sound differ. rw (row_found sound differ row slot q, get_d_row_at h.columns row rows column 0 readable.column_there);
+            table = λ accepts sound differ. rw (row_found sound differ hit q, get_d_row_at h.columns hit.row rows column 0 readable.column_there);
           }
 
 -- ---- *Fast range*

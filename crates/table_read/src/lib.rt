@@ -5,7 +5,6 @@
 ghost use Rattle.table.specs.Outcomes.{LookedUp, CellRead, RangeRead, VersionRead, RowsSince, RowsSinceVersion};
 
 use constraints::{Constraint, EQUAL_COLUMNS};
-use key_index::Found;
 use refusals::ACCEPTED;
 use row_buffer::row_start;
 use table::refusing::{
@@ -23,8 +22,8 @@ pub fn get_row(h: Header, rows: &[u32], keys: &[u32], key: &[u32]) -> RowAnswer
     }
     let found = key_index::look_up(index_shape(h), rows, keys, key, cells::compact_hash(key));
     match found {
-        Found::None => RowAnswer::None,
-        Found::At(row, slot) => RowAnswer::Row(row),
+        None => RowAnswer::None,
+        Some(hit) => RowAnswer::Row(hit.row),
     }
 }
 
@@ -38,9 +37,9 @@ pub fn get_row_column(h: Header, rows: &[u32], keys: &[u32], key: &[u32], column
     }
     let found = key_index::look_up(index_shape(h), rows, keys, key, cells::compact_hash(key));
     match found {
-        Found::None => CellAnswer::None,
-        Found::At(row, slot) => {
-            let at = row_start(row, h.columns) + column as usize;
+        None => CellAnswer::None,
+        Some(hit) => {
+            let at = row_start(hit.row, h.columns) + column as usize;
             CellAnswer::Cell(rows[at])
         }
     }

@@ -11,7 +11,7 @@ ghost use Rattle.merge_rules.specs.Rules.{changes_from, survivor};
 ghost use Rattle.test_probes.specs.inner.Parts.{MadeInto, Survives, Sized};
 
 use constraints::Constraint;
-use key_index::{Found, IndexShape, MOST_ROWS};
+use key_index::{IndexShape, MOST_ROWS};
 use row_buffer::{BITMAP_WORD_BITS, LAST_BIT};
 
 #[unsafe(no_mangle)]
@@ -247,8 +247,8 @@ pub extern "C" fn mouldgrey_find(
     }
     let hash = cells::compact_hash(key);
     match key_index::look_up(t, rows, store, key, hash) {
-        Found::None => NONE,
-        Found::At(row, slot) => slot as u64 * 0x1_0000_0000 + row as u64,
+        None => NONE,
+        Some(hit) => hit.slot as u64 * 0x1_0000_0000 + hit.row as u64,
     }
 }
 

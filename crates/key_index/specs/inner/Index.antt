@@ -1,10 +1,9 @@
 -- Contracts of the key index: lookup, insertion of a row, clearing all slots (document 01, "Key index"). Assumes nothing.
-use Rattle.std.specs.Prelude.{ℕ, ◌*◌, ◌≤◌, ◌<◌, ◌≡◌, Bool, true, false, List, length, get_or, set, drop, replicate}
+use Rattle.std.specs.Prelude.{ℕ, ◌*◌, ◌≤◌, ◌<◌, ◌≡◌, Bool, true, false, Option, Some, None, List, length, get_or, set, drop, replicate}
 use Rattle.lists.specs.Lists.{splice}
 use Rattle.cells.specs.Cells.{compact_hash, key_hash}
 use Rattle.key_index.specs.declared.IndexShape.{IndexShape}
-use Rattle.key_index.specs.declared.Found.{Found}
-use Rattle.key_index.specs.declared.Found.TheVariants.{None, At}
+use Rattle.key_index.specs.declared.Hit.{Hit}
 use Rattle.key_index.specs.Slots.{LiveAt, key_at, slots, word, home, slot_from, KeysSound}
 use Rattle.key_index.specs.inner.Ring.{spread, tagged, row_named}
 
@@ -72,12 +71,12 @@ pub record FirstHit (t : IndexShape) (rows store key : List ℕ) (hash row d : �
 
 -- The result of a lookup. On any store the row and the slot exist, and the row is determined. The rest holds for a sound store and
 -- the key's own hash.
-pub record FoundIs (t : IndexShape) (rows store key : List ℕ) (hash : ℕ) (r : Found) : Type 0 where
-  pub row_in : (row slot : ℕ) → r ≡ At row slot → row < t.rows
-  pub slot_in : (row slot : ℕ) → r ≡ At row slot → slot < slots t
-  pub first : (row slot : ℕ) → r ≡ At row slot → (d : ℕ) × FirstHit t rows store key hash row d
+pub record FoundIs (t : IndexShape) (rows store key : List ℕ) (hash : ℕ) (r : Option Hit) : Type 0 where
+  pub row_in : (hit : Hit) → r ≡ Some hit → hit.row < t.rows
+  pub slot_in : (hit : Hit) → r ≡ Some hit → hit.slot < slots t
+  pub first : (hit : Hit) → r ≡ Some hit → (d : ℕ) × FirstHit t rows store key hash hit.row d
   pub none : hash ≡ compact_hash (key_hash key) → KeysSound t rows store → r ≡ None → (i : ℕ) → LiveAt t rows i → key_at t rows i ≡ key → ⊥
-  pub at : hash ≡ compact_hash (key_hash key) → KeysSound t rows store → (row slot : ℕ) → r ≡ At row slot → FoundAt t rows store key row slot
+  pub at : hash ≡ compact_hash (key_hash key) → KeysSound t rows store → (hit : Hit) → r ≡ Some hit → FoundAt t rows store key hit.row hit.slot
 
 -- ---- insertion of a row, and clearing all slots
 

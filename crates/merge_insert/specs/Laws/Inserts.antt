@@ -1,7 +1,7 @@
 -- One insert of a merge: the effect of its parts on the stores is that of the plain table's insertion. First come the cases of an
 -- insertion, then the row made and the key store afterwards, then the contract of the insert for each case. Assumes nothing.
 use Prim.Native.Nat.{ℕ, zero, suc, ◌+◌, ◌*◌, ◌≤◌, ◌<◌}
-use Rattle.std.specs.Prelude.{◌≡◌, Bool, true, false, leb, length, drop, get_or, set}
+use Rattle.std.specs.Prelude.{◌≡◌, Bool, true, false, Option as RustOption, Some, None, leb, length, drop, get_or, set}
 use Rattle.std.proofs.Math.Path.{refl, ap, ap₂}
 use Rattle.std.proofs.Common.{sym, ◌∙◌, inl, inr, add-zero, suc-mul, add-one, arith, length-set, leb-true, eqb-true}
 use Rattle.std.proofs.Math.Option.{Option, none, some}
@@ -17,8 +17,7 @@ use Rattle.constraints.specs.Constraints.{is_live}
 use Rattle.refusals.specs.Refusals.{refused, accepted, reply}
 use Rattle.merge_rules.specs.Rules.{changes_from, made_from, ruled, survivor}
 use Rattle.merge_rules.specs.Laws.Rules.{made_length, made_keys, made_first, kept_of, made_of, survives, survivor_length, ruled_made}
-use Rattle.key_index.specs.declared.Found.{Found}
-use Rattle.key_index.specs.declared.Found.TheVariants.{None, At}
+use Rattle.key_index.specs.declared.Hit.{Hit}
 use Rattle.key_index.specs.Slots.{size_class_for, slots, KeysSound}
 use Rattle.key_index.specs.inner.Ring.{tagged}
 use Rattle.key_index.specs.inner.Index.{Fits, FoundAt, FoundIs, PutIs}
@@ -244,7 +243,7 @@ module _ (h : Header) (rows keys sorts cells : List ℕ) (hash : ℕ) where
       }
 
   module _ (fits : Fits (full_index_shape_of h) rows keys) (entries_fit : h.entries ≤ h.rows) (width : length cells ≡ h.columns) (live : is_dead (get_or cells 0 0) ≡ false)
-      (f : Found) (found : FoundIs (index_shape_of h) rows keys (take h.keys cells) hash f) where
+      (f : RustOption Hit) (found : FoundIs (index_shape_of h) rows keys (take h.keys cells) hash f) where
     module _ (hash-is : hash ≡ compact_hash (key_hash (take h.keys cells))) {p : Plain} {pending : List ℕ} (r : Represents p (stores h rows keys sorts pending)) where
       key_same : take p.opening.keys cells ≡ take h.keys cells
       key_same = ap (λ (k : ℕ). take k cells) (sym (keys_same r))
@@ -261,21 +260,21 @@ module _ (h : Header) (rows keys sorts cells : List ℕ) (hash : ℕ) where
       new_way e = insertion_new cells p live (rw key_same (none_found r (take h.keys cells) (found.none hash-is r.keys_sound e)))
 
       -- a known key
-      module _ (old slot : ℕ) (e : f ≡ At old slot) where
-        there : FoundAt (index_shape_of h) rows keys (take h.keys cells) old slot
-        there = found.at hash-is r.keys_sound old slot e
+      module _ (hit : Hit) (e : f ≡ Some hit) where
+        there : FoundAt (index_shape_of h) rows keys (take h.keys cells) hit.row hit.slot
+        there = found.at hash-is r.keys_sound hit e
 
-        old_live : (row_of p old).live ≡ true
-        old_live = in_live r old there.live
+        old_live : (row_of p hit.row).live ≡ true
+        old_live = in_live r hit.row there.live
 
-        old_wide : length (row_at h.columns old rows) ≡ length cells
+        old_wide : length (row_at h.columns hit.row rows) ≡ length cells
         old_wide =
-            length_row_at h.columns old rows
-            (rw (add-one old, suc-mul) (omega (arith, row_in old h.capacity h.columns (omega (arith, there.live.0, fits.count)), fits.cells)))
+            length_row_at h.columns hit.row rows
+            (rw (add-one hit.row, suc-mul) (omega (arith, row_in hit.row h.capacity h.columns (omega (arith, there.live.0, fits.count)), fits.cells)))
             ∙ sym width
 
-        old_is : lookup p (take p.opening.keys cells) ≡ some (record { number = old; cells = row_at h.columns old rows })
-        old_is = rw key_same (row_lookup r (take h.keys cells) old there.live there.key_is)
+        old_is : lookup p (take p.opening.keys cells) ≡ some (record { number = hit.row; cells = row_at h.columns hit.row rows })
+        old_is = rw key_same (row_lookup r (take h.keys cells) hit.row there.live there.key_is)
 
         rule_same : h.rule ≡ p.opening.rule
         rule_same = ap (λ (h : Header). h.rule) r.shown.header
@@ -283,55 +282,55 @@ module _ (h : Header) (rows keys sorts cells : List ℕ) (hash : ℕ) where
         sort_same : h.sort ≡ p.opening.sort
         sort_same = ap (λ (h : Header). h.sort) r.shown.header
 
-        changes_same : changes_from p.opening.rule p.opening.keys p.opening.sort 0 (row_at h.columns old rows) cells ≡ Changes h (row_at h.columns old rows) cells
+        changes_same : changes_from p.opening.rule p.opening.keys p.opening.sort 0 (row_at h.columns hit.row rows) cells ≡ Changes h (row_at h.columns hit.row rows) cells
         changes_same = rw (← rule_same, ← keys_same r, ← sort_same)
 
         -- the old row is kept
-        keep_way : Changes h (row_at h.columns old rows) cells ≡ false → insertion cells p ≡ accepted p
+        keep_way : Changes h (row_at h.columns hit.row rows) cells ≡ false → insertion cells p ≡ accepted p
         unfolding skipped
-        keep_way c = insertion_keeps cells p live old (row_at h.columns old rows) old_is (changes_same ∙ c)
+        keep_way c = insertion_keeps cells p live hit.row (row_at h.columns hit.row rows) old_is (changes_same ∙ c)
 
-        kill_same : kill_if (live_with_key p.opening.keys (take p.opening.keys cells)) p.rows ≡ kill_at old p.rows
+        kill_same : kill_if (live_with_key p.opening.keys (take p.opening.keys cells)) p.rows ≡ kill_at hit.row p.rows
         kill_same =
-            kill_if_one p.opening.keys (take p.opening.keys cells) p.rows old (keys_distinct_of p.opening.keys p.rows r.proper.keys_differ)
-            (rw key_same (live_passes r (take h.keys cells) old there.live there.key_is))
+            kill_if_one p.opening.keys (take p.opening.keys cells) p.rows hit.row (keys_distinct_of p.opening.keys p.rows r.proper.keys_differ)
+            (rw key_same (live_passes r (take h.keys cells) hit.row there.live there.key_is))
 
-        module _ (c : Changes h (row_at h.columns old rows) cells ≡ true) where
-          row_is : row_made h (row_at h.columns old rows) cells ≡ made_from h.rule h.keys h.sort 0 (row_at h.columns old rows) cells
-          row_is = row_made_lem h (row_at h.columns old rows) cells old_wide there.key_is c
+        module _ (c : Changes h (row_at h.columns hit.row rows) cells ≡ true) where
+          row_is : row_made h (row_at h.columns hit.row rows) cells ≡ made_from h.rule h.keys h.sort 0 (row_at h.columns hit.row rows) cells
+          row_is = row_made_lem h (row_at h.columns hit.row rows) cells old_wide there.key_is c
 
           -- a row is made
-          make_way : insertion cells p ≡ append (row_made h (row_at h.columns old rows) cells) p (kill_at old p.rows)
+          make_way : insertion cells p ≡ append (row_made h (row_at h.columns hit.row rows) cells) p (kill_at hit.row p.rows)
           unfolding skipped
           make_way =
-              insertion_makes cells p live old (row_at h.columns old rows) old_is (changes_same ∙ c)
+              insertion_makes cells p live hit.row (row_at h.columns hit.row rows) old_is (changes_same ∙ c)
               ∙ ap₂ (λ (row : List ℕ) (kept : List Row). append row p kept) (rw (← rule_same, ← keys_same r, ← sort_same) (sym row_is)) kill_same
 
-          made_wide : length (row_made h (row_at h.columns old rows) cells) ≡ h.columns
-          made_wide = length_made h (row_at h.columns old rows) cells old_wide ∙ old_wide ∙ width
+          made_wide : length (row_made h (row_at h.columns hit.row rows) cells) ≡ h.columns
+          made_wide = length_made h (row_at h.columns hit.row rows) cells old_wide ∙ old_wide ∙ width
 
-          made_live : is_dead (get_or (row_made h (row_at h.columns old rows) cells) 0 0) ≡ false
-          made_live = rw row_is (ap is_dead (made_first h.rule h.keys h.sort (row_at h.columns old rows) cells fits.some_keys old_wide there.key_is) ∙ live)
+          made_live : is_dead (get_or (row_made h (row_at h.columns hit.row rows) cells) 0 0) ≡ false
+          made_live = rw row_is (ap is_dead (made_first h.rule h.keys h.sort (row_at h.columns hit.row rows) cells fits.some_keys old_wide there.key_is) ∙ live)
 
-          made_key : take h.keys (row_made h (row_at h.columns old rows) cells) ≡ take h.keys cells
-          made_key = rw row_is (made_keys h.rule h.keys h.sort (row_at h.columns old rows) cells old_wide there.key_is ∙ there.key_is)
+          made_key : take h.keys (row_made h (row_at h.columns hit.row rows) cells) ≡ take h.keys cells
+          made_key = rw row_is (made_keys h.rule h.keys h.sort (row_at h.columns hit.row rows) cells old_wide there.key_is ∙ there.key_is)
 
           -- the stores after the row made is appended and the old row is dead
-          replaced_steps : (h' : Header) (rows' keys' sorts' : List ℕ) → Replaced h rows keys sorts (row_made h (row_at h.columns old rows) cells) hash old slot h' rows' keys' sorts'
+          replaced_steps : (h' : Header) (rows' keys' sorts' : List ℕ) → Replaced h rows keys sorts (row_made h (row_at h.columns hit.row rows) cells) hash hit.row hit.slot h' rows' keys' sorts'
               → InsertAgrees p cells (stores h rows keys sorts pending) rows' keys' sorts' (Appended h')
           replaced_steps h' rows' keys' sorts' g =
-              let row : List ℕ = row_made h (row_at h.columns old rows) cells in
-              let goes : insertion cells p ≡ accepted (with_row p (kill_at old p.rows) row) =
-              make_way ∙ append_goes row p (kill_at old p.rows) (stop_same r row ∙ g.entered.free) in
-              let died : h.dead + 1 ≡ dead (with_rows p (kill_at old p.rows)) = ap (λ (n : ℕ). n + 1) dead_same ∙ sym (dead_kill_at p old old_live) in (
-                with_row p (kill_at old p.rows) row,
+              let row : List ℕ = row_made h (row_at h.columns hit.row rows) cells in
+              let goes : insertion cells p ≡ accepted (with_row p (kill_at hit.row p.rows) row) =
+              make_way ∙ append_goes row p (kill_at hit.row p.rows) (stop_same r row ∙ g.entered.free) in
+              let died : h.dead + 1 ≡ dead (with_rows p (kill_at hit.row p.rows)) = ap (λ (n : ℕ). n + 1) dead_same ∙ sym (dead_kill_at p hit.row old_live) in (
+                with_row p (kill_at hit.row p.rows) row,
                 goes,
                 rw g.header
-                    (grown_steps r (prepared_dead r old old_live) row made_wide g.entered.room h'.entries sorts' g.entered
+                    (grown_steps r (prepared_dead r hit.row old_live) row made_wide g.entered.room h'.entries sorts' g.entered
                     (insertion_proper cells p _ r.proper wide goes) (h.dead + 1) died rows' g.rows_after keys'
                     g.keys_after.same
                     (rw g.header at (led g.keys_after (λ o keys-is. rw (g.header, g.rows_after)
-                    (known_keys h rows keys row hash fits g.entered.room made_wide r.keys_sound made_live (h.dead + 1) h'.entries (get_or row h.sort 0) (take h.keys cells) hash-is o made_key old slot there keys' keys-is))))),
+                    (known_keys h rows keys row hash fits g.entered.room made_wide r.keys_sound made_live (h.dead + 1) h'.entries (get_or row h.sort 0) (take h.keys cells) hash-is o made_key hit.row hit.slot there keys' keys-is))))),
               )
 
       -- the stores after the row of a new key is appended
@@ -373,33 +372,33 @@ module _ (h : Header) (rows keys sorts cells : List ℕ) (hash : ℕ) where
         }
 
     -- "A known key goes through the rule; a row so made is appended and the old row dies"
-    pub known_inserts : (old slot : ℕ) → f ≡ At old slot → (r : Insertion) (rows' keys' sorts' : List ℕ) → KnownIs h rows keys sorts cells hash old slot rows' keys' sorts' r
+    pub known_inserts : (hit : Hit) → f ≡ Some hit → (r : Insertion) (rows' keys' sorts' : List ℕ) → KnownIs h rows keys sorts cells hash hit.row hit.slot rows' keys' sorts' r
         → Inserting h rows keys sorts cells hash r rows' keys' sorts'
     unfolding hash_of
-    known_inserts old slot e Unchanged rows' keys' sorts' g =
+    known_inserts hit e Unchanged rows' keys' sorts' g =
         record {
           past = ap (drop (2 * h.capacity)) g.same_keys;
           header = λ h'' q. absurd (kept_no h'' q);
           unchanged = λ no. (g.same_rows, g.same_keys, g.same_sorts);
-          table = λ hash-is pending p r. keep_way hash-is r old slot e g.unchanged;
+          table = λ hash-is pending p r. keep_way hash-is r hit e g.unchanged;
         }
-    known_inserts old slot e (Appended h') rows' keys' sorts' g =
+    known_inserts hit e (Appended h') rows' keys' sorts' g =
         record {
           past = g.1.keys_after.past;
           header = λ h'' q.
               rw (← same_header h' h'' q, g.1.header)
               (recounted h (h.dead + 1) h'.entries _ g.1.entered.room entries_fit g.1.entered.few (omega arith));
           unchanged = λ no. absurd (no h' refl);
-          table = λ hash-is pending p r. replaced_steps hash-is r old slot e g.0 h' rows' keys' sorts' g.1;
+          table = λ hash-is pending p r. replaced_steps hash-is r hit e g.0 h' rows' keys' sorts' g.1;
         }
-    known_inserts old slot e (Stopped n) rows' keys' sorts' g =
+    known_inserts hit e (Stopped n) rows' keys' sorts' g =
         record {
           past = ap (drop (2 * h.capacity)) g.1.same_keys;
           header = λ h'' q. absurd (stopped_no n h'' q);
           unchanged = λ no. (g.1.same_rows, g.1.same_keys, g.1.same_sorts);
           table = λ hash-is pending p r. (
-            make_way hash-is r old slot e g.0
-                ∙ append_stops _ p (kill_at old p.rows) n (stop_same r _ ∙ g.1.stops.number) g.1.stops.some,
+            make_way hash-is r hit e g.0
+                ∙ append_stops _ p (kill_at hit.row p.rows) n (stop_same r _ ∙ g.1.stops.number) g.1.stops.some,
             g.1.stops.some,
           );
         }

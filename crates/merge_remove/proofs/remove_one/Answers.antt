@@ -8,11 +8,11 @@ find_windowed-found-requires c = find_fits c.args.h c.index_shape-t.ensures c.re
 
 pub returns-then-is_spared : goal.returns-then-is_spared
 returns-then-is_spared c =
-    left_alone _ _ _ _ _ _ c.index_shape-t.ensures _ c.find_windowed-found.ensures _ _ c.in-At.is _ _ (sym c.is_spared.ensures ∙ c.if-is_spared.true)
+    left_alone _ _ _ _ _ _ c.index_shape-t.ensures _ c.find_windowed-found.ensures _ c.in-Some.is _ _ (sym c.is_spared.ensures ∙ c.if-is_spared.true)
 
 pub kill-requires : goal.kill-requires
 kill-requires c =
-    kill_fits c.args.h _ _ c.index_shape-t.ensures c.requires.0 c.find_windowed-found.ensures c.in-At.is
+    kill_fits c.args.h _ c.index_shape-t.ensures c.requires.0 c.find_windowed-found.ensures c.in-Some.is
 
 pub returns-in-None : goal.returns-in-None
 returns-in-None c =
@@ -20,6 +20,6 @@ returns-in-None c =
 
 pub returns-else-is_spared : goal.returns-else-is_spared
 returns-else-is_spared c =
-    dead_one _ _ _ _ _ _ c.index_shape-t.ensures _ c.find_windowed-found.ensures _ _ c.in-At.is _ _ _
+    dead_one _ _ _ _ _ _ c.index_shape-t.ensures _ c.find_windowed-found.ensures _ c.in-Some.is _ _ _
     (omega (arith, c.requires.0.long)) c.kill.ensures
     _ _ (sym c.is_spared.ensures ∙ c.if-is_spared.false)

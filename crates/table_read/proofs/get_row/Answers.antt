@@ -11,5 +11,5 @@ look_up-found-requires c = lookup_pre _ _ _ c.args.key.now _ _ c.index_shape.ens
 pub returns-in-None : goal.returns-in-None
 returns-in-None c = row_none _ _ _ _ _ _ _ c.index_shape.ensures c.compact_hash.ensures c.look_up-found.ensures _ c.lookup_refusal-refusal.ensures c.if-refusal-ne-ACCEPTED.false c.in-None.is
 
-pub returns-in-At : goal.returns-in-At
-returns-in-At c = row_some _ _ _ _ _ _ _ c.index_shape.ensures c.compact_hash.ensures c.look_up-found.ensures _ _ _ c.lookup_refusal-refusal.ensures c.if-refusal-ne-ACCEPTED.false c.in-At.is
+pub returns-in-Some : goal.returns-in-Some
+returns-in-Some c = row_some _ _ _ _ _ _ _ c.index_shape.ensures c.compact_hash.ensures c.look_up-found.ensures _ _ c.lookup_refusal-refusal.ensures c.if-refusal-ne-ACCEPTED.false c.in-Some.is

@@ -5,10 +5,10 @@ use Rattle.table_read.proofs.get_row_column.Goals.{After-row_start}
 use Rattle.table_read.proofs.get_row_column.Goals as goal
 
 -- the cell of the row that was found
-there : (c : After-row_start) → let a = c.args in CellIn a.h a.rows.now c.in-At.row a.column
+there : (c : After-row_start) → let a = c.args in CellIn a.h a.rows.now c.in-Some.hit.row a.column
 there c =
-    cell_in _ _ _ _ _ _ _ c.index_shape.ensures c.compact_hash.ensures c.look_up-found.ensures _ _ c.cell_refusal-refusal.ensures c.if-refusal-ne-ACCEPTED.false _ _
-    c.in-At.is
+    cell_in _ _ _ _ _ _ _ c.index_shape.ensures c.compact_hash.ensures c.look_up-found.ensures _ _ c.cell_refusal-refusal.ensures c.if-refusal-ne-ACCEPTED.false _
+    c.in-Some.is
 
 pub returns-then-refusal-ne-ACCEPTED : goal.returns-then-refusal-ne-ACCEPTED
 returns-then-refusal-ne-ACCEPTED c = cell_refused _ _ _ _ _ _ c.cell_refusal-refusal.ensures c.if-refusal-ne-ACCEPTED.true
@@ -28,6 +28,6 @@ bounds-rows-at c = omega (arith, there (goal.at.bounds-rows-at c).After-row_star
 pub returns-in-None : goal.returns-in-None
 returns-in-None c = cell_none _ _ _ _ _ _ _ c.index_shape.ensures c.compact_hash.ensures c.look_up-found.ensures _ _ c.cell_refusal-refusal.ensures c.if-refusal-ne-ACCEPTED.false c.in-None.is
 
-pub returns-in-At : goal.returns-in-At
-returns-in-At c =
-    rw c.row_start.ensures (cell_found _ _ _ _ _ _ _ c.index_shape.ensures c.compact_hash.ensures c.look_up-found.ensures _ _ c.cell_refusal-refusal.ensures c.if-refusal-ne-ACCEPTED.false _ _ c.in-At.is)
+pub returns-in-Some : goal.returns-in-Some
+returns-in-Some c =
+    rw c.row_start.ensures (cell_found _ _ _ _ _ _ _ c.index_shape.ensures c.compact_hash.ensures c.look_up-found.ensures _ _ c.cell_refusal-refusal.ensures c.if-refusal-ne-ACCEPTED.false _ c.in-Some.is)

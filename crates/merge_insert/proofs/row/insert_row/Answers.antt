@@ -22,7 +22,7 @@ insert_known-requires c =
     let p = c.requires in
     let k = c.index_shape.ensures in
     let f = c.look_up.ensures in
-    (p.0, p.1, found_row _ _ _ _ _ _ _ p.0 p.1 _ k _ f _ _ c.in-At.is, found_slot _ _ _ _ _ _ _ p.0 p.1 _ k _ f _ _ c.in-At.is)
+    (p.0, p.1, found_row _ _ _ _ _ _ _ p.0 p.1 _ k _ f _ c.in-Some.is, found_slot _ _ _ _ _ _ _ p.0 p.1 _ k _ f _ c.in-Some.is)
 
 pub returns-in-None : goal.returns-in-None
 returns-in-None c =
@@ -31,9 +31,9 @@ returns-in-None c =
     inserts_new _ _ _ _ _ _ _ p.0 p.1 _ c.index_shape.ensures _ c.look_up.ensures _ c.is_stale.ensures c.if-is_stale.false
     d.new.rows d.new.keys d.new.sorts c.in-None.is d.result d.ensures
 
-pub returns-in-At : goal.returns-in-At
-returns-in-At c =
+pub returns-in-Some : goal.returns-in-Some
+returns-in-Some c =
     let p = c.requires in
     let d = c.insert_known in
     inserts_known _ _ _ _ _ _ _ p.0 p.1 _ c.index_shape.ensures _ c.look_up.ensures _ c.is_stale.ensures c.if-is_stale.false
-    d.new.rows d.new.keys d.new.sorts _ _ c.in-At.is d.result d.ensures
+    d.new.rows d.new.keys d.new.sorts _ c.in-Some.is d.result d.ensures
