@@ -21,7 +21,7 @@ pub use Rattle.bitmap.specs.inner.Bitmaps.{Bitmap, Marked, Summarised, bit_of}
 pub use Rattle.constraints.specs.Constraints.{is_live}
 pub use Rattle.key_index.specs.Laws.Places.{Inside, inside}
 pub use Rattle.lists.specs.Laws.All.{all_more, all_snoc, and_both, or_no_left, or_no_right, or_right}
-pub use Rattle.lists.specs.Laws.Filter.{all_get_d, and_left, and_right, filter_append, split}
+pub use Rattle.lists.specs.Laws.Filter.{all_get_d, all_of, and_left, and_right, filter_append, split}
 pub use Rattle.lists.specs.Laws.Parts.{length_splice, part_width, splice_nil, splice_then}
 pub use Rattle.lists.specs.Laws.Rising.{iota_snoc}
 pub use Rattle.lists.specs.Laws.Rows.{flatten_append, length_row_at}

@@ -1,5 +1,7 @@
 -- The tests before 7: what each of their results implies for the check list, and what is known if all pass. Assumes nothing.
-use Rattle.refresh.proofs.Prelude.{ℕ, ◌+◌, ◌*◌, ◌≤◌, ◌<◌, ◌≡◌, refl, sym, ap, inl, inr, Bool, true, false, not, List, [], ◌∷◌, ◌++◌, mul-le-mul, add-one, arith, ltb, length, take, get_or, take_all, take-suc, ltb-true, ltb-false, lt-ltb, not-false, or_no_left, all_more, split, all_get_d, Staged, words_all, below, overfull, first_refusal_no, first_refusal_rest, Header, opening_of, largest_view, outside_inside, rows_long_of, Lendable}
+use Rattle.std.specs.Bool.{MatchBool}
+use Rattle.std.specs.List.{AllWithin, HoldsAt}
+use Rattle.refresh.proofs.Prelude.{ℕ, ◌*◌, ◌≤◌, ◌<◌, ◌≡◌, refl, sym, inl, inr, Bool, true, false, not, List, [], ◌∷◌, ◌++◌, mul-le-mul, arith, ltb, length, get_or, ltb-true, ltb-false, lt-ltb, not-false, or_no_left, split, all_get_d, all_of, Staged, words_all, below, overfull, first_refusal_no, first_refusal_rest, Header, opening_of, largest_view, outside_inside, rows_long_of, Lendable}
 use Rattle.lists.specs.Lists.{all}
 use Rattle.refusals.specs.Refusals.{Check, check, first_refusal}
 use Rattle.plain_table.specs.Refreshing.{Refresh, index_short, refresh_checks}
@@ -69,25 +71,11 @@ lendable h rows pending index r p =
 
 -- ---- the columns named
 
--- the first i of them are there
-unfoldable pub there : ℕ → List ℕ → ℕ → Bool
-there wide columns i = all (λ column. ltb column wide) (take i columns)
-
 module _ (wide : ℕ) (columns : List ℕ) where
-  pub there_begin : there wide columns 0 ≡ true
-  unfolding there all
-  there_begin = refl
-
-  pub there_more : (i : ℕ) → i < length columns → there wide columns i ≡ true → get_or columns i 0 < wide → there wide columns (i + 1) ≡ true
-  unfolding there
-  there_more i less e k = rw (add-one, take-suc columns i 0 less, all_more (λ (column : ℕ). ltb column wide) (take i columns) (get_or columns i 0), e, lt-ltb (get_or columns i 0) wide k)
-
-  pub there_end : (i : ℕ) → length columns ≤ i → there wide columns i ≡ all (λ column. ltb column wide) columns
-  unfolding there
-  there_end i past = ap (all (λ column. ltb column wide)) (take_all i columns past)
-
-  pub there_not : (i : ℕ) → i < length columns → wide ≤ get_or columns i 0 → false ≡ all (λ column. ltb column wide) columns
-  there_not i less past = elim (split (all (λ (column : ℕ). ltb column wide) columns)) [
-    | inl e ↦ absurd (omega (arith, ltb-true (get_or columns i 0) wide (all_get_d (λ (column : ℕ). ltb column wide) columns e i less 0)))
+  pub columns_decided : (there : Bool) → MatchBool there (AllWithin (λ column. column < wide) columns 0 (length columns)) ((k : ℕ) × (k < length columns) × HoldsAt (λ column. wide ≤ column) columns k)
+      → there ≡ all (λ column. ltb column wide) columns
+  columns_decided true h = sym (all_of _ 0 columns (λ i less. lt-ltb _ wide (h i 0 (omega arith) less)))
+  columns_decided false h = elim (split (all (λ (column : ℕ). ltb column wide) columns)) [
+    | inl e ↦ absurd (omega (arith, h.2 0, ltb-true (get_or columns h.0 0) wide (all_get_d (λ (column : ℕ). ltb column wide) columns e h.0 h.1 0)))
     | inr e ↦ sym e
   ]

@@ -44,14 +44,7 @@ const GROUPS: u32 = 16;
 fn are_columns_there(h: Header, columns: &[u32]) -> bool
     ensures { result ≡ all (λ column. ltb column h.columns) columns.now }
 {
-    let mut i = 0;
-    while i < columns.len() {
-        if h.columns <= columns[i] {
-            return false;
-        }
-        i += 1;
-    }
-    true
+    columns.iter().all(|&column| column < h.columns)
 }
 
 // Test 2 of the index store.
@@ -224,10 +217,8 @@ fn write_marked(
         return h.pending;
     }
     let mut used = h.pending;
-    let mut group: u32 = 0;
-    while group < GROUPS {
+    for group in 0..GROUPS {
         used = write_group(h, rows, pending, words, used, group, stamp);
-        group += 1;
     }
     used
 }

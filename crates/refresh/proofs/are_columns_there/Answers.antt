@@ -1,15 +1,12 @@
-use Rattle.refresh.proofs.Prelude.{sym, ◌∙◌, arith}
-use Rattle.refresh.proofs.TestSteps.{there_begin, there_not, there_more, there_end}
+-- `refresh::are_columns_there` meets its contract. Assumes nothing.
+use Rattle.std.proofs.lemmas.Iterator.{YieldsList-from_slice, cases_from_all}
+use borrow.Author.Tests.{tests}
+use Rattle.refresh.proofs.Prelude.{◌<◌, ◌≤◌, rules}
+use Rattle.refresh.proofs.TestSteps.{columns_decided}
 use Rattle.refresh.proofs.are_columns_there.Goals as goal
 
-pub loop-i-init : goal.loop-i-init
-loop-i-init c = (omega arith, there_begin _ _)
-
-pub returns-then-h-columns : goal.returns-then-h-columns
-returns-then-h-columns c = there_not _ _ _ (omega arith) c.if-h-columns.true
-
-pub loop-i-preserved : goal.loop-i-preserved
-loop-i-preserved c = (omega arith, there_more _ _ _ (omega arith) c.loop-i.invariant.1 c.if-h-columns.false)
-
 pub returns : goal.returns
-returns c = sym c.loop-i.invariant.1 ∙ there_end _ _ _ (omega arith)
+returns c =
+    let a = c.args in
+    columns_decided a.h.columns a.columns.now c.all.result
+    (cases_from_all _ _ _ (λ x. x < a.h.columns) (λ x. a.h.columns ≤ x) c.all.ensures.ran (YieldsList-from_slice a.columns.now c.iter.ensures.rest) (λ x q k. search (rules, tests)) (λ x q k. search (rules, tests)))

@@ -1,5 +1,4 @@
-use Rattle.refresh.proofs.Prelude.{arith}
-use Rattle.refresh.proofs.StageSteps.{written_none, iteration_begin, iteration_length, iteration_end, iteration_group, iteration_on}
+use Rattle.refresh.proofs.StageSteps.{written_none, iteration_begin, iteration_end, iteration_group, iteration_on}
 use Rattle.refresh.proofs.write_marked.Goals as goal
 
 pub returns-then-count-eq0 : goal.returns-then-count-eq0
@@ -11,17 +10,8 @@ loop-group-init c = λ s. iteration_begin _ s
 pub write_group-used-requires : goal.write_group-used-requires
 write_group-used-requires c = let s = c.requires in iteration_group _ s (c.loop-group.invariant s) c.loop-group-test.true
 
-pub overflow_add-group : goal.overflow_add-group
-overflow_add-group c = omega (arith, c.loop-group-test.true)
-
-pub loop-group-smaller : goal.loop-group-smaller
-loop-group-smaller c = omega (arith, c.loop-group-test.true)
-
 pub loop-group-preserved : goal.loop-group-preserved
 loop-group-preserved c = λ s. iteration_on _ s (c.loop-group.invariant s) c.loop-group-test.true c.write_group-used.ensures
-
-pub shape_of-pending : goal.shape_of-pending
-shape_of-pending c = let s = c.requires in iteration_length _ s (c.loop-group.invariant s)
 
 pub returns : goal.returns
 returns c = record { on = λ s. iteration_end _ s (c.loop-group.invariant s) c.loop-group-test.false }
