@@ -1,6 +1,5 @@
 -- Contracts of functions that no user calls, and what their proofs lean on.
 pub mod Encoded
 pub mod Querying
-pub mod Letters
 pub mod Reading
 pub mod Calling

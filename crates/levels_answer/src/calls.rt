@@ -1,6 +1,6 @@
 // The lines of `levels` that change a table. Each makes its call and returns the header after it and the response. The compaction
 // words are local arrays of the functions that lend them.
-ghost use Rattle.std.specs.Prelude.{◌≡◌, ◌⊎◌, ◌≤◌, length};
+ghost use Rattle.std.specs.Prelude.{◌≡◌, ◌≤◌, length};
 ghost use Rattle.refusals.specs.Refusals.{if_accepted};
 ghost use Rattle.table.specs.Numbers.{table_view, merge_view};
 ghost use Rattle.table.specs.Outcomes.{stores};
@@ -34,30 +34,29 @@ fn taken(h: Header, answer: TableAnswer) -> Served
     }
 }
 
+// I: the cells of a row.
+pub fn insert(h: Header, numbers: &[u32], pending: &mut [u32]) -> Served
+    ensures { OnPending 73 numbers.now h pending.old result pending.new }
+{
+    let answer = table_stage::stage_insert(h, pending, numbers);
+    taken(h, answer)
+}
+
+// R: the cells of a key.
+pub fn remove_key(h: Header, numbers: &[u32], pending: &mut [u32]) -> Served
+    ensures { OnPending 82 numbers.now h pending.old result pending.new }
+{
+    let answer = table_stage::stage_remove(h, pending, numbers);
+    taken(h, answer)
+}
+
 // K: a row number, then the cells of its key.
-fn stage_by_row(h: Header, numbers: &[u32], pending: &mut [u32]) -> Served
+pub fn remove_row(h: Header, numbers: &[u32], pending: &mut [u32]) -> Served
     requires { 1 ≤ length numbers.now }
     ensures { OnPending 75 numbers.now h pending.old result pending.new }
 {
     let answer = table_stage::stage_remove_row(h, pending, numbers[0], &numbers[1..]);
     taken(h, answer)
-}
-
-// Dispatches I, R and K.
-pub fn stage(h: Header, letter: u8, numbers: &[u32], pending: &mut [u32]) -> Served
-    requires fact { (letter ≡ 73) ⊎ ((letter ≡ 75) ⊎ (letter ≡ 82)) }
-    requires in_bounds { 1 ≤ length numbers.now }
-    ensures { OnPending letter numbers.now h pending.old result pending.new }
-{
-    if letter == b'I' {
-        let inserted = table_stage::stage_insert(h, pending, numbers);
-        return taken(h, inserted);
-    }
-    if letter == b'R' {
-        let removed = table_stage::stage_remove(h, pending, numbers);
-        return taken(h, removed);
-    }
-    stage_by_row(h, numbers, pending)
 }
 
 // O. If the opening is refused, the previous table remains, with its pending records.
@@ -121,13 +120,10 @@ fn respond_merge(h: Header, answer: MergeAnswer) -> Served
             header: h,
             response: Response::Refused(number),
         },
-        MergeAnswer::Merged(m) => {
-            let header = m.header;
-            Served {
-                header: header,
-                response: Response::Merged(m.status, encode_bool(m.added), m.place),
-            }
-        }
+        MergeAnswer::Merged(m) => Served {
+            header: m.header,
+            response: Response::Merged(m.status, encode_bool(m.added), m.place),
+        },
     }
 }
 

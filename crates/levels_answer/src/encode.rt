@@ -14,7 +14,7 @@ fn list_table(numbered: bool, h: Header, rows: &[u32], text: &mut [u8]) -> usize
     ensures { ListingEncoded numbered h rows.now text.new result }
 {
     match write_listing(h, rows, numbered, text) {
-        TextAnswer::Refused(number) => 0,
+        TextAnswer::Refused(_) => 0,
         TextAnswer::Written(bytes) => bytes,
     }
 }
@@ -27,19 +27,10 @@ pub fn encode_response(h: Header, response: Response, rows: &[u32], text: &mut [
     match response {
         Response::Nothing => 0,
         Response::Refused(number) => refuse(text, number),
-        Response::Merged(status, added, place) => {
-            let numbers = [status, added, place];
-            write_line(text, b'M', &numbers)
-        }
+        Response::Merged(status, added, place) => write_line(text, b'M', &[status, added, place]),
         Response::NoRange => put_bytes(text, 0, b"F,none\n"),
-        Response::Range(start, end) => {
-            let ends = [start, end];
-            write_line(text, b'F', &ends)
-        }
-        Response::Version(generation, count) => {
-            let numbers = [generation, count];
-            write_line(text, b'V', &numbers)
-        }
+        Response::Range(start, end) => write_line(text, b'F', &[start, end]),
+        Response::Version(generation, count) => write_line(text, b'V', &[generation, count]),
         Response::Listing(numbered) => list_table(numbered, h, rows, text),
     }
 }

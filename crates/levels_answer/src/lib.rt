@@ -9,12 +9,12 @@ ghost use Rattle.levels_answer.specs.inner.Reading.{Responding, AnswerAppended};
 use dispatch::serve;
 use encode::encode_response;
 use levels_spec::{Response, Served};
-use levels_text::{MOST_NUMBERS, Parsed};
+use levels_text::MOST_NUMBERS;
 use refusals::NO_LISTING;
 use table::Header;
 
 mod calls; // calls.rt: the lines that change the table
-mod dispatch; // dispatch.rt: a line dispatched by its letter
+mod dispatch; // dispatch.rt: a line dispatched by its kind
 mod encode; // encode.rt: a response encoded as bytes
 mod queries; // queries.rt: the lines that query the table
 
@@ -30,21 +30,14 @@ fn respond(
     ensures { Responding line.now (stores h rows.old keys.old sorts.old pending.old) (stores result.header rows.new keys.new sorts.new pending.new) result.response }
 {
     let mut numbers = [0u32; MOST_NUMBERS];
-    match levels_text::parse(line, &mut numbers) {
-        Parsed::Wrong => Served {
+    let Some(parsed) = levels_text::parse(line, &mut numbers) else {
+        return Served {
             header: h,
             response: Response::Refused(NO_LISTING),
-        },
-        Parsed::Line(letter, count) => serve(
-            h,
-            letter,
-            &numbers[..count],
-            rows,
-            keys,
-            sorts,
-            pending,
-        ),
-    }
+        };
+    };
+    let passed = &numbers[..parsed.count];
+    serve(h, parsed.kind, passed, rows, keys, sorts, pending)
 }
 
 // The header after a line, and how many bytes the line prints.
@@ -68,11 +61,9 @@ pub fn answer(
     requires in_bounds { 103492 ≤ length text.old }
     ensures { Answering line.now (stores h rows.old keys.old sorts.old pending.old) (stores result.header rows.new keys.new sorts.new pending.new) text.new result.used }
 {
-    let served = respond(h, line, rows, keys, sorts, pending);
-    let header = served.header;
-    let response = served.response;
+    let Served { header, response } = respond(h, line, rows, keys, sorts, pending);
     LineAnswer {
-        header: header,
+        header,
         used: encode_response(header, response, rows, text),
     }
 }
@@ -103,9 +94,8 @@ pub fn append_answer(
         pending,
         &mut text[from..],
     );
-    let header = answered.header;
     LineAnswer {
-        header: header,
+        header: answered.header,
         used: from + answered.used,
     }
 }

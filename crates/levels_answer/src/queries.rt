@@ -1,9 +1,8 @@
 // The lines of `levels` that read the table, and the response of each.
-ghost use Rattle.std.specs.Prelude.{◌≡◌, true, ◌⊎◌, length};
+ghost use Rattle.std.specs.Prelude.{◌≡◌, length};
 ghost use Rattle.table.specs.Numbers.{range_view, version_view};
-ghost use Rattle.levels_text.specs.Lines.{is_form};
 ghost use Rattle.levels_spec.specs.inner.Responses.{response_of, range_response, version_response, listing_response};
-ghost use Rattle.levels_answer.specs.inner.Querying.{OnSorts};
+ghost use Rattle.levels_answer.specs.inner.Querying.{OnSorts, OnHeader, list_letter};
 
 use constraints::Constraint;
 use levels_spec::Response;
@@ -34,12 +33,12 @@ fn respond_listing(numbered: bool, answer: VersionAnswer) -> Response
 {
     match answer {
         VersionAnswer::Refused(number) => Response::Refused(number),
-        VersionAnswer::Version(v) => Response::Listing(numbered),
+        VersionAnswer::Version(_) => Response::Listing(numbered),
     }
 }
 
 // F: the fast range of a condition.
-fn query_range(h: Header, numbers: &[u32], sorts: &[u32]) -> Response
+pub fn query_range(h: Header, numbers: &[u32], sorts: &[u32]) -> Response
     requires { length numbers.now ≡ 3 }
     ensures { OnSorts 70 numbers.now h sorts.now result }
 {
@@ -51,20 +50,16 @@ fn query_range(h: Header, numbers: &[u32], sorts: &[u32]) -> Response
     respond_range(table_read::fast_subset(h, sorts, c))
 }
 
-// Dispatches F, V, U and L.
-pub fn query(h: Header, letter: u8, numbers: &[u32], sorts: &[u32]) -> Response
-    requires numbers_value { is_form letter (length numbers.now) ≡ true }
-    requires fact { (letter ≡ 70) ⊎ ((letter ≡ 76) ⊎ ((letter ≡ 85) ⊎ (letter ≡ 86))) }
-    ensures { OnSorts letter numbers.now h sorts.now result }
+// V: the version.
+pub fn query_version(h: Header) -> Response
+    ensures { OnHeader 86 h result }
 {
-    if letter == b'F' {
-        return query_range(h, numbers, sorts);
-    }
-    if letter == b'V' {
-        return respond_version(table_read::version(h));
-    }
-    if letter == b'U' {
-        return respond_listing(true, table_read::version(h));
-    }
-    respond_listing(false, table_read::version(h))
+    respond_version(table_read::version(h))
+}
+
+// L, and U with row numbers: a listing.
+pub fn query_listing(numbered: bool, h: Header) -> Response
+    ensures { OnHeader (list_letter numbered) h result }
+{
+    respond_listing(numbered, table_read::version(h))
 }

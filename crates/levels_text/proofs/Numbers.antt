@@ -1,126 +1,165 @@
--- The ways through `read_line`: the numbers read so far, and what is to come behind them. Assumes nothing.
-use Rattle.levels_text.proofs.Prelude.{ℕ, ◌+◌, ◌*◌, ◌≤◌, ◌<◌, ◌≡◌, refl, sym, ap, ◌∙◌, arith, length, take, drop, get_or, set, length-set, length-take, true, false, ◌&&◌, List, [], ◌∷◌, ◌++◌, map, append-nil, append_assoc, add-one, take-suc-set, splice_nil, put_more, Field}
+-- The ways through `read_line`: the numbers of the fields read so far. Assumes nothing.
+use Rattle.levels_text.proofs.Prelude.{ℕ, ◌+◌, ◌*◌, ◌≤◌, ◌<◌, ◌≡◌, refl, sym, ap, ◌∙◌, arith, length, take, get_or, set, true, false, List, [], ◌∷◌, ◌++◌, map, eqb, eqb-true, eqb-false, split, inl, inr, add-one, take-suc, take_all, splice_nil, put_more, None, Some, Option, subst}
+use Rattle.std.specs.List.{slice_split, onto_first}
+use Rattle.std.specs.Slice.Iter as slice
+use Rattle.std.specs.declared.slice.Split.{Split}
+use Rattle.std.specs.Fn.{CalledAt}
+use denote.Param.Members.{Mut}
+use denote.Ref.{Bor}
+use Rattle.std.specs.Iterator.Runs.{Run, EachRunFrom}
+use Rattle.std.specs.Prelude.{Bool}
+use Rattle.std.proofs.Common.{zero, suc}
+use Rattle.std.proofs.Math.Bool.{and-false}
+use Rattle.std.proofs.lemmas.Option.{none-some, cond_some}
+use Rattle.std.proofs.lemmas.Iterator.{YieldsList}
+use Rattle.std.proofs.lemmas.Iterator.Splits.{YieldsList-from_slice_split}
+use Rattle.std.proofs.lemmas.List.{map-append, length-map}
+use Rattle.std.proofs.Common.{length-take}
 use Rattle.lists.specs.Lists.{splice, all}
-use Rattle.levels_text.specs.Lines.{value_from, is_decimal, is_line, letter, numbers}
-use Rattle.levels_text.specs.declared.Field.TheVariants.{Wrong as NoField, Decimal}
-use Rattle.levels_text.specs.declared.Parsed.TheVariants.{Wrong, Line}
-use Rattle.levels_text.specs.inner.Reading.{field_at, FieldIs, LineIs, read_wrong, read_right}
+use Rattle.lists.specs.Laws.All.{all_head, all_tail, all_snoc}
+use Rattle.lists.specs.Laws.Parts.{length_splice}
+use Rattle.levels_text.specs.Lines.{prepend_to_first, fields, value_from, is_decimal, is_line, letter, numbers}
+use Rattle.levels_text.specs.inner.Reading.{decimal_of, LineIs, read_right}
 use Rattle.levels_text.specs.Laws.Digits.{decimal_some}
-use Rattle.levels_text.specs.Laws.Lines.{first, others, first_end, others_end, first_at_comma, first_at_more, others_at_comma, others_at_more, next_first, next_others, next_inside, no_letter, no_decimal, is_line_lem}
+use Rattle.levels_text.specs.Laws.Lines.{first, others, fields_cons, first_more, first_comma, others_comma, others_more, no_letter, no_decimal, is_line_lem}
 
--- `count` numbers are read from the bytes before `at`, and stored; the letter is a whole field if a comma or the end follows it
-pub record Numbers (line lent stored : List ℕ) (at count : ℕ) : Type 0 where
-  pub inside : at ≤ length line
-  pub room : 2 * count + 1 ≤ at
-  pub short : length line ≤ 120
-  pub long : 59 ≤ length lent
-  pub same : length stored ≡ length lent
-  pub alone : length (first line) ≡ 1 + length (first (drop at line))
-  pub decimals : all is_decimal (others line) ≡ all is_decimal (others (drop at line))
-  pub worth : numbers line ≡ take count stored ++ map (value_from 0) (others (drop at line))
-  pub put : stored ≡ splice lent 0 (take count stored)
+-- the fields, in std's words
+prepend_same : (byte : ℕ) (texts : List (List ℕ)) → prepend_to_first byte texts ≡ onto_first byte texts
+unfolding prepend_to_first
+prepend_same byte [] = refl
+prepend_same byte (text ∷ texts) = refl
 
-module _ (line lent : List ℕ) (short : length line ≤ 120) (long : 59 ≤ length lent) (some : 0 < length line) (ne : get_or line 0 0 ≡ 44 → ⊥) where
-  pub numbers_begin : Numbers line lent lent 1 0
-  unfolding numbers others
-  numbers_begin = record {
-    inside = omega arith;
-    room = omega arith;
-    short = short;
-    long = long;
-    same = refl;
-    alone = let e : length (first line) ≡ length (get_or line 0 0 ∷ first (drop 1 line)) = ap length (first_at_more line 0 some ne) in omega arith;
-    decimals = ap (all is_decimal) (others_at_more line 0 some ne);
-    worth = ap (map (value_from 0)) (others_at_more line 0 some ne);
-    put = sym (splice_nil lent 0);
-  }
+split_fields : (bytes : List ℕ) → slice_split (λ (byte : ℕ). eqb byte 44) bytes ≡ fields bytes
+unfolding fields
+split_fields [] = refl
+split_fields (byte ∷ bytes) = rw (split_fields bytes, ← prepend_same byte (fields bytes))
 
-module _ (line lent stored : List ℕ) (at count : ℕ) (s : Numbers line lent stored at count) where
-  -- no letter and decimals
-  wrong_line : is_line line ≡ false → LineIs line lent Wrong stored
-  wrong_line e = read_wrong line lent stored e (λ h. absurd (let l = s.long in omega arith))
+-- the first fact says which closure cuts the line
+pub line_cut : {F : Type 0} {s : Split ℕ F} {g : Mut F (Bor ℕ × Unit {0}) Bool} {f : F} {P : Run (slice.split_steps g) → Type 0} (line : List ℕ) → EachRunFrom (slice.split_steps g) s P → slice.split_rest s ≡ line → slice.split_done s ≡ false → slice.split_callee s ≡ f
+    → ((x : ℕ) (b : Bool) (q : F) → CalledAt g f x b q → (q ≡ f) × (b ≡ eqb x 44)) → YieldsList (slice.split_steps g) (λ x. x.now) s (first line ∷ others line)
+line_cut {s = s} {g = g} line runs rest done closure tests =
+    subst (YieldsList (slice.split_steps g) (λ x. x.now) s) (split_fields line ∙ fields_cons line)
+    (YieldsList-from_slice_split g (λ (byte : ℕ). eqb byte 44) line rest done closure tests)
 
-  module _ (before : at < length line) where
-    pub wrong_letter : (get_or line at 0 ≡ 44 → ⊥) → LineIs line lent Wrong stored
-    wrong_letter ne =
-        let more = ap length (first_at_more line at before ne) in
-        wrong_line (no_letter line (λ e. omega (arith, s.alone, more)))
+-- a call of `next` on an iterator that gives a list, and the iterator after it
+module _ {S A B : Type 0} {steps : S → Option A → S → Type 0} {v : A → B} {s t : S} {r : Option A} {y : B} {ys : List B} {x : A}
+    (e : YieldsList steps v s (y ∷ ys)) (is : r ≡ Some x) (k : steps s r t) where
+  pub head_gives : v x ≡ y
+  head_gives = (e.runs.1 x t (subst (λ (o : Option A). steps s o t) is k)).0
 
-    module _ (comma : get_or line at 0 ≡ 44) where
-      field_cons : all is_decimal (others (drop at line)) ≡ (is_decimal (field_at line (at + 1)) && all is_decimal (others (drop (at + 1) line)))
-      unfolding field_at first all
-      field_cons = ap (all is_decimal) (others_at_comma line at before comma)
+  pub tail_gives : {u : S} → u ≡ t → YieldsList steps v u ys
+  tail_gives same = subst (λ (i : S). YieldsList steps v i ys) (sym same) (record { runs = (e.runs.1 x t (subst (λ (o : Option A). steps s o t) is k)).1 })
 
-      pub wrong_number : (r : Field) → FieldIs line (at + 1) r → r ≡ NoField → LineIs line lent Wrong stored
-      wrong_number r f e = wrong_line (no_decimal line (s.decimals ∙ field_cons ∙ rw (f.wrong e)))
+-- the first field is the letter alone, or the line is wrong
+pub wrong_first : (line : List ℕ) {field : List ℕ} → field ≡ first line → (length field ≡ 1 → ⊥) → is_line line ≡ false
+wrong_first line e ne = no_letter line (λ one. ne (ap length e ∙ one))
 
-      module _ (r : Field) (f : FieldIs line (at + 1) r) (value next : ℕ) (result-is : r ≡ Decimal value next) where
-        place : next ≡ at + 1 + length (first (drop (at + 1) line))
-        unfolding field_at first
-        place = (f.right value next result-is).2
+first_byte : (line : List ℕ) → 0 < length (first line) → get_or (first line) 0 0 ≡ get_or line 0 0
+first_byte [] some = unfold first fields in refl
+first_byte (byte ∷ bytes) some =
+    elim (split (eqb byte 44)) [
+      | inl e ↦ absurd (omega (arith, ap length (ap first (ap (λ (b : ℕ). b ∷ bytes) (eqb-true byte 44 e)) ∙ first_comma bytes)))
+      | inr e ↦ ap (λ (l : List ℕ). get_or l 0 0) (first_more byte bytes (eqb-false byte 44 e))
+    ]
 
-        -- the place moves on, and stays in the line
-        pub next_place_lem : (at + 2 ≤ next) × (next ≤ length line)
-        unfolding field_at first
-        next_place_lem =
-            let some = decimal_some (field_at line (at + 1)) (f.right value next result-is).0 in
-            let after : at + 1 ≤ length line = omega arith in
-            let within = next_inside line (at + 1) after in
-            (omega (arith, place, some), omega (arith, place, within))
+not_all : (texts : List (List ℕ)) (n : ℕ) (d : List ℕ) → n < length texts → is_decimal (get_or texts n d) ≡ false → all is_decimal texts ≡ false
+unfolding all
+not_all [] n d h e = absurd (omega arith)
+not_all (text ∷ texts) zero d h e = rw e
+not_all (text ∷ texts) (suc n) d h e = rw (not_all texts n d (omega arith) e, and-false (is_decimal text))
 
-        behind : first (drop next line) ≡ []
-        behind = rw place (next_first line (at + 1))
+-- what `decimal` says of a field
+not_decimal : (field : List ℕ) → decimal_of field ≡ None → is_decimal field ≡ false
+not_decimal field e =
+    elim (split (is_decimal field)) [
+      | inl y ↦ absurd (let some : ◌≡◌ {A = Option ℕ} (Some (value_from 0 field)) None = rw y at e in none-some _ (sym some))
+      | inr n ↦ n
+    ]
 
-        later : others (drop next line) ≡ others (drop (at + 1) line)
-        later = rw place (next_others line (at + 1))
+decimal_is : (field : List ℕ) {value : ℕ} → decimal_of field ≡ Some value → (is_decimal field ≡ true) × (value_from 0 field ≡ value)
+decimal_is field e = cond_some (is_decimal field) (value_from 0 field) _ e
 
-        worth_more : map (value_from 0) (others (drop at line)) ≡ (value ∷ []) ++ map (value_from 0) (others (drop next line))
-        unfolding field_at first
-        worth_more =
-            ap (map (value_from 0)) (others_at_comma line at before comma)
-            ∙ ap (λ (v : ℕ). v ∷ map (value_from 0) (others (drop (at + 1) line))) (sym (f.right value next result-is).1)
-            ∙ ap (λ (l : List (List ℕ)). value ∷ map (value_from 0) l) (sym later)
+-- decimals take two bytes or more each, with the comma before
+unfoldable widths : List (List ℕ) → ℕ
+widths [] = 0
+widths (text ∷ texts) = 1 + length text + widths texts
 
-        -- a line so short has no number too many
-        pub fits : count < length stored
-        fits = omega (arith, s.room, s.same, s.short, s.long, next_place_lem.0, next_place_lem.1)
+widths_cons : (text : List ℕ) (texts : List (List ℕ)) → widths (text ∷ texts) ≡ 1 + length text + widths texts
+unfolding widths
+widths_cons text texts = refl
 
-        taken : take (count + 1) (set stored count value) ≡ take count stored ++ (value ∷ [])
-        taken = rw add-one (take-suc-set stored count value fits)
+line_width : (line : List ℕ) → length (first line) + widths (others line) ≡ length line
+line_width [] = unfold first others fields widths in refl
+line_width (byte ∷ bytes) =
+    let rest = line_width bytes in
+    elim (split (eqb byte 44)) [
+      | inl e ↦ rw (eqb-true byte 44 e, first_comma bytes, others_comma bytes, widths_cons (first bytes) (others bytes)) (omega arith)
+      | inr e ↦ rw (first_more byte bytes (eqb-false byte 44 e), others_more byte bytes (eqb-false byte 44 e)) (omega arith)
+    ]
 
-        read_length : count ≡ length (take count stored)
-        read_length = rw length-take (omega (arith, fits))
+decimals_wide : (texts : List (List ℕ)) (n : ℕ) → n ≤ length texts → all is_decimal (take n texts) ≡ true → 2 * n ≤ widths texts
+decimals_wide texts zero h e = omega arith
+decimals_wide [] (suc n) h e = absurd (omega arith)
+decimals_wide (text ∷ texts) (suc n) h e =
+    let some = decimal_some text (all_head is_decimal text (take n texts) e) in
+    let rest = decimals_wide texts n (omega arith) (all_tail is_decimal text (take n texts) e) in
+    rw (widths_cons text texts) (omega (arith, some, rest))
 
-        pub numbers_more : Numbers line lent (set stored count value) next (count + 1)
-        numbers_more = record {
-          inside = next_place_lem.1;
-          room = omega (arith, s.room, next_place_lem.0);
-          short = s.short;
-          long = s.long;
-          same = length-set stored count value ∙ s.same;
-          alone = s.alone ∙ ap (λ (l : List ℕ). 1 + length l) (first_at_comma line at before comma ∙ sym behind);
-          decimals = s.decimals ∙ field_cons ∙ rw (f.right value next result-is).0 (ap (all is_decimal) (sym later));
-          worth =
-              s.worth
-              ∙ ap (λ (l : List ℕ). take count stored ++ l) worth_more
-              ∙ sym (append_assoc (take count stored) (value ∷ []) (map (value_from 0) (others (drop next line))))
-              ∙ ap (λ (l : List ℕ). l ++ map (value_from 0) (others (drop next line))) (sym taken);
-          put =
-              ap (λ (l : List ℕ). set l count value) s.put
-              ∙ put_more lent (take count stored) count value read_length (omega (arith, fits, s.same))
-              ∙ ap (splice lent 0) (sym taken);
-        }
+-- `count` numbers are stored: those of the first `count` fields after the letter, which are decimals
+pub record Numbers (line lent stored : List ℕ) (count : ℕ) : Type 0 where
+  pub within : count ≤ length (others line)
+  pub decimals : all is_decimal (take count (others line)) ≡ true
+  pub put : stored ≡ splice lent 0 (map (value_from 0) (take count (others line)))
 
-  module _ (ended : length line ≤ at) where
-    all_read : numbers line ≡ take count stored
-    all_read = s.worth ∙ rw (others_end line at ended) (append-nil (take count stored))
+pub numbers_begin : (line lent : List ℕ) → Numbers line lent lent 0
+unfolding all
+numbers_begin line lent = record { within = omega arith; decimals = refl; put = sym (splice_nil lent 0) }
 
-    counted : length (numbers line) ≡ count
-    counted = ap length all_read ∙ rw length-take (omega (arith, s.room, s.inside, s.same, s.short, s.long))
+module _ {line lent stored : List ℕ} {count : ℕ} (s : Numbers line lent stored count) where
+  pub stored_length : length (others line) ≤ length lent → length stored ≡ length lent
+  stored_length room = ap length s.put ∙ length_splice lent (map (value_from 0) (take count (others line))) 0 (omega (arith, length-map (take count (others line)) (value_from 0), length-take {A = List ℕ}, s.within))
 
-    pub line_read : LineIs line lent (Line (letter line) count) stored
-    line_read =
-        let one : length (first line) ≡ 1 = let e = ap length (first_end line at ended) in omega (arith, s.alone, e) in
-        let decimals : all is_decimal (others line) ≡ true = s.decimals ∙ rw (others_end line at ended) (unfold all in refl) in
-        read_right line lent (letter line) count stored s.long (is_line_lem line s.short one decimals) refl (sym counted)
-        (s.put ∙ ap (splice lent 0) (sym all_read))
+  -- the next field
+  module _ {field : List ℕ} (inside : count < length (others line)) (next : field ≡ get_or (others line) count field) where
+    more : take (count + 1) (others line) ≡ take count (others line) ++ (field ∷ [])
+    more = rw (add-one, take-suc (others line) count field inside, ← next)
+
+    -- a field that is no decimal
+    pub wrong_field : decimal_of field ≡ None → is_line line ≡ false
+    wrong_field e = no_decimal line (not_all (others line) count field inside (rw (← next) (not_decimal field e)))
+
+    module _ {value : ℕ} (read : decimal_of field ≡ Some value) where
+      is : is_decimal field ≡ true
+      is = (decimal_is field read).0
+
+      all_more : all is_decimal (take (count + 1) (others line)) ≡ true
+      all_more = rw more (all_snoc is_decimal (take count (others line)) field s.decimals is)
+
+      -- a line so short has no number too many
+      pub count_fits : length line ≤ 120 → 59 ≤ length lent → length (first line) ≡ 1 → count < length lent
+      count_fits short long one = let wide = decimals_wide (others line) (count + 1) (omega arith) all_more in let whole = line_width line in omega arith
+
+      pub numbers_more : count < length lent → Numbers line lent (set stored count value) (count + 1)
+      numbers_more fits = record {
+        within = omega arith;
+        decimals = all_more;
+        put =
+            let stored_so_far : List ℕ = map (value_from 0) (take count (others line)) in
+            let long : count ≡ length stored_so_far = sym (length-map (take count (others line)) (value_from 0) ∙ rw length-take (omega (arith, s.within))) in
+            ap (λ (l : List ℕ). set l count value) s.put
+            ∙ put_more lent stored_so_far count value long fits
+            ∙ ap (splice lent 0)
+            (ap (λ (n : ℕ). stored_so_far ++ (n ∷ [])) (sym (decimal_is field read).1)
+            ∙ sym (map-append (value_from 0) (take count (others line)) (field ∷ []))
+            ∙ ap (map (value_from 0)) (sym more));
+      }
+
+-- all fields are read
+pub line_read : {line lent stored : List ℕ} {count first_letter : ℕ} {field : List ℕ} → Numbers line lent stored count → length line ≤ 120 → 59 ≤ length lent → field ≡ first line → length field ≡ 1
+    → first_letter ≡ get_or field 0 0 → count ≡ length (others line) → LineIs line lent (Some (first_letter, count)) stored
+unfolding numbers others letter
+line_read {line} {lent} {stored} {count} s short long same one is end =
+    let whole : take count (others line) ≡ others line = take_all count (others line) (omega (arith, end)) in
+    read_right line lent _ count stored long (is_line_lem line short (sym (ap length same) ∙ one) (rw whole at s.decimals))
+    (is ∙ ap (λ (l : List ℕ). get_or l 0 0) same ∙ first_byte line (omega (arith, one, ap length same)))
+    (end ∙ sym (length-map (others line) (value_from 0))) (s.put ∙ ap (λ (l : List (List ℕ)). splice lent 0 (map (value_from 0) l)) whole)

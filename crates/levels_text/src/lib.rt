@@ -3,9 +3,11 @@
 #![tactic(auto)]
 
 ghost use Rattle.std.specs.Prelude.{◌≡◌};
-ghost use Rattle.levels_text.specs.Lines.{is_form};
-ghost use Rattle.levels_text.specs.inner.Reading.{is_bare, FieldIs, LineIs, ParsedIs};
+ghost use Rattle.levels_text.specs.inner.Reading.{decimal_of, LineIs, ParsedIs};
 
+use kind::Kind;
+
+pub mod kind; // kind.rt: the kinds of lines
 pub mod write; // write.rt: a line of output put behind the bytes of a text
 
 // A line of at most 120 bytes has a letter and at most 59 numbers.
@@ -13,150 +15,64 @@ pub const MOST_NUMBERS: usize = 59;
 
 const LONGEST: usize = 120;
 
-// A line: its letter and the count of its numbers, which are at the start of the lent numbers; or not a line of a valid form.
+// A line of a valid form: its kind, and the count of its numbers, which are at the start of the lent numbers.
 #[derive(Clone, Copy)]
-pub enum Parsed {
-    Wrong,
-    Line(u8, usize),
+pub struct Line {
+    pub kind: Kind,
+    pub count: usize,
 }
 
-// A decimal and the offset after it, or no decimal.
-#[derive(Clone, Copy)]
-pub enum Field {
-    Wrong,
-    Decimal(u32, usize),
-}
-
-// Reads the decimal that begins at an offset and ends before a comma or the end.
-fn read_field(line: &[u8], start: usize) -> Field
-    ensures { FieldIs line.now start result }
+// The number in a field, if the field is a decimal.
+fn decimal(field: &[u8]) -> Option<u32>
+    ensures { result ≡ decimal_of field.now }
 {
-    let mut value: u64 = 0;
-    let mut at = start;
-    while at < line.len() {
-        let byte = line[at];
-        if byte == b',' {
-            break;
-        }
-        if byte < b'0' {
-            return Field::Wrong;
-        }
-        if b'9' < byte {
-            return Field::Wrong;
-        }
-        value = 10 * value + (byte - b'0') as u64;
-        if 0xffff_ffff < value {
-            return Field::Wrong;
-        }
-        at += 1;
+    if field.is_empty() {
+        return None;
     }
-    if at == start {
-        return Field::Wrong;
+    if field[0] == b'0' && 1 < field.len() {
+        return None;
     }
-    if line[start] == b'0' {
-        if start + 1 < at {
-            return Field::Wrong;
+    let mut value: u32 = 0;
+    for byte in field {
+        if !byte.is_ascii_digit() {
+            return None;
         }
+        value = value.checked_mul(10)?.checked_add(u32::from(*byte - b'0'))?;
     }
-    Field::Decimal(value as u32, at)
+    Some(value)
 }
 
-// M, V, L, U, C and G: the letters without numbers.
-fn is_bare(letter: u8) -> bool
-    ensures { result ≡ is_bare letter }
-{
-    if letter == b'M' {
-        return true;
-    }
-    if letter == b'V' {
-        return true;
-    }
-    if letter == b'L' {
-        return true;
-    }
-    if letter == b'U' {
-        return true;
-    }
-    if letter == b'C' {
-        return true;
-    }
-    letter == b'G'
-}
-
-// True if a line of this letter has `count` numbers.
-fn is_form(letter: u8, count: usize) -> bool
-    ensures { result ≡ is_form letter count }
-{
-    if letter == b'O' {
-        return count == 6;
-    }
-    if letter == b'I' {
-        return 1 <= count;
-    }
-    if letter == b'R' {
-        return 1 <= count;
-    }
-    if letter == b'K' {
-        return 2 <= count;
-    }
-    if letter == b'F' {
-        return count == 3;
-    }
-    if is_bare(letter) {
-        return count == 0;
-    }
-    false
-}
-
-// Reads a letter and decimals: a line without its newline. The lent numbers must have room for the most that a line can have. Their
-// content is unspecified if the line is wrong.
-fn read_line(line: &[u8], numbers: &mut [u32]) -> Parsed
+// Reads a letter and decimals: a line without its newline. Returns the letter and how many numbers there are. The lent numbers must have
+// room for the most that a line can have. Their content is unspecified if the line is wrong.
+fn read_line(line: &[u8], numbers: &mut [u32]) -> Option<(u8, usize)>
     ensures { LineIs line.now numbers.old result numbers.new }
 {
     if LONGEST < line.len() {
-        return Parsed::Wrong;
-    }
-    if line.len() < 1 {
-        return Parsed::Wrong;
+        return None;
     }
     if numbers.len() < MOST_NUMBERS {
-        return Parsed::Wrong;
+        return None;
     }
-    let letter = line[0];
-    if letter == b',' {
-        return Parsed::Wrong;
-    }
-    let mut at = 1;
+    let mut fields = line.split(|byte| *byte == b',');
+    let [letter] = fields.next()? else {
+        return None;
+    };
     let mut count = 0;
-    while at < line.len() {
-        if line[at] != b',' {
-            return Parsed::Wrong;
-        }
-        match read_field(line, at + 1) {
-            Field::Wrong => {
-                return Parsed::Wrong;
-            }
-            Field::Decimal(value, next) => {
-                numbers[count] = value;
-                count += 1;
-                at = next;
-            }
-        }
+    for field in fields {
+        numbers[count] = decimal(field)?;
+        count += 1;
     }
-    Parsed::Line(letter, count)
+    Some((*letter, count))
 }
 
 // Reads a line of a valid form.
-pub fn parse(line: &[u8], numbers: &mut [u32]) -> Parsed
+pub fn parse(line: &[u8], numbers: &mut [u32]) -> Option<Line>
     ensures { ParsedIs line.now numbers.old result numbers.new }
 {
-    match read_line(line, numbers) {
-        Parsed::Wrong => Parsed::Wrong,
-        Parsed::Line(letter, count) => {
-            if is_form(letter, count) {
-                return Parsed::Line(letter, count);
-            }
-            Parsed::Wrong
-        }
+    let (letter, count) = read_line(line, numbers)?;
+    let kind = Kind::try_from(letter).ok()?;
+    if !kind.takes(count) {
+        return None;
     }
+    Some(Line { kind, count })
 }

@@ -17,12 +17,8 @@ pub fn put_bytes(text: &mut [u8], used: usize, bytes: &[u8]) -> usize
     requires { used + length bytes.now ≤ length text.old }
     ensures { Appended text.old used bytes.now text.new result }
 {
-    let mut end = used;
-    let mut i = 0;
-    while i < bytes.len() {
-        end = put(text, end, bytes[i]);
-        i += 1;
-    }
+    let end = used + bytes.len();
+    text[used..end].copy_from_slice(bytes);
     end
 }
 
@@ -31,7 +27,7 @@ pub fn number_length(number: u32) -> usize
     ensures { result ≡ length (field number) }
 {
     let mut digits = [0u8; 20];
-    let count = io::decimal(number as u64, &mut digits);
+    let count = io::decimal(u64::from(number), &mut digits);
     count + 1
 }
 
@@ -41,7 +37,7 @@ fn put_number(text: &mut [u8], used: usize, number: u32) -> usize
     ensures { Appended text.old used (field number) text.new result }
 {
     let mut digits = [0u8; 20];
-    let count = io::decimal(number as u64, &mut digits);
+    let count = io::decimal(u64::from(number), &mut digits);
     let end = put(text, used, b',');
     put_bytes(text, end, &digits[..count])
 }
@@ -51,10 +47,8 @@ fn put_numbers(text: &mut [u8], used: usize, numbers: &[u32]) -> usize
     ensures { Appended text.old used (flatten (map field numbers.now)) text.new result }
 {
     let mut end = used;
-    let mut i = 0;
-    while i < numbers.len() {
-        end = put_number(text, end, numbers[i]);
-        i += 1;
+    for number in numbers {
+        end = put_number(text, end, *number);
     }
     end
 }
@@ -93,6 +87,5 @@ pub fn refuse(text: &mut [u8], number: u32) -> usize
     requires { 90 ≤ length text.old }
     ensures { Wrote (text_line 88 (number ∷ [])) text.new result }
 {
-    let numbers = [number];
-    write_line(text, b'X', &numbers)
+    write_line(text, b'X', &[number])
 }

@@ -4,4 +4,4 @@ use Rattle.levels_answer.proofs.answer.Goals as goal
 
 pub returns : goal.returns
 returns c =
-    encoded_answers (omega (arith, c.requires.keys_len_bound)) (omega (arith, c.requires.in_bounds)) c.respond-served.ensures c.encode_response.ensures
+    encoded_answers (omega (arith, c.requires.keys_len_bound)) (omega (arith, c.requires.in_bounds)) c.respond-response.ensures c.encode_response.ensures

@@ -1,8 +1,7 @@
 -- The contract of a line that changes a table. Functions that borrow only some of the stores meet it for any content of the others.
 -- Assumes nothing.
-use Rattle.std.specs.Prelude.{ℕ, ◌-◌, ◌≤◌, ◌<◌, ◌≡◌, ◌⊎◌, cond, List, length, take, drop, get_or}
+use Rattle.std.specs.Prelude.{ℕ, ◌-◌, ◌≤◌, ◌<◌, ◌≡◌, cond, List, length, take, drop, get_or}
 use Rattle.std.proofs.Math.Path.{refl}
-use Rattle.std.proofs.Common.{sym, subst, inl, inr}
 use Rattle.refusals.specs.Refusals.{if_accepted}
 use Rattle.lists.specs.Laws.Parts.{part_to_end}
 use Rattle.plain_table.specs.Staged.{insert, remove_key, remove_row, opening_in}
@@ -62,12 +61,12 @@ module _ (h : Header) (answer : MergeAnswer) where
 -- ---- from the library's contracts to the contracts of lines
 
 module _ {h : Header} {answer : TableAnswer} {r : Served} (k : ServedWith (if_accepted (table_view answer) (λ h. h) h) (response_of nothing_response (table_view answer)) r) where
-  module _ {letter : ℕ} {ns pending pending' : List ℕ} where
-    pub insert_served : letter ≡ 73 → Staging h pending (insert ns) answer pending' → OnPending letter ns h pending r pending'
-    insert_served e m = record { serving = λ rows keys sorts. record { answers = λ t held. rw (result_insert _ t ns e) (does_respond (staging_does k rows keys sorts m) t held) } }
+  module _ {ns pending pending' : List ℕ} where
+    pub insert_served : Staging h pending (insert ns) answer pending' → OnPending 73 ns h pending r pending'
+    insert_served m = record { serving = λ rows keys sorts. record { answers = λ t held. rw (result_insert _ t ns refl) (does_respond (staging_does k rows keys sorts m) t held) } }
 
-    pub by_key_served : letter ≡ 82 → Staging h pending (remove_key ns) answer pending' → OnPending letter ns h pending r pending'
-    by_key_served e m = record { serving = λ rows keys sorts. record { answers = λ t held. rw (result_by_key _ t ns e) (does_respond (staging_does k rows keys sorts m) t held) } }
+    pub by_key_served : Staging h pending (remove_key ns) answer pending' → OnPending 82 ns h pending r pending'
+    by_key_served m = record { serving = λ rows keys sorts. record { answers = λ t held. rw (result_by_key _ t ns refl) (does_respond (staging_does k rows keys sorts m) t held) } }
 
   -- the cells of the key are all numbers after the row number
   pub by_row_served : {pending pending' : List ℕ} (ns : List ℕ) → Staging h pending (remove_row (get_or ns 0 0) (take (length ns - 1) (drop 1 ns))) answer pending'
@@ -98,12 +97,3 @@ pub merge_served : {h : Header} {answer : MergeAnswer} {r : Served} {rows keys s
     → Merging (stores h rows keys sorts pending) (compaction_words live base) answer (body rows' keys' sorts') (compaction_words live' base')
     → OnAll 77 (stores h rows keys sorts pending) (stores r.header rows' keys' sorts' pending) r
 merge_served k a b m = record { serving = λ ns. record { answers = λ t held. rw (result_merge _ t ns refl) (does_respond (merging_does k a b m) t held) } }
-
--- K is the only letter left of the three
-pub row_letter : {letter : ℕ} → (letter ≡ 73) ⊎ ((letter ≡ 75) ⊎ (letter ≡ 82)) → (letter ≡ 73 → ⊥) → (letter ≡ 82 → ⊥) → letter ≡ 75
-row_letter (inl e) i r = absurd (i e)
-row_letter (inr (inl e)) i r = e
-row_letter (inr (inr e)) i r = absurd (r e)
-
-pub by_row_letter : {letter : ℕ} {ns : List ℕ} {h : Header} {pending pending' : List ℕ} {r : Served} → letter ≡ 75 → OnPending 75 ns h pending r pending' → OnPending letter ns h pending r pending'
-by_row_letter {letter} {ns} {h} {pending} {pending'} {r} e m = subst (λ (x : ℕ). OnPending x ns h pending r pending') (sym e) m

@@ -1,6 +1,5 @@
 -- The contract of a line that reads the table. Assumes nothing.
-use Rattle.std.specs.Prelude.{ℕ, ◌≡◌, refl, ◌⊎◌, true, false, List}
-use Rattle.std.proofs.Common.{sym, subst, inl, inr}
+use Rattle.std.specs.Prelude.{ℕ, ◌≡◌, refl, Bool, true, false, List}
 use Rattle.constraints.specs.Encoding.{condition_in}
 use Rattle.table.specs.declared.Header.{Header}
 use Rattle.table.specs.declared.RangeAnswer.{RangeAnswer}
@@ -20,6 +19,15 @@ use Rattle.levels_spec.specs.Laws.Queries.{range_does, version_does, list_does, 
 -- The function borrows the sort entries only. The contract holds for any content of the other stores, and no store changes.
 pub record OnSorts (letter : ℕ) (ns : List ℕ) (h : Header) (sorts : List ℕ) (response : Response) : Type 0 where
   pub serving : (rows keys pending : List ℕ) → Serving letter ns (stores h rows keys sorts pending) (stores h rows keys sorts pending) response
+
+-- the same of a function that borrows no store, for a line of any numbers
+pub record OnHeader (letter : ℕ) (h : Header) (response : Response) : Type 0 where
+  pub serving : (ns rows keys sorts pending : List ℕ) → Serving letter ns (stores h rows keys sorts pending) (stores h rows keys sorts pending) response
+
+-- L, or U for the form with row numbers
+abbrev pub list_letter : Bool → ℕ
+list_letter false = 76
+list_letter true = 85
 
 -- ---- the response to an answer of the library
 
@@ -54,31 +62,19 @@ range_served {h = h} {sorts = sorts} ns e m =
       serving = λ rows keys pending. record { answers = λ t held. rw (result_range _ t ns refl) (does_respond (range_does {s = stores h rows keys sorts pending} e m) t held) };
     }
 
-module _ {answer : VersionAnswer} {letter : ℕ} {ns : List ℕ} {h : Header} {sorts : List ℕ} {response : Response} where
-  pub version_served : letter ≡ 86 → response ≡ response_of version_response (version_view answer) → VersionRead h answer → OnSorts letter ns h sorts response
-  version_served l e m =
+module _ {answer : VersionAnswer} {h : Header} {response : Response} where
+  pub version_served : response ≡ response_of version_response (version_view answer) → VersionRead h answer → OnHeader 86 h response
+  version_served e m =
       record {
-        serving = λ rows keys pending. record { answers = λ t held. rw (result_version _ t ns l) (does_respond (version_does {s = stores h rows keys sorts pending} e m) t held) };
+        serving = λ ns rows keys sorts pending. record { answers = λ t held. rw (result_version _ t ns refl) (does_respond (version_does {s = stores h rows keys sorts pending} e m) t held) };
       }
 
-  pub list_served : letter ≡ 76 → response ≡ response_of (listing_response false) (version_view answer) → VersionRead h answer → OnSorts letter ns h sorts response
-  list_served l e m =
+  pub listing_served : (numbered : Bool) → response ≡ response_of (listing_response numbered) (version_view answer) → VersionRead h answer → OnHeader (list_letter numbered) h response
+  listing_served false e m =
       record {
-        serving = λ rows keys pending. record { answers = λ t held. rw (result_list _ t ns l) (does_respond (list_does {s = stores h rows keys sorts pending} e m) t held) };
+        serving = λ ns rows keys sorts pending. record { answers = λ t held. rw (result_list _ t ns refl) (does_respond (list_does {s = stores h rows keys sorts pending} e m) t held) };
       }
-
-  pub numbered_served : letter ≡ 85 → response ≡ response_of (listing_response true) (version_view answer) → VersionRead h answer → OnSorts letter ns h sorts response
-  numbered_served l e m =
+  listing_served true e m =
       record {
-        serving = λ rows keys pending. record { answers = λ t held. rw (result_numbered _ t ns l) (does_respond (numbered_does {s = stores h rows keys sorts pending} e m) t held) };
+        serving = λ ns rows keys sorts pending. record { answers = λ t held. rw (result_numbered _ t ns refl) (does_respond (numbered_does {s = stores h rows keys sorts pending} e m) t held) };
       }
-
-pub range_letter : {letter : ℕ} {ns : List ℕ} {h : Header} {sorts : List ℕ} {response : Response} → letter ≡ 70 → OnSorts 70 ns h sorts response → OnSorts letter ns h sorts response
-range_letter {letter} {ns} {h} {sorts} {response} e m = subst (λ (x : ℕ). OnSorts x ns h sorts response) (sym e) m
-
--- L is the only letter left of the four
-pub list_letter : {letter : ℕ} → (letter ≡ 70) ⊎ ((letter ≡ 76) ⊎ ((letter ≡ 85) ⊎ (letter ≡ 86))) → (letter ≡ 70 → ⊥) → (letter ≡ 86 → ⊥) → (letter ≡ 85 → ⊥) → letter ≡ 76
-list_letter (inl e) f v u = absurd (f e)
-list_letter (inr (inl e)) f v u = e
-list_letter (inr (inr (inl e))) f v u = absurd (u e)
-list_letter (inr (inr (inr e))) f v u = absurd (v e)

@@ -1,24 +1,23 @@
 -- From the bytes of a line to its response, and from there to the bytes of its answer. Assumes nothing.
 use Rattle.std.specs.Prelude.{ℕ, ◌+◌, ◌≤◌, ◌≡◌, false, List, ◌++◌, take}
 use Rattle.std.proofs.Math.Path.{sym}
-use Rattle.std.proofs.Common.{ap, ◌∙◌, inl, inr, arith, length-append, length-take}
-use Rattle.std.proofs.Math.Bool.{true}
+use Rattle.std.proofs.Common.{ap, ◌∙◌, arith, length-append, length-take}
 use Rattle.std.proofs.lemmas.Bool.{false≢true}
 use Rattle.std.proofs.Math.Option.{Option}
+use Rattle.std.specs.Prelude.{Option as Optional, None}
 use Rattle.std.proofs.Math.ListN.{length}
 use Rattle.std.proofs.lemmas.List.{take-append-le}
 use Rattle.std.proofs.Math.Seq.{take-append-add}
-use Rattle.lists.specs.Laws.Filter.{split}
 use Rattle.lists.specs.Laws.Search.{take_put}
 use Rattle.plain_table.specs.Refusing.{Lengths}
 use Rattle.plain_table.specs.Plain.{Plain}
 use Rattle.table.specs.Refusing.{outside}
 use Rattle.table.specs.Outcomes.{Stores, Represents}
 use Rattle.table.proofs.Laws.Shown.{represents_inside, represents_long, rows_counted}
-use Rattle.levels_text.specs.declared.Parsed.{Parsed}
-use Rattle.levels_text.specs.declared.Parsed.TheVariants.{Wrong, Line}
-use Rattle.levels_text.specs.Lines.{letter, numbers, of_forms}
-use Rattle.levels_text.specs.inner.Reading.{ParsedIs, read_taken}
+use Rattle.levels_text.specs.declared.Line.{Line}
+use Rattle.levels_text.specs.Kinds.{letter_of}
+use Rattle.levels_text.specs.Lines.{numbers}
+use Rattle.levels_text.specs.inner.Reading.{ParsedIs, Parsed, parsed_none}
 use Rattle.listing_write.specs.Laws.Represented.{rows_long}
 use Rattle.levels_spec.specs.declared.Response.{Response}
 use Rattle.levels_spec.specs.declared.Response.TheVariants.{Refused}
@@ -31,33 +30,19 @@ use Rattle.levels_spec.specs.Laws.Results.{responds_refused}
 pub record Responding (line : List ℕ) (s s' : Stores) (response : Response) : Type 0 where
   pub answers : (t : Option Plain) → Held t s → Responds (line_result (lent s) t line) s' response
 
-module _ {line lent' : List ℕ} {r : Parsed} {numbers' : List ℕ} (p : ParsedIs line lent' r numbers') (room : 59 ≤ length lent') where
-  -- a line of no valid form
-  not_forms : r ≡ Wrong → of_forms line ≡ false
-  not_forms e =
-      elim (split (of_forms line)) [
-        | inl y ↦ absurd (let w = (p.right room y).0 in let z : ◌≡◌ {A = ℕ} 0 1 = cc in omega arith)
-        | inr n ↦ n
-      ]
+-- a line of no valid form
+pub wrong_responds : {line numbers' : List ℕ} {lent' : List ℕ} {r : Optional Line} → ParsedIs line lent' r numbers' → 59 ≤ length lent' → r ≡ None → (s : Stores) → Responding line s s (Refused 11)
+unfolding line_result
+wrong_responds p room e s = record { answers = λ t held. rw (parsed_none p e room) (responds_refused 11 held (omega arith)) }
 
-  pub wrong_responds : r ≡ Wrong → (s : Stores) → Responding line s s (Refused 11)
+-- a line of a valid form
+module _ {line lent' : List ℕ} {parsed : Line} {numbers' : List ℕ} (p : Parsed line lent' parsed numbers') where
+  line_read : (l : Lengths) (t : Option Plain) → result l t (letter_of parsed.kind) (take parsed.count numbers') ≡ line_result l t line
   unfolding line_result
-  wrong_responds e s = record { answers = λ t held. rw (not_forms e) (responds_refused 11 held (omega arith)) }
+  line_read l t = rw (p.taken, p.letter_same, p.counted, p.put, take_put lent' (numbers line))
 
-  -- a line of a valid form
-  module _ {first count : ℕ} (e : r ≡ Line first count) where
-    line_read : (l : Lengths) (t : Option Plain) → result l t first (take count numbers') ≡ line_result l t line
-    unfolding line_result
-    line_read l t =
-        let yes : of_forms line ≡ true = read_taken line lent' r numbers' p first count e in
-        let right = p.right room yes in
-        let same : Line first count ≡ Line (letter line) (length (numbers line)) = sym e ∙ right.0 in
-        let letters : first ≡ letter line = cc in
-        let counts : count ≡ length (numbers line) = cc in
-        rw (yes, letters, counts, right.1, take_put lent' (numbers line))
-
-    pub line_responds : {s s' : Stores} {response : Response} → Serving first (take count numbers') s s' response → Responding line s s' response
-    line_responds {s} m = record { answers = λ t held. rw (line_read (lent s) t) at (m.answers t held) }
+  pub line_responds : {s s' : Stores} {response : Response} → Serving (letter_of parsed.kind) (take parsed.count numbers') s s' response → Responding line s s' response
+  line_responds {s} m = record { answers = λ t held. rw (line_read (lent s) t) at (m.answers t held) }
 
 -- A line is answered after the first bytes of a text. For every table that the stores hold before, the text and the table after are
 -- those that `line_result` defines.

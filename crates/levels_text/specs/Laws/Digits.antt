@@ -37,7 +37,7 @@ module _ (bytes : List ℕ) where
   unfolding is_decimal
   too_large h = rw (lt-leb (value_from 0 bytes) 4294967295 h, and-false (all digit bytes && ltb 0 (length bytes) && (eqb (length bytes) 1 || not (eqb (get_or bytes 0 0) 48))))
 
-  leading_zero : 1 < length bytes → get_or bytes 0 0 ≡ 48 → is_decimal bytes ≡ false
+  pub leading_zero : 1 < length bytes → get_or bytes 0 0 ≡ 48 → is_decimal bytes ≡ false
   unfolding is_decimal
   leading_zero long zero =
       let many : length bytes ≡ 1 → ⊥ = λ e. omega arith in

@@ -3,6 +3,7 @@ use Rattle.std.specs.Prelude.{ℕ, ◌+◌, ◌*◌, ◌≤◌, ◌<◌, ◌≡�
 use Rattle.std.proofs.Common.{sym, ◌∙◌, append-nil, append_assoc, add-one, arith, length-append, take-append-drop, take-suc, take_all, take-suc-set, drop-set-lt, drop-drop}
 use Rattle.io.specs.Digits.{last_digits, IsDigitCount}
 use Rattle.lists.specs.Lists.{splice, flatten}
+use Rattle.lists.specs.Laws.Parts.{front_splice, drop_splice}
 use Rattle.levels_text.specs.Written.{field, text_line}
 use Rattle.levels_text.specs.Laws.Decimals.{decimal_digits, fields_more, fields_front, length_written}
 
@@ -23,6 +24,10 @@ module _ (text : List ℕ) (used : ℕ) where
         same = rw (add-one, take-suc-set text used byte inside);
         behind = drop-set-lt (used + 1) text used byte (omega arith);
       }
+
+  -- all bytes at once
+  pub appended_splice : (bytes : List ℕ) → used + length bytes ≤ length text → Appended text used bytes (splice text used bytes) (used + length bytes)
+  appended_splice bytes fits = record { counted = refl; same = front_splice text bytes used fits; behind = drop_splice text bytes used fits (used + length bytes) (omega arith) }
 
 -- two appends in sequence
 pub appended_then : {text text' text'' bytes more : List ℕ} {used end end' : ℕ}
@@ -78,33 +83,6 @@ appended_wrote room a = record { inside = omega (arith, a.counted); begins = a.s
 pub line_wrote : {text text' : List ℕ} (letter : ℕ) (numbers : List ℕ) {end : ℕ} → 11 * length numbers + 2 ≤ length text'
     → Appended text 0 (text_line letter numbers) text' end → Wrote (text_line letter numbers) text' end
 line_wrote letter numbers room a = appended_wrote (omega (arith, length_written letter numbers)) a
-
--- ---- byte by byte
-
--- loop invariant: the first i bytes are written
-pub record Putting (text : List ℕ) (used : ℕ) (bytes text' : List ℕ) (end i : ℕ) : Type 0 where
-  pub inside : i ≤ length bytes
-  pub same_length : length text' ≡ length text
-  pub counted : end ≡ used + i
-  pub put : Appended text used (take i bytes) text' end
-
-module _ (text : List ℕ) (used : ℕ) (bytes : List ℕ) where
-  pub putting_begin : Putting text used bytes text used 0
-  putting_begin = record { inside = omega arith; same_length = refl; counted = omega arith; put = appended_none text used }
-
-module _ {text : List ℕ} {used : ℕ} {bytes text' : List ℕ} {end i : ℕ} (v : Putting text used bytes text' end i) where
-  pub putting_again : {text'' : List ℕ} {end' : ℕ} → i < length bytes → length text'' ≡ length text'
-      → Appended text' end (get_or bytes i 0 ∷ []) text'' end' → Putting text used bytes text'' end' (i + 1)
-  putting_again less lent one =
-      record {
-        inside = omega arith;
-        same_length = lent ∙ v.same_length;
-        counted = omega (arith, one.counted, v.counted);
-        put = rw (add-one, take-suc bytes i 0 less) (appended_then v.put one);
-      }
-
-  pub putting_end : length bytes ≤ i → Appended text used bytes text' end
-  putting_end all = rw (take_all i bytes all) at v.put
 
 -- ---- number by number
 

@@ -1,24 +1,13 @@
 -- `levels_answer::dispatch::serve` meets its contract. Assumes nothing.
-use Rattle.levels_answer.proofs.Prelude.{arith, query_letters, staging_some, as_letter}
+use Rattle.levels_answer.proofs.Prelude.{ap, arith, form_by_row, form_open, form_range}
+use Rattle.levels_text.specs.Kinds.{letter_of}
 use Rattle.levels_answer.proofs.dispatch.serve.Goals as goal
 
-pub stage-requires : goal.stage-requires
-stage-requires c = let letters = c.in-73.is in record { fact = letters; in_bounds = staging_some _ c.requires letters }
+pub open_table-requires : goal.open_table-requires
+open_table-requires c = form_open _ _ (ap letter_of c.in-Open.is) c.requires
 
-pub remake-requires : goal.remake-requires
-remake-requires c = record { numbers_value = c.requires; fact = c.in-79.is }
+pub remove_row-requires : goal.remove_row-requires
+remove_row-requires c = omega (arith, form_by_row _ _ (ap letter_of c.in-RemoveRow.is) c.requires)
 
-pub query-requires : goal.query-requires
-query-requires c = record { numbers_value = c.requires; fact = query_letters _ c.requires (λ e. omega arith) (λ e. omega arith) (λ e. omega arith) }
-
-pub returns-in-73 : goal.returns-in-73
-returns-in-73 c = c.stage.ensures.serving _ _ _
-
-pub returns-in-77 : goal.returns-in-77
-returns-in-77 c = as_letter c.in-77.is (c.merge_pending.ensures.serving _)
-
-pub returns-in-79 : goal.returns-in-79
-returns-in-79 c = c.remake.ensures
-
-pub returns-in_default : goal.returns-in_default
-returns-in_default c = c.query.ensures.serving _ _ _
+pub query_range-requires : goal.query_range-requires
+query_range-requires c = form_range _ _ (ap letter_of c.in-Range.is) c.requires

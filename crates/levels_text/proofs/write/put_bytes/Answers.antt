@@ -1,11 +1,10 @@
-use Rattle.levels_text.proofs.Prelude.{rules, putting_begin, putting_again, putting_end}
+-- `levels_text::write::put_bytes` meets its contract. Assumes nothing.
+use Rattle.levels_text.proofs.Prelude.{◌+◌, ◌-◌, ◌≡◌, arith, length, drop-drop, appended_splice}
+use Rattle.lists.specs.Lists.{splice}
 use Rattle.levels_text.proofs.write.put_bytes.Goals as goal
 
-pub loop-i-init : goal.loop-i-init
-loop-i-init c = putting_begin _ _ _
-
-pub loop-i-preserved : goal.loop-i-preserved
-loop-i-preserved c = putting_again c.loop-i.invariant (search rules) (search rules) c.put-end.ensures
-
 pub returns : goal.returns
-returns c = putting_end c.loop-i.invariant (search rules)
+unfolding splice
+returns c =
+    let width : c.args.used + length c.args.bytes.now - c.args.used ≡ length c.args.bytes.now = omega arith in
+    rw (width, c.copy_from_slice.ensures.after, drop-drop (length c.args.bytes.now) c.args.used c.args.text.now) (appended_splice _ _ _ c.requires)

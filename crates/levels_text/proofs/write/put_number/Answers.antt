@@ -8,9 +8,9 @@ put-end-requires c = omega (arith, c.requires, field_some c.args.number)
 pub put_bytes-requires : goal.put_bytes-requires
 put_bytes-requires c =
     let d = c.decimal-count.ensures in
-    omega (arith, field_length (search rules) d.len d.digits, c.put-end.ensures.counted)
+    omega (arith, field_length (search rules) (rw c.from.ensures at d.len) (rw c.from.ensures at d.digits), c.put-end.ensures.counted)
 
 pub returns : goal.returns
 returns c =
     let d = c.decimal-count.ensures in
-    appended_number (search rules) d.len d.digits c.put-end.ensures c.put_bytes.ensures
+    appended_number (search rules) (rw c.from.ensures at d.len) (rw c.from.ensures at d.digits) c.put-end.ensures c.put_bytes.ensures
