@@ -1,12 +1,8 @@
 -- `merge_rules::larger` meets its contract. Assumes nothing.
-use Rattle.merge_rules.proofs.Prelude.{sym, ◌∙◌}
-use Rattle.merge_rules.specs.Rules.{larger}
+use Rattle.merge_rules.proofs.Prelude.{◌∙◌}
+use Rattle.merge_rules.proofs.Laws.{larger_law}
 use Rattle.merge_rules.proofs.larger.Goals as goal
 
-pub returns-then-signed_less : goal.returns-then-signed_less
-unfolding larger
-returns-then-signed_less c = simp (sym c.signed_less.ensures ∙ c.if-signed_less.true)
-
 pub returns : goal.returns
-unfolding larger
-returns c = simp (sym c.signed_less.ensures ∙ c.if-signed_less.false)
+returns c =
+    c.cast_unsigned.ensures ∙ larger_law c.args.a c.args.b c.ranges.a.fits c.ranges.b.fits _ _ _ c.cast_signed-2.ensures c.cast_signed.ensures c.max.ensures.value

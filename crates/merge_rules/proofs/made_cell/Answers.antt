@@ -12,6 +12,6 @@ pub returns-then-column-sort : goal.returns-then-column-sort
 returns-then-column-sort c =
     sym (cell_new _ _ _ _ _ _ (sym c.ruled_column.ensures ∙ c.if-ruled_column.false) c.if-column-sort.true)
 
-pub returns : goal.returns
-returns c =
+pub returns-else-column-sort : goal.returns-else-column-sort
+returns-else-column-sort c =
     sym (cell_old _ _ _ _ _ _ (sym c.ruled_column.ensures ∙ c.if-ruled_column.false) c.if-column-sort.false)

@@ -1,12 +1,8 @@
 -- `merge_rules::smaller` meets its contract. Assumes nothing.
-use Rattle.merge_rules.proofs.Prelude.{sym, ◌∙◌}
-use Rattle.merge_rules.specs.Rules.{smaller}
+use Rattle.merge_rules.proofs.Prelude.{◌∙◌}
+use Rattle.merge_rules.proofs.Laws.{smaller_law}
 use Rattle.merge_rules.proofs.smaller.Goals as goal
 
-pub returns-then-signed_less : goal.returns-then-signed_less
-unfolding smaller
-returns-then-signed_less c = simp (sym c.signed_less.ensures ∙ c.if-signed_less.true)
-
 pub returns : goal.returns
-unfolding smaller
-returns c = simp (sym c.signed_less.ensures ∙ c.if-signed_less.false)
+returns c =
+    c.cast_unsigned.ensures ∙ smaller_law c.args.a c.args.b c.ranges.a.fits c.ranges.b.fits _ _ _ c.cast_signed.ensures c.cast_signed-2.ensures c.min.ensures.value

@@ -7,7 +7,7 @@ returns-then-changes c =
     let a = c.args in
     new_survives a.rule a.keys a.sort a.width a.rows.now a.old a.pending.now a.new _ c.changes.ensures c.if-changes.true
 
-pub returns : goal.returns
-returns c =
+pub returns-else-changes : goal.returns-else-changes
+returns-else-changes c =
     let a = c.args in
     old_survives a.rule a.keys a.sort a.width a.rows.now a.old a.pending.now a.new _ c.changes.ensures c.if-changes.false

@@ -1,20 +1,24 @@
--- `merge_rules::taken` meets its contract. Each return rewrites by the tests that led there. Assumes nothing.
-use Rattle.merge_rules.proofs.Prelude.{eq-eqb, ne_eqb}
+-- `merge_rules::taken` meets its contract: one return for each rule. Assumes nothing.
+use Rattle.merge_rules.proofs.Prelude.{◌≢◌, arith, ne_eqb}
 use Rattle.merge_rules.specs.Rules.{taken}
 use Rattle.merge_rules.proofs.taken.Goals as goal
 
-pub returns-then-rule-eq-TAKE_NEW : goal.returns-then-rule-eq-TAKE_NEW
+pub returns-in-1 : goal.returns-in-1
 unfolding taken
-returns-then-rule-eq-TAKE_NEW c = simp (eq-eqb _ _ c.if-rule-eq-TAKE_NEW.true)
+returns-in-1 c = simp c.in-1.is
 
-pub returns-then-rule-eq-TAKE_SMALLER : goal.returns-then-rule-eq-TAKE_SMALLER
+pub returns-in-2 : goal.returns-in-2
 unfolding taken
-returns-then-rule-eq-TAKE_SMALLER c = simp (ne_eqb _ _ c.if-rule-eq-TAKE_NEW.false, eq-eqb _ _ c.if-rule-eq-TAKE_SMALLER.true, c.smaller.ensures)
+returns-in-2 c = simp (c.in-2.is, c.smaller.ensures)
 
-pub returns-then-rule-eq-TAKE_LARGER : goal.returns-then-rule-eq-TAKE_LARGER
+pub returns-in-3 : goal.returns-in-3
 unfolding taken
-returns-then-rule-eq-TAKE_LARGER c = simp (ne_eqb _ _ c.if-rule-eq-TAKE_NEW.false, ne_eqb _ _ c.if-rule-eq-TAKE_SMALLER.false, eq-eqb _ _ c.if-rule-eq-TAKE_LARGER.true, c.larger.ensures)
+returns-in-3 c = simp (c.in-3.is, c.larger.ensures)
 
-pub returns : goal.returns
+pub returns-in_default : goal.returns-in_default
 unfolding taken
-returns c = simp (ne_eqb _ _ c.if-rule-eq-TAKE_NEW.false, ne_eqb _ _ c.if-rule-eq-TAKE_SMALLER.false, ne_eqb _ _ c.if-rule-eq-TAKE_LARGER.false)
+returns-in_default c =
+    let one : c.args.rule ≢ 1 = omega arith in
+    let two : c.args.rule ≢ 2 = omega arith in
+    let three : c.args.rule ≢ 3 = omega arith in
+    simp (ne_eqb _ _ one, ne_eqb _ _ two, ne_eqb _ _ three)

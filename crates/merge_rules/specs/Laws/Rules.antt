@@ -1,6 +1,6 @@
 -- Laws of the rules: the cells of the resulting row, and what rules 0 and 1 are equal to. Assumes nothing.
 use Rattle.std.specs.Prelude.{◌+◌, ◌≤◌, ◌<◌, ◌≡◌, ◌&&◌, ◌∷◌}
-use Rattle.merge_rules.specs.Laws.Prelude.{ℕ, zero, suc, min, refl, sym, ap, ◌∙◌, inl, inr, Bool, true, false, cond, not, true≢false, List, [], none, some, add-zero, dec_lt, ℕ_discrete, arith, leb, eqb, lt_z, length, take, drop, get_or, length-take, length-drop, get_or-take, ext_get_or, eq-eqb, ne_eqb, le-leb, lt-leb, same, split, same_refl, same_ne}
+use Rattle.merge_rules.specs.Laws.Prelude.{ℕ, zero, suc, min, refl, sym, ap, ◌∙◌, inl, inr, Bool, true, false, cond, not, true≢false, List, [], none, some, add-zero, dec_lt, ℕ_discrete, arith, leb, eqb, lt_z, length, take, drop, get_or, length-take, get_or-take, ext_get_or, eq-eqb, ne_eqb, le-leb, lt-leb, same, split, same_refl, same_ne}
 use Rattle.merge_rules.specs.Rules.{ruled_column, signed, smaller, larger, taken, made_cell, made_from, changes_from, ruled, survivor}
 
 and-false : (b : Bool) → (b && false) ≡ false
