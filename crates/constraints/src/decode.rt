@@ -38,11 +38,8 @@ pub fn read_conditions(words: &[u32], count: usize) -> [Constraint; MOST_CONDITI
         value: 0,
     };
     let mut all = [none; MOST_CONDITIONS];
-    let mut i: usize = 0;
-    while i < count {
-        let c = read_condition(words, i);
-        all[i] = c;
-        i += 1;
+    for i in 0..count {
+        all[i] = read_condition(words, i);
     }
     all
 }

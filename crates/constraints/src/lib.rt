@@ -34,11 +34,7 @@ pub struct Constraint {
 fn cell(row: &[u32], column: u32) -> u32
     ensures { result ≡ get_or row.now column 0 }
 {
-    let at = column as usize;
-    if at < row.len() {
-        return row[at];
-    }
-    0
+    row.get(column as usize).copied().unwrap_or(0)
 }
 
 // The kind is one of the six, and the columns that it names exist.
@@ -48,21 +44,18 @@ pub fn known(c: Constraint, columns: u32) -> bool
     (c.kind <= AT_LEAST) & (c.column < columns) & ((c.kind != EQUAL_COLUMNS) | (c.value < columns))
 }
 
-// Compares a cell with another cell (kind 0) or with a value (kinds 1 to 5). At most is the negation of greater, and at least that
-// of less. So kinds 2 to 5 share one comparison, with its sides exchanged for two of them.
+// Compares a cell with another cell (kind 0) or with a value (kinds 1 to 5). A kind stays a number: C callers pass it, and others
+// than the six are refused by `known`.
 fn compares(kind: u32, cell: u32, other: u32) -> bool
     ensures { result ≡ cond (eqb kind 0) (eqb cell other) (rules.compares kind cell other) }
 {
-    if kind < LESS {
-        return cell == other;
+    match kind {
+        EQUAL_COLUMNS | EQUAL => cell == other,
+        LESS => cell < other,
+        GREATER => cell > other,
+        AT_MOST => cell <= other,
+        _ => cell >= other,
     }
-    let mut low = cell;
-    let mut high = other;
-    if (kind == GREATER) | (kind == AT_MOST) {
-        low = other;
-        high = cell;
-    }
-    (low < high) == (kind < AT_MOST)
 }
 
 // The cells of a row, dead or live, meet the condition.
@@ -70,10 +63,11 @@ pub fn met(c: Constraint, row: &[u32]) -> bool
     ensures { result ≡ rules.met row.now c }
 {
     let first = cell(row, c.column);
-    let mut other = c.value;
-    if c.kind == EQUAL_COLUMNS {
-        other = cell(row, c.value);
-    }
+    let other = if c.kind == EQUAL_COLUMNS {
+        cell(row, c.value)
+    } else {
+        c.value
+    };
     compares(c.kind, first, other)
 }
 
@@ -87,8 +81,5 @@ pub fn is_live(row: &[u32]) -> bool
 pub fn meets(c: Constraint, row: &[u32]) -> bool
     ensures { result ≡ rules.meets row.now (c ∷ []) }
 {
-    if is_live(row) {
-        return met(c, row);
-    }
-    false
+    is_live(row) && met(c, row)
 }
