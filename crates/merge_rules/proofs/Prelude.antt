@@ -1,9 +1,9 @@
 -- The names that the proofs of this crate take from elsewhere, re-exported. It defines nothing of its own.
-pub use Prim.Native.Nat.{◌%◌, ◌*◌, ◌+◌, ◌-◌, ◌<◌, ◌^◌, ◌≤◌, suc, ℕ}
+pub use Prim.Native.Nat.{◌+◌, ◌-◌, ◌<◌, ◌^◌, ◌≤◌, suc, ℕ}
 pub use mathlib.Core.Bool.{Bool, ◌&&◌, ◌||◌, false, not, true}
 pub use mathlib.Core.List.{List, [], ◌++◌, ◌∷◌}
-pub use mathlib.Core.Path.{◌∙◌, ◌≡◌, ap, ap₂, refl, sym}
-pub use native.Mathlib.Decide.{dec_le, dec_lt}
+pub use mathlib.Core.Path.{◌∙◌, ◌≡◌, ap₂, refl, sym}
+pub use native.Mathlib.Decide.{dec_le}
 pub use native.Mathlib.Nat.{zero-add}
 pub use native.Mathlib.Numerals.{add-one}
 pub use native.Mathlib.Omega.{arith}
