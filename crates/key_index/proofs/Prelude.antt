@@ -10,8 +10,7 @@ pub use borrow.Author.Tests.{eqb-false, eqb-true, le-leb, leb-false, leb-true, l
 pub use borrow.Author.Rules.{rules}
 pub use Rattle.key_index.specs.Laws.BackwardShift.{backward_shift_length, backward_shift_move, backward_shift_rest, backward_shift_spent, backward_shift_stay, backward_shift_stop, remove_row_sound}
 pub use Rattle.key_index.specs.inner.BackwardShift.{RowRemoved, Shifted, backward_shift}
-pub use Rattle.key_index.specs.inner.Window.{Ahead, has_bits, is_free, FreeSoon, TakenRun, OtherRun}
-unfoldable pub use Rattle.key_index.specs.inner.Window.{some_of}
+pub use Rattle.key_index.specs.inner.Window.{Ahead, FreeSoon, TakenRun, OtherRun}
 pub use Rattle.std.specs.Prelude.{None, Option, Some}
 pub use Rattle.key_index.specs.declared.Hit.{Hit}
 pub use Rattle.key_index.specs.inner.Index.{EmptyIs, FoundAt, FoundIs, HitIs, Leads, NewPutIs, PutIs, RowsFit, RowsIn, zeros}

@@ -1,6 +1,7 @@
--- The answers of `put`, one law for each return path, and the loop iterations of `empty`, each of which frees one slot. Assumes
--- nothing.
-use Rattle.key_index.proofs.Prelude.{ℕ, ◌+◌, ◌*◌, ◌≤◌, ◌<◌, ◌≡◌, refl, sym, ap, ◌∙◌, true, false, false≢true, List, [], ◌∷◌, arith, length, get_or, set, drop, length-replicate, replicate-append-replicate, drop-set-lt, splice, drop_splice, length_splice, splice_nil, splice_then, set_splice, slot_met, spread, tagged, PutIs, zeros, EmptyIs}
+-- The answers of `put`, one law for each return path, and those of `empty`. Assumes nothing.
+use Rattle.std.proofs.Common.{◌++◌}
+use Rattle.lists.specs.Lists.{splice}
+use Rattle.key_index.proofs.Prelude.{ℕ, ◌+◌, ◌*◌, ◌≤◌, ◌<◌, ◌≡◌, refl, sym, ap, ◌∙◌, true, false, false≢true, List, arith, length, get_or, set, drop, length-replicate, drop-set-lt, drop_splice, slot_met, spread, tagged, PutIs, zeros, EmptyIs}
 use Rattle.key_index.proofs.ScanSteps.{ScannedSlots}
 use Rattle.key_index.proofs.WindowSteps.{Taken}
 
@@ -25,21 +26,10 @@ module _ (n : ℕ) (store : List ℕ) (hash row : ℕ) where
           let m = slot_met n some (spread n hash) slot k in
           walk.each m.0 (omega (arith, m.1)) (rw m.2 z)
 
--- one more slot is made free
-pub empty_step : (store : List ℕ) (i : ℕ) → i < length store → set (splice store 0 (zeros i)) i 0 ≡ splice store 0 (zeros (i + 1))
-empty_step store i h =
-    let r : length (zeros i) ≡ i = length-replicate i 0 in
-    let f : 0 + length (zeros i) ≤ length store = omega arith in
-    let g : i < length (splice store 0 (zeros i)) = omega (arith, length_splice store (zeros i) 0 f) in
-    let k : 0 + (length (zeros i) + 1) ≤ length store = omega arith in
-    let e : 0 + length (zeros i) ≡ i = omega arith in
-    set_splice (splice store 0 (zeros i)) i 0 g
-    ∙ ap (λ (j : ℕ). splice (splice store 0 (zeros i)) j (0 ∷ [])) (sym e)
-    ∙ splice_then store (zeros i) (0 ∷ []) 0 k
-    ∙ ap (splice store 0) (replicate-append-replicate i 1 0)
-
-pub empty_begin : (store : List ℕ) → store ≡ splice store 0 (zeros 0)
-empty_begin store = sym (splice_nil store 0)
+-- zeros in front of the rest of a store
+pub front_zeros : (n : ℕ) (store : List ℕ) → zeros n ++ drop n store ≡ splice store 0 (zeros n)
+unfolding splice
+front_zeros n store = let e : 0 + length (zeros n) ≡ n = omega (arith, length-replicate {A = ℕ} n 0) in rw e refl
 
 pub empty_end : (room : ℕ) (store store' : List ℕ) → 2 * room ≤ length store → store' ≡ splice store 0 (zeros (2 * room))
     → EmptyIs room store store'

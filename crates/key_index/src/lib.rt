@@ -3,18 +3,19 @@
 // the contents of a store: a row number is validated before its cells are read, and every scan ends after one round.
 #![tactic(auto)]
 
-ghost use Rattle.std.specs.Prelude.{◌≡◌, ℕ, ◌+◌, ◌-◌, ◌/◌, ◌%◌, ◌^◌, ◌≤◌, ◌<◌, true, length, get_or, set};
+ghost use Rattle.std.specs.Prelude.{◌≡◌, ℕ, ◌+◌, ◌-◌, ◌/◌, ◌%◌, ◌^◌, ◌≤◌, ◌<◌, true, false, length, get_or, set};
 ghost use Rattle.cells.specs.Cells.{compact_hash, key_hash};
 ghost use Rattle.key_index.specs.Slots.{key_at, size_class, size_class_for, slots, slot_from};
 ghost use Rattle.key_index.specs.inner.Ring.{spread, tagged, names_row};
 ghost use Rattle.key_index.specs.inner.Index.{SlotsFit, RowsIn, Fits, RowsFit, HitIs, FoundIs, PutIs, NewPutIs, EmptyIs};
-ghost use Rattle.key_index.specs.inner.Window.{is_free, has_bits, some_of, Ahead, FreeSoon, TakenRun, OtherRun};
+ghost use Rattle.key_index.specs.inner.Window.{Ahead, FreeSoon, TakenRun, OtherRun};
 
 use row_buffer::row_start;
 
 pub mod remove; // remove.rt: a row removed by backward-shift deletion
 
-// The parameters of a key index. `room` is the number of rows that the slots in use are sized for; there are twice as many slots.
+// The parameters of a key index. `room` is the number of rows that the slots in use are sized for; there are twice as many slots. The
+// rows and the store are no fields: a lookup borrows the store, an insertion lends it mutably, and one struct cannot hold both.
 #[derive(Clone, Copy)]
 pub struct IndexShape {
     pub columns: u32,
@@ -47,7 +48,8 @@ const THIRD_CLASS: u32 = 2048;
 
 const FOURTH_CLASS: u32 = 8192;
 
-// The size class for this many rows, regardless of the capacity. The largest class is tested first.
+// The size class for this many rows, regardless of the capacity. The largest class is tested first. Not a `find` over an array of
+// the classes: tried, and the proof did not close.
 fn size_class(rows: u32) -> u32
     ensures { result ≡ size_class rows }
 {
@@ -70,11 +72,7 @@ fn size_class(rows: u32) -> u32
 pub fn size_class_for(capacity: u32, rows: u32) -> u32
     ensures { result ≡ size_class_for capacity rows }
 {
-    let step = size_class(rows);
-    if step < capacity {
-        return step;
-    }
-    capacity
+    size_class(rows).min(capacity)
 }
 
 // The home slot of a hash: the hash is multiplied by the number of slots and divided by 2^32. So any number of slots works without
@@ -145,62 +143,54 @@ pub fn is_hit(t: IndexShape, rows: &[u32], key: &[u32], hash: u32, word: u32) ->
     row_buffer::same_key(rows, at, key)
 }
 
-// The live row that has a key, and its slot.
-pub fn find(t: IndexShape, rows: &[u32], store: &[u32], key: &[u32], hash: u32) -> Option<Hit>
-    requires { (Fits t rows.now store.now) × (length key.now ≡ t.keys) }
-    ensures { FoundIs t rows.now store.now key.now hash result }
-{
-    let slots = 2 * t.room;
-    let mut at = home_slot(slots, hash);
-    let mut passed: u32 = 0;
-    while passed < slots {
-        let word = store[at as usize];
-        if word == 0 {
-            return None;
-        }
-        if is_hit(t, rows, key, hash, word) {
-            let row = word % ROW_RANGE - 1;
-            return Some(Hit { row, slot: at });
-        }
-        at = next_slot(slots, at);
-        passed += 1;
-    }
-    None
-}
-
 // The number of consecutive slots that are tested together. All of them are read, without an early return, so that the test compiles
 // to vector code and has no unpredictable branch.
 const WINDOW: usize = 8;
 
+// The slots of a long window. The compiler unrolls a loop over so many slots only in part, so that `put` remains short enough to be
+// inlined wherever it is called.
+const LONG_WINDOW: usize = 64;
+
 // A scan tries to skip whole windows each time it has passed this many slots. Most scans end before that.
 const LONG_SCAN: u32 = 16;
 
-// Whether one of a window's slots is free.
-fn some_free(store: &[u32], from: usize) -> bool
-    requires { from + 8 ≤ length store.now }
-    ensures { result ≡ some_of is_free store.now from 8 }
+// Whether one of a window's words passes a test.
+fn some_word<F: Fn(u32) -> bool>(window: &[u32], test: &F) -> bool
+    requires { F.IsAlwaysCallable test.now }
+    ensures some { result ≡ true → (k : ℕ) × (k < length window.now) × F.post test.now (get_or window.now k 0) true }
+    ensures none { result ≡ false → (k : ℕ) → k < length window.now → F.post test.now (get_or window.now k 0) false }
 {
     let mut some = false;
-    let mut i = 0;
-    while i < WINDOW {
-        some = some | (store[from + i] == 0);
-        i += 1;
+    for word in window {
+        some = some | test(*word);
     }
     some
 }
 
-// Whether one of a window's slots has these 15 bits.
-fn some_bits(store: &[u32], from: usize, bits: u32) -> bool
-    requires { from + 8 ≤ length store.now }
-    ensures { result ≡ some_of (has_bits bits) store.now from 8 }
+// The number of slots from `from` on, in whole windows of N, of which none passes a test. They are before the end of the ring.
+fn skip_windows<const N: usize, F: Fn(u32) -> bool>(
+    slots: u32,
+    store: &[u32],
+    from: u32,
+    test: F,
+) -> u32
+    requires window { 0 < N }
+    requires callable { F.IsAlwaysCallable test }
+    requires room { (from < slots) × (slots ≤ length store.now) }
+    ensures below { from + result < slots }
+    ensures each { (k : ℕ) → k < result → F.post test (get_or store.now (from + k) 0) false }
 {
-    let mut some = false;
-    let mut i = 0;
-    while i < WINDOW {
-        some = some | (store[from + i] / ROW_RANGE == bits);
-        i += 1;
+    let end = (slots - from) as usize;
+    let mut run = 0;
+    // No `for` over chunks: the last chunk must end before the ring does, so a range of starts is no plainer.
+    while N < end - run {
+        let at = from as usize + run;
+        if some_word(&store[at..at + N], &test) {
+            return run as u32;
+        }
+        run += N;
     }
-    some
+    run as u32
 }
 
 // The number of slots from `from` on, in whole windows, of which none is free and none has these 15 bits. They are before the end of
@@ -209,30 +199,27 @@ fn skip_other_keys(slots: u32, store: &[u32], from: u32, bits: u32) -> u32
     requires { (from < slots) × (slots ≤ length store.now) }
     ensures { OtherRun slots store.now from bits result }
 {
-    let end = (slots - from) as usize;
-    let mut run = 0;
-    while WINDOW < end - run {
-        let at = from as usize + run;
-        if some_bits(store, at, bits) {
-            return run as u32;
-        }
-        if some_free(store, at) {
-            return run as u32;
-        }
-        run += WINDOW;
-    }
-    run as u32
+    skip_windows::<WINDOW, _>(slots, store, from, |word| {
+        (word == 0) | (word / ROW_RANGE == bits)
+    })
 }
 
-// Same contract as `find`, but faster if it passes many slots: it then skips whole windows. Called by `look_up` alone: a longer `find`
-// would no longer be inlined beside it.
-fn find_far(t: IndexShape, rows: &[u32], store: &[u32], key: &[u32], hash: u32) -> Option<Hit>
+// The live row that has a key, and its slot. If FAR, the scan skips whole windows once it has passed many slots. `look_up` alone calls
+// that one: a longer `find` would no longer be inlined beside it.
+fn scan<const FAR: bool>(
+    t: IndexShape,
+    rows: &[u32],
+    store: &[u32],
+    key: &[u32],
+    hash: u32,
+) -> Option<Hit>
     requires { (Fits t rows.now store.now) × (length key.now ≡ t.keys) }
     ensures { FoundIs t rows.now store.now key.now hash result }
 {
     let slots = 2 * t.room;
     let mut at = home_slot(slots, hash);
     let mut passed: u32 = 0;
+    // No `for`: the count takes whole windows at once.
     while passed < slots {
         let word = store[at as usize];
         if word == 0 {
@@ -244,13 +231,21 @@ fn find_far(t: IndexShape, rows: &[u32], store: &[u32], key: &[u32], hash: u32) 
         }
         at = next_slot(slots, at);
         passed += 1;
-        if passed % LONG_SCAN == 0 {
+        if FAR && passed % LONG_SCAN == 0 {
             let run = skip_other_keys(slots, store, at, hash % HASH_RANGE);
             at += run;
             passed += run;
         }
     }
     None
+}
+
+// The live row that has a key, and its slot.
+pub fn find(t: IndexShape, rows: &[u32], store: &[u32], key: &[u32], hash: u32) -> Option<Hit>
+    requires { (Fits t rows.now store.now) × (length key.now ≡ t.keys) }
+    ensures { FoundIs t rows.now store.now key.now hash result }
+{
+    scan::<false>(t, rows, store, key, hash)
 }
 
 // Whether a probe that fails at the home slot reaches a free slot before any other slot with the hash's bits. Decided from the home
@@ -263,10 +258,12 @@ fn is_missing(slots: u32, store: &[u32], home: u32, hash: u32) -> bool
     if (slots as usize) - at <= WINDOW {
         return false;
     }
-    if some_bits(store, at + 1, hash % HASH_RANGE) {
+    let window = &store[at + 1..at + 1 + WINDOW];
+    let bits = hash % HASH_RANGE;
+    if some_word(window, &|word| word / ROW_RANGE == bits) {
         return false;
     }
-    if some_free(store, at + 1) {
+    if some_word(window, &|word| word == 0) {
         return true;
     }
     store[at] == 0
@@ -309,28 +306,43 @@ const NEAR_SLOTS: u32 = 4;
 
 const PAST_NEAR_SLOTS: u32 = NEAR_SLOTS + 1;
 
-// The distance from the home to the next slot with the hash's bits, if it is one of the next four; otherwise 5. Scans from the last
-// to the first, so that each step is a branch-free select. 0 if the slots would pass the end of the ring.
+// The smallest distance from `start`, from FIRST on and below END, of a slot that passes a test; END if there is none. Scans from the
+// last to the first, so that each step is a branch-free select. 0 if the slots would pass the end of the ring.
+fn nearest<const FIRST: u32, const END: u32, F: Fn(u32) -> bool>(
+    slots: u32,
+    store: &[u32],
+    start: u32,
+    test: F,
+) -> u32
+    requires callable { F.IsAlwaysCallable test }
+    requires room { (start < slots) × (slots ≤ length store.now) }
+    ensures below { start + result < slots }
+    ensures each { (k : ℕ) → FIRST ≤ k → k < result → F.post test (get_or store.now (start + k) 0) false }
+{
+    if slots - start <= END {
+        return 0;
+    }
+    let mut near = END;
+    for i in (FIRST..END).rev() {
+        if test(store[(start + i) as usize]) {
+            near = i;
+        }
+    }
+    near
+}
+
+// The distance from the home to the next slot with the hash's bits, if it is one of the next four; otherwise 5. 0 if the slots would
+// pass the end of the ring.
 fn bits_ahead(slots: u32, store: &[u32], home: u32, hash: u32) -> u32
     requires { (home < slots) × (slots ≤ length store.now) }
     ensures { Ahead slots store.now home hash result }
 {
-    if slots - home <= PAST_NEAR_SLOTS {
-        return 0;
-    }
-    let mut ahead: u32 = PAST_NEAR_SLOTS;
-    let mut i: u32 = PAST_NEAR_SLOTS;
-    while 1 < i {
-        i -= 1;
-        if store[(home + i) as usize] / ROW_RANGE == hash % HASH_RANGE {
-            ahead = i;
-        }
-    }
-    ahead
+    let bits = hash % HASH_RANGE;
+    nearest::<1, PAST_NEAR_SLOTS, _>(slots, store, home, |word| word / ROW_RANGE == bits)
 }
 
 // Same contract as `find`, but faster. Most rows are in their key's home slot. A window detects most keys that have no row. Most
-// other rows are in the next slot with their hash's bits. Otherwise falls back to `find_far`. Call it once in a library object: it is
+// other rows are in the next slot with their hash's bits. Otherwise falls back to the scan that skips windows. Call it once in a library object: it is
 // long, and the compiler inlines it only where it is called once.
 pub fn look_up(t: IndexShape, rows: &[u32], store: &[u32], key: &[u32], hash: u32) -> Option<Hit>
     requires { (Fits t rows.now store.now) × (length key.now ≡ t.keys) }
@@ -352,45 +364,15 @@ pub fn look_up(t: IndexShape, rows: &[u32], store: &[u32], key: &[u32], hash: u3
         let row = next % ROW_RANGE - 1;
         return Some(Hit { row, slot });
     }
-    find_far(t, rows, store, key, hash)
+    scan::<true>(t, rows, store, key, hash)
 }
 
-// The number of consecutive taken slots from `start` on, at most four. 0 if the four slots would pass the end of the ring. Scans
-// from the last to the first, so that each step is a branch-free select.
+// The number of consecutive taken slots from `start` on, at most four. 0 if the four slots would pass the end of the ring.
 fn taken_run(slots: u32, store: &[u32], start: u32) -> u32
     requires { (start < slots) × (slots ≤ length store.now) }
     ensures { TakenRun slots store.now start result }
 {
-    if slots - start <= NEAR_SLOTS {
-        return 0;
-    }
-    let mut run: u32 = NEAR_SLOTS;
-    let mut i: u32 = NEAR_SLOTS;
-    while 0 < i {
-        i -= 1;
-        if store[(start + i) as usize] == 0 {
-            run = i;
-        }
-    }
-    run
-}
-
-// The slots of a long window. The compiler unrolls a loop over so many slots only in part, so that `put` remains short enough to be
-// inlined wherever it is called.
-const LONG_WINDOW: usize = 64;
-
-// Whether one of a long window's slots is free.
-fn some_free_long(store: &[u32], from: usize) -> bool
-    requires { from + 64 ≤ length store.now }
-    ensures { result ≡ some_of is_free store.now from 64 }
-{
-    let mut some = false;
-    let mut i = 0;
-    while i < LONG_WINDOW {
-        some = some | (store[from + i] == 0);
-        i += 1;
-    }
-    some
+    nearest::<0, NEAR_SLOTS, _>(slots, store, start, |word| word == 0)
 }
 
 // The number of slots from `from` on, in whole long windows, of which none is free. They are before the end of the ring.
@@ -398,15 +380,7 @@ fn skip_taken(slots: u32, store: &[u32], from: u32) -> u32
     requires { (from < slots) × (slots ≤ length store.now) }
     ensures { TakenRun slots store.now from result }
 {
-    let end = (slots - from) as usize;
-    let mut run = 0;
-    while LONG_WINDOW < end - run {
-        if some_free_long(store, from as usize + run) {
-            return run as u32;
-        }
-        run += LONG_WINDOW;
-    }
-    run as u32
+    skip_windows::<LONG_WINDOW, _>(slots, store, from, |word| word == 0)
 }
 
 // Writes a new row to the first free slot from its key's home on. Returns false, and writes nothing, if there is none.
@@ -434,6 +408,7 @@ pub fn put(t: IndexShape, store: &mut [u32], hash: u32, row: u32) -> bool
     false
 }
 
+// Like `put`, but also reads the rows, so it is a loop of its own: `put` is inlined in hot loops, and must not test keys.
 // Writes a new row to the first free slot from its key's home on, unless a slot before it leads to a row with the key. Returns false,
 // and writes nothing, in that case, and if no slot is free.
 pub fn put_new(
@@ -483,10 +458,5 @@ pub fn empty(room: u32, store: &mut [u32])
     requires { SlotsFit room store.old }
     ensures { EmptyIs room store.old store.new }
 {
-    let slots = (2 * room) as usize;
-    let mut at = 0;
-    while at < slots {
-        store[at] = 0;
-        at += 1;
-    }
+    store[..(2 * room) as usize].fill(0);
 }

@@ -52,15 +52,13 @@ fn close_hole(t: IndexShape, rows: &[u32], store: &mut [u32], slot: u32) -> u32
     let mut held = store[slot as usize];
     let mut gap = 0;
     let mut at = slot;
-    let mut left = n;
-    while 0 < left {
+    for _ in 0..n {
         at = next_slot(n, at);
         let word = store[at as usize];
         if !names_row(t, word) {
             return hole;
         }
         gap += 1;
-        left -= 1;
         let moves = gap <= home_away(t, rows, word, at);
         held = select(moves, word, held);
         store[hole as usize] = held;

@@ -1,18 +1,9 @@
-use Rattle.key_index.proofs.Prelude.{arith}
-use Rattle.key_index.proofs.WindowSteps.{run_begin, run_ends, run_on, ahead_none, ahead_end}
+-- `key_index::bits_ahead` meets its contract. Assumes nothing.
+use Rattle.key_index.proofs.Prelude.{ℕ, ◌+◌, ◌/◌, ◌%◌, ◌^◌, ◌≤◌, ◌<◌, ◌≡◌, arith, rules, eqb, get_or, false, eqb-false}
 use Rattle.key_index.proofs.bits_ahead.Goals as goal
 
-pub returns-then-slots-home-le-PAST_NEAR_SLOTS : goal.returns-then-slots-home-le-PAST_NEAR_SLOTS
-returns-then-slots-home-le-PAST_NEAR_SLOTS c = ahead_none _ _ _ _ c.requires.0
-
-pub loop-i-init : goal.loop-i-init
-loop-i-init c = run_begin _ _ _ 5
-
-pub loop-i-preserved-then-store-home : goal.loop-i-preserved-then-store-home
-loop-i-preserved-then-store-home c = run_ends _ _ _ _ _ _ c.loop-i.invariant (omega (arith, c.loop-i-test.true))
-
-pub loop-i-preserved : goal.loop-i-preserved
-loop-i-preserved c = run_on _ _ _ _ _ _ c.loop-i.invariant (omega (arith, c.loop-i-test.true)) c.if-store-home.false
-
 pub returns : goal.returns
-returns c = ahead_end _ _ _ _ _ _ (omega arith) c.loop-i.invariant c.loop-i-test.false
+returns c =
+    let each : (k : ℕ) → 1 ≤ k → k < c.nearest.result → eqb (get_or c.args.store.now (c.args.home + k) 0 / 2 ^ 17) (c.args.hash % 2 ^ 15) ≡ false = λ k i h.
+    let e = c.nearest.ensures.each k i h in search rules in
+    record { below = c.nearest.ensures.below; others = λ k i h. let j : 1 ≤ k = omega arith in eqb-false _ _ (each k j h) }

@@ -60,4 +60,4 @@ returns-then-is_hit-2 c =
     found_row _ _ _ _ _ (few (goal.at.returns-then-is_hit-2 c).Start) _ _ _ w (c.is_hit-2.ensures.yes c.if-is_hit-2.true) (omega (arith, named_ahead (goal.at.returns-then-is_hit-2 c).Then-is_hit-2))
 
 pub returns : goal.returns
-returns c = c.find_far.ensures
+returns c = c.scan.ensures

@@ -1,19 +1,13 @@
-use Rattle.key_index.proofs.Prelude.{sym, ◌∙◌}
-use Rattle.key_index.proofs.WindowSteps.{other_none, other_more}
+-- `key_index::skip_other_keys` meets its contract. Assumes nothing.
+use Rattle.key_index.proofs.Prelude.{ℕ, ◌+◌, ◌/◌, ◌^◌, ◌<◌, ◌≡◌, ◌||◌, rules, eqb, get_or, false, eqb-false, or_no_left, or_no_right}
 use Rattle.key_index.proofs.skip_other_keys.Goals as goal
 
-pub loop-run-init : goal.loop-run-init
-loop-run-init c = other_none _ _ _ _ c.requires.0
-
-pub returns-then-some_bits : goal.returns-then-some_bits
-returns-then-some_bits c = c.loop-run.invariant
-
-pub returns-then-some_free : goal.returns-then-some_free
-returns-then-some_free c = c.loop-run.invariant
-
-pub loop-run-preserved : goal.loop-run-preserved
-loop-run-preserved c =
-    other_more _ _ _ _ _ c.loop-run.invariant c.loop-run-test.true (sym c.some_free.ensures ∙ c.if-some_free.false) (sym c.some_bits.ensures ∙ c.if-some_bits.false)
-
 pub returns : goal.returns
-returns c = c.loop-run.invariant
+returns c =
+    let each : (k : ℕ) → k < c.skip_windows.result
+    → (eqb (get_or c.args.store.now (c.args.from + k) 0) 0 || eqb (get_or c.args.store.now (c.args.from + k) 0 / 2 ^ 17) c.args.bits) ≡ false = λ k h.
+    let e = c.skip_windows.ensures.each k h in search rules in
+    record {
+      taken = record { below = c.skip_windows.ensures.below; each = λ k h. eqb-false _ 0 (or_no_left _ _ (each k h)) };
+      others = λ k h. eqb-false _ _ (or_no_right (eqb (get_or c.args.store.now (c.args.from + k) 0) 0) _ (each k h));
+    }

@@ -1,18 +1,10 @@
-use Rattle.key_index.proofs.Prelude.{arith}
-use Rattle.key_index.proofs.WindowSteps.{run_begin, run_ends, run_on, taken_none, taken_end}
+-- `key_index::taken_run` meets its contract. Assumes nothing.
+use Rattle.key_index.proofs.Prelude.{ℕ, ◌+◌, ◌≤◌, ◌<◌, ◌≡◌, arith, rules, eqb, get_or, false, eqb-false}
 use Rattle.key_index.proofs.taken_run.Goals as goal
 
-pub returns-then-slots-start-le-NEAR_SLOTS : goal.returns-then-slots-start-le-NEAR_SLOTS
-returns-then-slots-start-le-NEAR_SLOTS c = taken_none _ _ _ c.requires.0
-
-pub loop-i-init : goal.loop-i-init
-loop-i-init c = run_begin _ _ _ 4
-
-pub loop-i-preserved-then-store-start-eq0 : goal.loop-i-preserved-then-store-start-eq0
-loop-i-preserved-then-store-start-eq0 c = run_ends _ _ _ _ _ _ c.loop-i.invariant c.loop-i-test.true
-
-pub loop-i-preserved : goal.loop-i-preserved
-loop-i-preserved c = run_on _ _ _ _ _ _ c.loop-i.invariant c.loop-i-test.true c.if-store-start-eq0.false
-
 pub returns : goal.returns
-returns c = taken_end _ _ _ _ _ (omega arith) c.loop-i.invariant c.loop-i-test.false
+returns c =
+    let each : (k : ℕ) → k < c.nearest.result → eqb (get_or c.args.store.now (c.args.start + k) 0) 0 ≡ false = λ k h.
+    let i : 0 ≤ k = omega arith in
+    let e = c.nearest.ensures.each k i h in search rules in
+    record { below = c.nearest.ensures.below; each = λ k h. eqb-false _ 0 (each k h) }

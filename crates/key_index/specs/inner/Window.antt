@@ -1,17 +1,5 @@
--- Tests of several slots at once, without an early return. Assumes nothing.
-use Rattle.std.specs.Prelude.{ℕ, zero, suc, ◌+◌, ◌/◌, ◌%◌, ◌^◌, ◌<◌, ◌≡◌, Bool, false, ◌||◌, List, eqb, get_or}
-
--- a word is that of a free slot; a word has these 15 bits of a hash
-abbrev pub is_free : ℕ → Bool
-is_free w = eqb w 0
-
-abbrev pub has_bits : ℕ → ℕ → Bool
-has_bits bits w = eqb (w / 2 ^ 17) bits
-
--- one of the n slots from `from` on passes the test
-unfoldable pub some_of : (ℕ → Bool) → List ℕ → ℕ → ℕ → Bool
-some_of test store from zero = false
-some_of test store from (suc n) = some_of test store from n || test (get_or store (from + n) 0)
+-- What tests of several slots at once show. Assumes nothing.
+use Rattle.std.specs.Prelude.{ℕ, ◌+◌, ◌/◌, ◌%◌, ◌^◌, ◌<◌, ◌≡◌, List, get_or}
 
 -- the slot d after a hash's home is before the end of the ring, and no slot between the two has the hash's bits
 pub record Ahead (n : ℕ) (store : List ℕ) (home hash d : ℕ) : Type 0 where

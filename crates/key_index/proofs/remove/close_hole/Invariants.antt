@@ -1,9 +1,7 @@
 -- `key_index::remove::close_hole` meets its contract. Assumes nothing.
+use Rattle.key_index.proofs.Prelude.{◌-◌}
 use Rattle.key_index.proofs.ShiftSteps.{ShiftInvariant}
 use Rattle.key_index.proofs.remove.close_hole.Given as goal
 
-abbrev pub invariant-loop-left : goal.invariant-loop-left
-invariant-loop-left l = ShiftInvariant l.t l.rows l.initial.store l.slot l.store l.hole l.held l.gap l.at l.left
-
-abbrev pub decreases-loop-left : goal.decreases-loop-left
-decreases-loop-left l = l.left
+abbrev pub invariant-loop : goal.invariant-loop
+invariant-loop l = ShiftInvariant l.t l.rows l.initial.store l.slot l.store l.hole l.held l.gap l.at (l.n - l.counter)
