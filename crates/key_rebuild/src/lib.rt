@@ -30,10 +30,8 @@ pub fn rebuild(t: IndexShape, rows: &[u32], store: &mut [u32])
     ensures { Rebuilt t rows.now store.old store.new }
 {
     key_index::empty(t.room, store);
-    let mut row: u32 = 0;
-    while row < t.rows {
+    for row in 0..t.rows {
         put_row(t, rows, store, row);
-        row += 1;
     }
 }
 
@@ -60,12 +58,10 @@ pub fn build_unique(t: IndexShape, rows: &[u32], store: &mut [u32]) -> bool
     ensures { UniqueBuilt t rows.now result store.new }
 {
     key_index::empty(t.room, store);
-    let mut row: u32 = 0;
-    while row < t.rows {
+    for row in 0..t.rows {
         if !put_new_row(t, rows, store, row) {
             return false;
         }
-        row += 1;
     }
     true
 }

@@ -38,11 +38,9 @@ fn half_bits(store: &[u32], from: usize) -> u32
     ensures { result ≡ bitmap_word (other_at store.now from 1 0) 32 }
 {
     let mut word: u32 = 0;
-    let mut place: u32 = 0;
-    while place < HALF {
+    for place in 0..HALF {
         let slot = store[from + place as usize];
         let bit = 1u32 << place;
-        place += 1;
         if slot != 0 {
             word += bit;
         }
@@ -90,6 +88,7 @@ pub fn renumber(t: IndexShape, store: &mut [u32], live: &[u64], base: &[u32])
 {
     let n = 2 * t.room;
     let mut at: u32 = 0;
+    // No `for`: each turn goes on by a block, and the last block may be shorter.
     while at < n {
         let count = block(n - at);
         renumber_block(t, store, at, count, live, base);
