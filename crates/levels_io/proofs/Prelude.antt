@@ -4,7 +4,7 @@ pub use mathlib.Core.Logic.{inl, inr}
 pub use mathlib.Core.Path.{refl}
 pub use native.Mathlib.Omega.{arith}
 pub use lib.IntN.{pos}
-pub use lib.ListN.{length-take}
+pub use lib.ListN.{length-drop, length-take}
 pub use borrow.Author.Rules.{rules}
-pub use Rattle.levels_io.specs.inner.Scanning.{Scanning, left, pushed_full, pushed_one, scanning_again, scanning_begin, scanning_end, scanning_newline}
+pub use Rattle.levels_io.specs.inner.Scanning.{left, scanned_all, scanned_newline, stored_part}
 pub use Rattle.levels_io.specs.inner.Taking.{line_taken, refilled, refilled_first}

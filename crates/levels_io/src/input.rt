@@ -1,21 +1,27 @@
 // Lines of standard input, extracted from the chunks that reads return.
-ghost use Rattle.std.specs.Prelude.{◌-◌, ◌≤◌, ◌<◌, ◌≡◌, [], ◌∷◌, length as len, take, drop};
+ghost use Rattle.std.specs.Prelude.{◌-◌, ◌≤◌, ◌<◌, ◌≡◌, ◌==◌, [], length as len, take, drop, position};
 ghost use Rattle.levels_io.specs.Input.{bytes_read, unread};
 ghost use Rattle.levels_io.specs.inner.Scanning.{Pushed, Scanned, InputIn};
 ghost use Rattle.levels_io.specs.inner.Taking.{Moved, Refilled, EndTested, LineTaken};
 
 use std::io::{Read, Stdin};
 
-// Stores one more byte of the line, if there is room. Returns the new length.
-fn push(line: &mut [u8], length: usize, byte: u8) -> usize
+// Stores bytes of the line behind its first `length`, as far as there is room. Returns the new length.
+fn store(line: &mut [u8], length: usize, bytes: &[u8]) -> usize
     requires { length ≤ len line.old }
-    ensures { Pushed line.old length (byte ∷ []) line.new result }
+    ensures { Pushed line.old length bytes.now line.new result }
 {
-    if length == line.len() {
-        return length;
-    }
-    line[length] = byte;
-    length + 1
+    let kept = bytes.len().min(line.len() - length);
+    let end = length + kept;
+    line[length..end].copy_from_slice(&bytes[..kept]);
+    end
+}
+
+// The offset of the first newline.
+fn newline(bytes: &[u8]) -> Option<usize>
+    ensures { result ≡ position (λ byte. byte == 10) bytes.now }
+{
+    bytes.iter().position(|byte| *byte == b'\n')
 }
 
 // Result of `scan_chunk`: how many bytes of the line are stored, the offset after the bytes taken, and whether the line ended.
@@ -33,24 +39,18 @@ fn scan_chunk(line: &mut [u8], length: usize, chunk: &[u8], from: usize, end: us
     requires end_bound { end ≤ len chunk.now }
     ensures { Scanned line.old length (take (end - from) (drop from chunk.now)) from line.new result }
 {
-    let mut kept = length;
-    let mut at = from;
-    while at < end {
-        let byte = chunk[at];
-        at += 1;
-        if byte == b'\n' {
-            return ChunkScan {
-                length: kept,
-                next: at,
-                is_whole: true,
-            };
-        }
-        kept = push(line, kept, byte);
-    }
-    ChunkScan {
-        length: kept,
-        next: at,
-        is_whole: false,
+    let bytes = &chunk[from..end];
+    match newline(bytes) {
+        Some(count) => ChunkScan {
+            length: store(line, length, &bytes[..count]),
+            next: from + count + 1,
+            is_whole: true,
+        },
+        None => ChunkScan {
+            length: store(line, length, bytes),
+            next: end,
+            is_whole: false,
+        },
     }
 }
 
@@ -84,7 +84,7 @@ pub fn refill(stdin: Stdin, chunk: &mut [u8], input: Input) -> Input
     Input {
         next: 0,
         end: io::count(got, chunk),
-        got: got,
+        got,
         reads: input.reads - 1,
     }
 }
@@ -124,9 +124,7 @@ pub fn take_line(line: &mut [u8], length: usize, chunk: &[u8], input: Input) -> 
     requires input_in { InputIn chunk.now input }
     ensures { LineTaken line.old length chunk.now input line.new result }
 {
-    let from = input.next;
-    let end = input.end;
-    let found = scan_chunk(line, length, chunk, from, end);
+    let found = scan_chunk(line, length, chunk, input.next, input.end);
     let mut rest = input;
     rest.next = found.next;
     TakenLine {

@@ -19,7 +19,7 @@ fn write_bytes(stdout: Stdout, bytes: &[u8]) -> WriteResult
     let is_written = stdout.write_all(bytes).is_ok();
     WriteResult {
         count: bytes.len(),
-        is_written: is_written,
+        is_written,
     }
 }
 

@@ -12,7 +12,7 @@ use Rattle.levels_io.specs.declared.input.Input.{Input}
 use Rattle.levels_io.specs.declared.input.ChunkScan.{ChunkScan}
 use Rattle.levels_io.specs.declared.input.TakenLine.{TakenLine}
 use Rattle.levels_io.specs.Input.{bytes_read, unread, AtEnd, LineSoFar}
-use Rattle.levels_io.specs.inner.Scanning.{before_newline, Scanned, take_in, left, left_none, InputIn}
+use Rattle.levels_io.specs.inner.Scanning.{before_newline, newline_first, no_newline_whole, Scanned, take_in, left, left_none, InputIn}
 
 -- what a read of at most n bytes returns: how many it stored, or -1
 abbrev pub Moved : ℕ → ℤ → Type 0
@@ -92,26 +92,6 @@ no_newline_before (byte ∷ bytes) =
     elim (split (eqb byte 10)) [
       | inl e ↦ rw e
       | inr e ↦ rw (e, ne_eqb 10 byte (λ f. eqb-false byte 10 e (sym f))) (no_newline_before bytes)
-    ]
-
-newline_first : (bytes : List ℕ) → elem 10 bytes ≡ true → bytes ≡ before_newline bytes ++ (10 ∷ drop (suc (length (before_newline bytes))) bytes)
-unfolding before_newline elem
-newline_first [] e = absurd (false≢true e)
-newline_first (byte ∷ bytes) e =
-    elim (split (eqb byte 10)) [
-      | inl f ↦ rw f (ap (λ (x : ℕ). x ∷ bytes) (eqb-true byte 10 f))
-      | inr f ↦
-          let more : elem 10 bytes ≡ true = rw (ne_eqb 10 byte (λ g. eqb-false byte 10 f (sym g))) at e in
-          rw f (ap (λ (x : List ℕ). byte ∷ x) (newline_first bytes more))
-    ]
-
-no_newline_whole : (bytes : List ℕ) → elem 10 bytes ≡ false → before_newline bytes ≡ bytes
-unfolding before_newline elem
-no_newline_whole [] e = refl
-no_newline_whole (byte ∷ bytes) e =
-    elim (split (eqb 10 byte)) [
-      | inl f ↦ absurd (false≢true (sym (rw f at e)))
-      | inr f ↦ rw (ne_eqb byte 10 (λ g. eqb-false 10 byte f (sym g))) (ap (λ (x : List ℕ). byte ∷ x) (no_newline_whole bytes (rw f at e)))
     ]
 
 -- the bytes left after the first `k`
