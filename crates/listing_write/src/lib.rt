@@ -21,10 +21,8 @@ fn numbers_length(numbers: &[u32]) -> usize
     ensures { result ≡ length (flatten (map field numbers.now)) }
 {
     let mut total = 0;
-    let mut i = 0;
-    while i < numbers.len() {
-        total += number_length(numbers[i]);
-        i += 1;
+    for number in numbers {
+        total += number_length(*number);
     }
     total
 }
@@ -53,12 +51,10 @@ fn rows_length(numbered: bool, rows: &[u32], columns: usize, count: u32) -> usiz
 {
     let mut total = 0;
     let mut at = 0;
-    let mut number = 0;
-    while number < count {
+    for number in 0..count {
         let next = at + columns;
         total += row_length(numbered, number, &rows[at..next]);
         at = next;
-        number += 1;
     }
     total
 }
@@ -114,12 +110,10 @@ fn put_rows(
 {
     let mut end = used;
     let mut at = 0;
-    let mut number = 0;
-    while number < count {
+    for number in 0..count {
         let next = at + columns;
         end = put_row(text, end, numbered, number, &rows[at..next]);
         at = next;
-        number += 1;
     }
     end
 }
