@@ -1,6 +1,7 @@
 -- The encoding of headers, arguments and answers as fixed numbers of words, and the contract of a C function: the library's own
 -- contract, for an answer whose refusal number is returned and whose encoding is stored. Assumes nothing.
-use Rattle.std.specs.Prelude.{ℕ, ◌≡◌, Bool, true, false, cond, not, List, [], ◌∷◌, drop, get_or, leb, eqb}
+use Rattle.std.specs.Prelude.{ℕ, ◌≡◌, Bool, true, false, cond, not, List, [], ◌∷◌, drop, get_or, leb, eqb, Option as StdOption}
+use Rattle.std.specs.Bool.{then_some}
 use Rattle.std.proofs.Math.Option
 use Rattle.std.proofs.Math.Option.{Option, none, some, Option-elim}
 use Rattle.refusals.specs.Refusals.{Reply, refused, accepted, if_accepted}
@@ -8,10 +9,7 @@ use Rattle.offsets.specs.Subsets.{Subset, range, list}
 use Rattle.offsets.specs.declared.SubsetHead.{SubsetHead}
 use Rattle.offsets.specs.declared.SubsetAnswer.{SubsetAnswer}
 use Rattle.offsets.specs.declared.SubsetAnswer.TheVariants.{Refused as SubsetRefused, Range as SubsetRange, List as SubsetList}
-use Rattle.constraints.specs.declared.Constraint.{Constraint}
-use Rattle.plain_table.specs.Staged.{Opening, opening_in}
-use Rattle.table.specs.declared.Largest.{Largest}
-use Rattle.table.specs.declared.Largest.TheVariants.{None as NoLargest, Value}
+use Rattle.plain_table.specs.Staged.{opening_in}
 use Rattle.table.specs.declared.Header.{Header}
 use Rattle.table.specs.declared.Merge.{Merge}
 use Rattle.table.specs.declared.Version.{Version}
@@ -24,8 +22,8 @@ use Rattle.query_spec.specs.Queries.{PageResult}
 -- (`condition_in`).
 
 -- The largest sort value is two words: a flag, 0 or 1, and the value, which is not read if the flag is 0.
-unfoldable pub decode_largest : ℕ → ℕ → Largest
-decode_largest flag value = cond (eqb flag 1) (Value value) NoLargest
+unfoldable pub decode_largest : ℕ → ℕ → StdOption ℕ
+decode_largest flag value = then_some (eqb flag 1) value
 
 -- "header numbers outside their bounds": a flag that is neither 0 nor 1 makes a header without columns, which is refused with 1
 unfoldable pub decode_columns : ℕ → ℕ → ℕ

@@ -13,7 +13,7 @@ use offsets::{SubsetAnswer, SubsetHead};
 use query_spec::{MatchAnswer, NextPlace, PageAnswer};
 use refusals::ACCEPTED;
 use table::{
-    CellAnswer, Header, Largest, MergeAnswer, RangeAnswer, RowAnswer, SoundAnswer, TableAnswer,
+    CellAnswer, Header, MergeAnswer, RangeAnswer, RowAnswer, SoundAnswer, TableAnswer,
     VersionAnswer,
 };
 
@@ -21,13 +21,10 @@ pub mod places; // places.rt: the places of a header's and of an opening's words
 
 // ---- arguments
 
-fn decode_largest(flag: u32, value: u32) -> Largest
+fn decode_largest(flag: u32, value: u32) -> Option<u32>
     ensures { result ≡ decode_largest flag value }
 {
-    if flag == 1 {
-        return Largest::Value(value);
-    }
-    Largest::None
+    (flag == 1).then_some(value)
 }
 
 fn decode_columns(columns: u32, flag: u32) -> u32
@@ -88,12 +85,12 @@ pub fn encode_bool(answer: bool) -> u32
     0
 }
 
-fn encode_largest(largest: Largest) -> [u32; 2]
+fn encode_largest(largest: Option<u32>) -> [u32; 2]
     ensures { result ≡ encode_option (largest_view largest) }
 {
     match largest {
-        Largest::None => [0, 0],
-        Largest::Value(value) => [1, value],
+        None => [0, 0],
+        Some(value) => [1, value],
     }
 }
 

@@ -12,7 +12,7 @@ use listing_parse::{MOST_FIELDS, Survey, reread_line, scan_text};
 use query::loops::all_pass;
 use query_scan::Test;
 use refusals::{NO_LISTING, NO_SUCH_COLUMN};
-use table::{Header, Largest};
+use table::Header;
 
 // The numbers are right; or the number at this place is not above the one before; or this is the lowest row number that is wrongly
 // present or wrongly absent.
@@ -63,7 +63,7 @@ fn header_of(s: Survey) -> Header
         entries: 0,
         pending: 0,
         generation: s.generation,
-        largest: Largest::None,
+        largest: None,
     }
 }
 

@@ -8,7 +8,7 @@ ghost use Rattle.merge_insert.specs.inner.Appending.{Enterable, AdmissionIs, gro
 use refusals::{OLD_SORT_VALUE, TABLE_FULL};
 use row_buffer::row_start;
 use table::refusing::is_old;
-use table::{Header, Largest, index_shape};
+use table::{Header, index_shape};
 
 // The result of an insert of a merge: no change, a row appended, or the merge stopped with a number.
 #[derive(Clone, Copy)]
@@ -48,10 +48,8 @@ fn grown(h: Header, died: u32, entries: u32, value: u32) -> Header
     n.rows = h.rows + 1;
     n.dead = h.dead + died;
     n.entries = entries;
-    Header {
-        largest: Largest::Value(value),
-        ..n
-    }
+    n.largest = Some(value);
+    n
 }
 
 // Whether one more row needs more slots in the key store.

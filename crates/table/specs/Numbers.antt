@@ -1,11 +1,9 @@
 -- A header's numbers, and the view of each answer in the paper's terms. Assumes nothing.
-use Rattle.std.specs.Prelude.{ℕ, Bool}
+use Rattle.std.specs.Prelude.{ℕ, Bool, Option as StdOption, None, Some}
 use Rattle.std.proofs.Math.Option.{Option, none, some}
 use Rattle.refusals.specs.Refusals.{Reply, refused, accepted}
 use Rattle.offsets.specs.Subsets.{Subset, range}
 use Rattle.plain_table.specs.Staged.{Opening}
-use Rattle.table.specs.declared.Largest.{Largest}
-use Rattle.table.specs.declared.Largest.TheVariants.{None as NoLargest, Value}
 use Rattle.table.specs.declared.Header.{Header}
 use Rattle.table.specs.declared.TableAnswer.{TableAnswer}
 use Rattle.table.specs.declared.TableAnswer.TheVariants.{Refused as TableRefused, Table}
@@ -29,16 +27,16 @@ abbrev pub opening_of : Header → Opening
 opening_of h = record { columns = h.columns; keys = h.keys; sort = h.sort; rule = h.rule; capacity = h.capacity }
 
 -- the largest sort value appended, "and whether there is one": `largest_view` reads it from a header's field, `largest_of` makes that field
-unfoldable pub largest_view : Largest → Option ℕ
-largest_view NoLargest = none
-largest_view (Value v) = some v
+unfoldable pub largest_view : StdOption ℕ → Option ℕ
+largest_view None = none
+largest_view (Some v) = some v
 
-unfoldable pub largest_of : Option ℕ → Largest
-largest_of none = NoLargest
-largest_of (some v) = Value v
+unfoldable pub largest_of : Option ℕ → StdOption ℕ
+largest_of none = None
+largest_of (some v) = Some v
 
 -- a header of an opening's numbers, these counts and this largest value
-abbrev pub header : Opening → ℕ → ℕ → ℕ → ℕ → ℕ → Largest → Header
+abbrev pub header : Opening → ℕ → ℕ → ℕ → ℕ → ℕ → StdOption ℕ → Header
 header o rows dead entries pending generation largest =
     record {
       columns = o.columns;

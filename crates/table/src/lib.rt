@@ -11,15 +11,8 @@ use key_index::IndexShape;
 
 pub mod refusing; // refusing.rt: the refusals of each operation
 
-// The largest sort value appended since opening or the last clear that emptied rows, if there is one. No row with a smaller sort
-// value is appended.
-#[derive(Clone, Copy)]
-pub enum Largest {
-    None,
-    Value(u32),
-}
-
-// A table's numbers. Its stores are lent at each call.
+// A table's numbers. Its stores are lent at each call. `largest` is the largest sort value appended since opening or the last clear
+// that emptied rows, if there is one: no row with a smaller sort value is appended.
 #[derive(Clone, Copy)]
 pub struct Header {
     pub columns: u32,
@@ -32,7 +25,7 @@ pub struct Header {
     pub entries: u32,
     pub pending: u32,
     pub generation: u32,
-    pub largest: Largest,
+    pub largest: Option<u32>,
 }
 
 // The bounds of an opening's columns and rule. The bound of its capacity is `key_index` `MOST_ROWS`.

@@ -9,7 +9,7 @@ ghost use Rattle.table.specs.Refusing as rules;
 ghost use Rattle.table.specs.inner.Bounds.{bounds_kept};
 ghost use Rattle.table.specs.inner.Lent.{lengths_of};
 
-use super::{Header, LAST_RULE, Largest, Lent, MOST_COLUMNS};
+use super::{Header, LAST_RULE, Lent, MOST_COLUMNS};
 use constraints::Constraint;
 use key_index::MOST_ROWS;
 use refusals::{
@@ -129,11 +129,7 @@ fn is_words_short(h: Header, l: Lent) -> bool
 pub fn is_old(h: Header, value: u32) -> bool
     ensures { result ≡ below value (largest_view h.largest) }
 {
-    let largest = h.largest;
-    match largest {
-        Largest::None => false,
-        Largest::Value(last) => value < last,
-    }
+    h.largest.is_some_and(|last| value < last)
 }
 
 // *Open*, of a header with no rows.

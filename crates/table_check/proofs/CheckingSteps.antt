@@ -7,7 +7,7 @@ use Rattle.lists.specs.Lists.{all, count, row_at, rows_of}
 use Rattle.cells.specs.Cells.{is_dead, compact_hash, key_hash}
 use Rattle.plain_table.specs.Proper.{at_most}
 use Rattle.plain_table.specs.Staged.{Opening, Staged, words_of}
-use Rattle.table.specs.declared.Largest.TheVariants.{None as NoLargest, Value}
+use Rattle.std.specs.Prelude.{Option as StdOption, None, Some, MatchOption}
 use Rattle.table.specs.declared.SoundAnswer.TheVariants.{Refused, Sound as IsSound}
 use Rattle.table.specs.Numbers.{opening_of, largest_view, sound_view}
 use Rattle.key_check.specs.inner.Check.{KeyStoreSound}
@@ -58,14 +58,15 @@ module _ (h : Header) (sorts : List ℕ) where
       let e : 2 * h.entries - 2 ≡ 2 * (h.entries - 1) = omega arith in
       rw e (last_entries_of (λ v. at_most v (largest_view h.largest)) h.entries sorts (omega arith))
 
-  pub largest_missing : (h.entries ≡ 0 → ⊥) → h.largest ≡ NoLargest → false ≡ last_kept h sorts
+  compared : (largest : StdOption ℕ) (last : ℕ) (answer : Bool) (P : ℕ → Type 0) → MatchOption largest (answer ≡ false) P
+      → ((value : ℕ) → P value → answer ≡ leb last value) → answer ≡ at_most last (largest_view largest)
   unfolding at_most largest_view
-  largest_missing ne e = sym (last_here ne ∙ rw e)
+  compared None last answer P e f = e
+  compared (Some value) last answer P e f = f value e
 
-  pub largest_compared : (h.entries ≡ 0 → ⊥) → (v : ℕ) → h.largest ≡ Value v
-      → leb (get_or sorts (2 * h.entries - 2) 0) v ≡ last_kept h sorts
-  unfolding at_most largest_view
-  largest_compared ne v e = sym (last_here ne ∙ rw e)
+  pub largest_compared : (answer : Bool) → (h.entries ≡ 0 → ⊥) → (P : ℕ → Type 0) → MatchOption h.largest (answer ≡ false) P
+      → ((value : ℕ) → P value → answer ≡ leb (get_or sorts (2 * h.entries - 2) 0) value) → answer ≡ last_kept h sorts
+  largest_compared answer ne P e f = compared h.largest _ answer P e f ∙ sym (last_here ne)
 
 -- the answers of `rows_sound`
 module _ (h : Header) (rows sorts : List ℕ) where

@@ -14,7 +14,7 @@ ghost use Rattle.table_check.specs.inner.Checks.{dead_rows, last_kept, RowsSound
 use refusals::ACCEPTED;
 use row_buffer::row_start;
 use table::{
-    HASH_AT, Header, Largest, Lent, RECORD_HEAD, REMOVE_ROW, ROW_RECORD_HEAD, SoundAnswer, refusing,
+    HASH_AT, Header, Lent, RECORD_HEAD, REMOVE_ROW, ROW_RECORD_HEAD, SoundAnswer, refusing,
 };
 
 // The number of dead rows.
@@ -43,14 +43,8 @@ fn largest_sound(h: Header, sorts: &[u32]) -> bool
     if h.entries == 0 {
         return true;
     }
-    let largest = h.largest;
-    match largest {
-        Largest::None => false,
-        Largest::Value(value) => {
-            let at = (2 * h.entries - 2) as usize;
-            sorts[at] <= value
-        }
-    }
+    let last = sorts[(2 * h.entries - 2) as usize];
+    h.largest.is_some_and(|value| last <= value)
 }
 
 // Whether the dead count, the sort entries, the largest value and the live sort cells are sound.

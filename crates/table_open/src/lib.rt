@@ -7,7 +7,7 @@ ghost use Rattle.table.specs.Outcomes.{body, Opened, Clearing};
 
 use refusals::ACCEPTED;
 use table::refusing::{clear_refusal, open_refusal};
-use table::{Header, Largest, Lent, TableAnswer};
+use table::{Header, Lent, TableAnswer};
 
 // The header before the first opening. Every operation refuses it.
 pub fn no_table() -> Header
@@ -24,7 +24,7 @@ pub fn no_table() -> Header
         entries: 0,
         pending: 0,
         generation: 0,
-        largest: Largest::None,
+        largest: None,
     }
 }
 
@@ -44,17 +44,17 @@ pub fn open_table(
     ensures { Opened (record { columns = columns; keys = key_columns; sort = sort; rule = rule; capacity = capacity }) generation (body rows.now keys.old sorts.now) pending.now result keys.new }
 {
     let h = Header {
-        columns: columns,
+        columns,
         keys: key_columns,
-        sort: sort,
-        rule: rule,
-        capacity: capacity,
+        sort,
+        rule,
+        capacity,
         rows: 0,
         dead: 0,
         entries: 0,
         pending: 0,
-        generation: generation,
-        largest: Largest::None,
+        generation,
+        largest: None,
     };
     let l = Lent {
         rows: rows.len(),
@@ -90,8 +90,6 @@ pub fn clear(h: Header, keys: &mut [u32]) -> TableAnswer
     n.dead = 0;
     n.entries = 0;
     n.generation = h.generation + 1;
-    TableAnswer::Table(Header {
-        largest: Largest::None,
-        ..n
-    })
+    n.largest = None;
+    TableAnswer::Table(n)
 }

@@ -17,6 +17,6 @@ pub returns-in-None : goal.returns-in-None
 unfolding encode_option largest_view Option-elim
 returns-in-None c = rw c.in-None.is
 
-pub returns-in-Value : goal.returns-in-Value
+pub returns-in-Some : goal.returns-in-Some
 unfolding encode_option largest_view Option-elim
-returns-in-Value c = rw c.in-Value.is
+returns-in-Some c = rw c.in-Some.is

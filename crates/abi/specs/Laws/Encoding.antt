@@ -1,24 +1,22 @@
 -- Decoding a header inverts its encoding, a subset answer decodes to the subset that it is, and a flag above 1 is refused. Assumes
 -- nothing.
-use Rattle.std.specs.Prelude.{ℕ, ◌<◌, ◌≡◌, refl, Bool, true, false, List, get_or}
+use Rattle.std.specs.Prelude.{ℕ, ◌<◌, ◌≡◌, refl, Bool, true, false, List, get_or, Option, None, Some}
 use Rattle.std.proofs.Math.Option.{Option-elim}
 use Rattle.std.proofs.lemmas.Bool.{lt-leb}
 use Rattle.refusals.specs.Refusals.{Reply, if_accepted}
 use Rattle.offsets.specs.declared.SubsetHead.{SubsetHead}
 use Rattle.plain_table.specs.Staged.{Opening, openable}
-use Rattle.table.specs.declared.Largest.{Largest}
-use Rattle.table.specs.declared.Largest.TheVariants.{None as NoLargest, Value}
 use Rattle.table.specs.declared.Header.{Header}
 use Rattle.table.specs.Numbers.{opening_of, largest_view, header}
 use Rattle.table.specs.Refusing.{outside}
 use Rattle.abi.specs.Encoding.{decode_largest, decode_columns, decode_header, decode_subset, encode_option, encode_header, encode_subset, returned, Stored, Answers}
 
 -- by cases of the largest sort value
-numbers_decoded : (o : Opening) (rows dead entries pending generation : ℕ) (l : Largest)
+numbers_decoded : (o : Opening) (rows dead entries pending generation : ℕ) (l : Option ℕ)
     → decode_header (encode_header (header o rows dead entries pending generation l)) ≡ header o rows dead entries pending generation l
 unfolding decode_header encode_header encode_option largest_view decode_largest decode_columns Option-elim
-numbers_decoded o rows dead entries pending generation NoLargest = refl
-numbers_decoded o rows dead entries pending generation (Value v) = refl
+numbers_decoded o rows dead entries pending generation None = refl
+numbers_decoded o rows dead entries pending generation (Some v) = refl
 
 pub header_decoded : (h : Header) → decode_header (encode_header h) ≡ h
 header_decoded h = numbers_decoded (opening_of h) h.rows h.dead h.entries h.pending h.generation h.largest

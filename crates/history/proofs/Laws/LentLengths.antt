@@ -8,7 +8,7 @@ use Rattle.key_index.specs.Slots.{size_class, size_class_for}
 use Rattle.plain_table.specs.Staged.{Opening, openable, Staged, insert, remove_key, remove_row, words_of, words_all, inserts, compaction_due}
 use Rattle.plain_table.specs.Refusing.{Lengths, stores_short, words_short, open_refusal, compact_checks, merge_checks}
 use Rattle.plain_table.specs.Plain.{Plain, Row, dead, opened, removed, insert_all, applied, unstaged, compacts_after, merged}
-use Rattle.table.specs.declared.Largest.TheVariants.{None as NoLargest}
+use Rattle.std.specs.Prelude.{None}
 use Rattle.table.specs.declared.TableAnswer.TheVariants.{Refused as TableRefused, Table}
 use Rattle.table.specs.Numbers.{opening_of, largest_of, table_view, merge_view}
 use Rattle.table.specs.Refusing.{outside, pending_outside, merge_refusal, compact_refusal}
@@ -29,7 +29,7 @@ no_rows : (rows : List Row) → length rows ≡ 0 → rows ≡ []
 no_rows [] e = refl
 no_rows (row ∷ rows) e = absurd (omega arith)
 
-none_largest : (l : Option ℕ) → largest_of l ≡ NoLargest → l ≡ none
+none_largest : (l : Option ℕ) → largest_of l ≡ None → l ≡ none
 unfolding largest_of
 none_largest none e = refl
 none_largest (some v) e = absurd (let z : ◌≡◌ {A = ℕ} 0 1 = cc in omega arith)

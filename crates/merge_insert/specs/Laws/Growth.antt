@@ -1,7 +1,7 @@
 -- A row is appended to the rows of a plain table, of which one may have died: the stores after that, and that they represent the
 -- table with the row. Assumes nothing.
 use Rattle.std.specs.Prelude.{◌+◌, ◌*◌, ◌≤◌, ◌<◌, ◌≡◌, ◌∷◌, ◌++◌}
-use Rattle.merge_insert.specs.Laws.Prelude.{ℕ, refl, sym, ap, ap₂, ◌∙◌, true, cond, not, List, [], map, append-nil, map-append, add-zero, suc-mul, add-one, arith, length, take, drop, get_or, set, length-append, length-map, length-set, List·getD-append, drop-drop, drop-set-lt, count_append, length_splice, splice_start, row_in, length_rows_of, get_d_rows_of, rows_of_appended, flatten_rows_of, flatten_append, KeysSound, stale_rows, Entry, entries_of, entry_words, rebuilt, push, rebuilt_snoc, length_entries_of, Proper, row_of, no_row, live_row, live_below_lem, raised_same, openable_bounds, Header, Value, index_shape_of, Stores, stores, lengths, Represents, Later, Becomes, with_counts, Entered, grown_to, largest_view_largest_of, stored_again, long_stores, checked_rows_stored, represents_long, rows_stored, rows_counted, kill_at, length_kill_at, kill_at_cells, kill_at_live, entries_kill_at, stored_kill_at}
+use Rattle.merge_insert.specs.Laws.Prelude.{ℕ, refl, sym, ap, ap₂, ◌∙◌, true, cond, not, List, [], map, append-nil, map-append, add-zero, suc-mul, add-one, arith, length, take, drop, get_or, set, length-append, length-map, length-set, List·getD-append, drop-drop, drop-set-lt, count_append, length_splice, splice_start, row_in, length_rows_of, get_d_rows_of, rows_of_appended, flatten_rows_of, flatten_append, KeysSound, stale_rows, Entry, entries_of, entry_words, rebuilt, push, rebuilt_snoc, length_entries_of, Proper, row_of, no_row, live_row, live_below_lem, raised_same, openable_bounds, Header, Some, index_shape_of, Stores, stores, lengths, Represents, Later, Becomes, with_counts, Entered, grown_to, largest_view_largest_of, stored_again, long_stores, checked_rows_stored, represents_long, rows_stored, rows_counted, kill_at, length_kill_at, kill_at_cells, kill_at_live, entries_kill_at, stored_kill_at}
 use Rattle.lists.specs.Lists.{splice, count, rows_of, flatten}
 use Rattle.plain_table.specs.Plain.{Row, Plain, with_rows, with_row, dead}
 use Rattle.table.specs.Numbers.{largest_of}
@@ -163,12 +163,12 @@ module _ {p : Plain} {s : Stores} (r : Represents p s) {kept : List Row} {base :
     entries_grown = entered.entries ∙ sym grown_entries
 
     -- its sort value is the largest
-    grown_largest : Value (get_or cells s.header.sort 0) ≡ (header_of (with_row p kept cells)).largest
+    grown_largest : Some (get_or cells s.header.sort 0) ≡ (header_of (with_row p kept cells)).largest
     unfolding largest_of
     grown_largest =
         let value : ℕ = get_or cells p.opening.sort 0 in
         let above = rw (r.shown.header, largest_view_largest_of p.largest) at (free_above s.header (get_or cells s.header.sort 0) entered.free) in
-        rw r.shown.header (ap Value (sym (raised_same value p.largest above)))
+        rw r.shown.header (ap Some (sym (raised_same value p.largest above)))
 
     grown_header : grown_to s.header (dead (with_rows p kept)) n (get_or cells s.header.sort 0) ≡ header_of (with_row p kept cells)
     grown_header =

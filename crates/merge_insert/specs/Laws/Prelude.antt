@@ -29,5 +29,5 @@ pub use Rattle.table.proofs.Laws.Stored.{stored_again}
 pub use Rattle.table.specs.Numbers.{largest_view}
 pub use Rattle.table.specs.Sound.{index_shape_of}
 pub use Rattle.table.specs.declared.Header.{Header}
-pub use Rattle.table.specs.declared.Largest.TheVariants.{Value}
+pub use Rattle.std.specs.Prelude.{Some}
 pub use Rattle.table.specs.inner.FullIndexShape.{full_index_shape_of}

@@ -11,7 +11,7 @@ use Rattle.key_index.specs.inner.Index.{Fits, PutIs}
 use Rattle.key_rebuild.specs.inner.Rebuilding.{Rebuilt}
 use Rattle.plain_table.specs.Plain.{below}
 use Rattle.table.specs.declared.Header.{Header}
-use Rattle.table.specs.declared.Largest.TheVariants.{Value}
+use Rattle.std.specs.Prelude.{Some}
 use Rattle.table.specs.Numbers.{largest_view}
 use Rattle.merge_insert.specs.declared.append.Insertion.{Insertion}
 use Rattle.merge_insert.specs.declared.append.Insertion.TheVariants.{Unchanged, Appended, Stopped}
@@ -58,7 +58,7 @@ AdmissionIs h sorts value sorts' (Entries n) = Entered h sorts value n sorts'
 
 -- the header with one more row, this number of dead rows, this number of sort entries, and this sort value as the largest
 abbrev pub grown_to : Header → ℕ → ℕ → ℕ → Header
-grown_to h dead entries value = with_counts h (h.rows + 1) dead entries (Value value)
+grown_to h dead entries value = with_counts h (h.rows + 1) dead entries (Some value)
 
 -- one more row needs more slots in the key store
 unfoldable pub outgrown : Header → Bool

@@ -1,6 +1,6 @@
 -- Contracts of the parts of a merge: how the stores of one plain table become those of another, with every row cell and sort cell
 -- given, and where the remaining records are in the pending store. Assumes nothing.
-use Rattle.std.specs.Prelude.{ℕ, ◌+◌, ◌*◌, ◌≤◌, ◌<◌, ◌≡◌, Bool, true, List, [], ◌∷◌, length, take, drop, get_or, eqb}
+use Rattle.std.specs.Prelude.{ℕ, ◌+◌, ◌*◌, ◌≤◌, ◌<◌, ◌≡◌, Bool, true, List, [], ◌∷◌, length, take, drop, get_or, eqb, Option}
 use Rattle.lists.specs.Lists.{rows_of, filter}
 use Rattle.cells.specs.Cells.{compact_hash, key_hash}
 use Rattle.key_index.specs.inner.Index.{Fits}
@@ -8,7 +8,6 @@ use Rattle.plain_table.specs.Staged.{Opening, Staged, insert, remove_key, remove
 use Rattle.plain_table.specs.Plain.{Plain}
 use Rattle.plain_table.specs.Proper.{row_of}
 use Rattle.table.specs.declared.Header.{Header}
-use Rattle.table.specs.declared.Largest.{Largest}
 use Rattle.table.specs.Numbers.{opening_of, header}
 use Rattle.table.specs.Stores.{row_store, sort_store, Holds}
 use Rattle.table.specs.inner.FullIndexShape.{full_index_shape_of}
@@ -34,7 +33,7 @@ pub record Becomes (p p' : Plain) (s s' : Stores) : Type 0 where
 
 -- ---- headers and lent stores
 
-abbrev pub with_counts : Header → ℕ → ℕ → ℕ → Largest → Header
+abbrev pub with_counts : Header → ℕ → ℕ → ℕ → Option ℕ → Header
 with_counts h rows dead entries largest = header (opening_of h) rows dead entries h.pending h.generation largest
 
 abbrev pub with_dead : Header → ℕ → Header

@@ -7,7 +7,7 @@ use Rattle.sort_entries.specs.Entries.{entries_of, rebuilt_from, rebuilt}
 use Rattle.plain_table.specs.Staged.{Opening, openable, words_all}
 use Rattle.plain_table.specs.Plain.{Plain, dead, opened, unstaged, cleared}
 use Rattle.plain_table.specs.Refusing.{stores_short, open_refusal}
-use Rattle.table.specs.declared.Largest.TheVariants.{None as NoLargest}
+use Rattle.std.specs.Prelude.{None}
 use Rattle.table.specs.declared.TableAnswer.TheVariants.{Refused, Table}
 use Rattle.table.specs.Numbers.{opening_of, largest_of, table_view}
 use Rattle.table.specs.Stores.{entries, header_of, stored}
@@ -30,7 +30,7 @@ empty_header o generation =
       entries = 0;
       pending = 0;
       generation = generation;
-      largest = NoLargest;
+      largest = None;
     }
 
 pub header_opened : (o : Opening) (generation : ℕ) → empty_header o generation ≡ header_of (opened o generation)

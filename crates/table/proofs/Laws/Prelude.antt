@@ -45,7 +45,7 @@ pub use Rattle.table.specs.Sound.{KeysDiffer, Sound, index_shape_of}
 pub use Rattle.table.specs.Stores.{header_of, rows_in}
 pub use Rattle.table.specs.declared.CellAnswer.{CellAnswer}
 pub use Rattle.table.specs.declared.Header.{Header}
-pub use Rattle.table.specs.declared.Largest.{Largest}
+pub use Rattle.std.specs.Prelude.{Option as StdOption, None, Some}
 pub use Rattle.table.specs.declared.Merge.{Merge}
 pub use Rattle.table.specs.declared.MergeAnswer.{MergeAnswer}
 pub use Rattle.table.specs.declared.RangeAnswer.{RangeAnswer}
