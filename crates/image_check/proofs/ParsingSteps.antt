@@ -1,8 +1,7 @@
 -- The tests of an image one by one: what each way out of a function returns. Assumes nothing.
-use Rattle.image_check.proofs.Prelude.{ℕ, ◌+◌, ◌-◌, ◌*◌, ◌/◌, ◌%◌, ◌≤◌, ◌<◌, ◌≡◌, sym, ap, ◌∙◌, true, false, true≢false, List, ◌++◌, append-nil, mul-le-mul, arith, ltb, eqb, length, take, drop, get_or, length-drop, get_or-drop, get_or-take, drop-length, length-take-le, eqb-true, eqb-false, Decides, decides_yes, decides_no, crc32, bytes_of, Header, outside, outside_inside, reads_none, Layout, None, Image, filled_whole, filled_one, filled_two, filled_three, layout_in, passes_image, image_passes}
-use Rattle.lists.specs.Lists.{splice}
+use Rattle.image_check.proofs.Prelude.{ℕ, ◌+◌, ◌-◌, ◌*◌, ◌/◌, ◌%◌, ◌≤◌, ◌<◌, ◌≡◌, sym, ap, ◌∙◌, true, false, true≢false, List, mul-le-mul, arith, ltb, eqb, length, take, drop, get_or, length-drop, get_or-drop, get_or-take, length-take-le, eqb-true, eqb-false, Decides, decides_yes, decides_no, crc32, bytes_of, Header, outside, outside_inside, reads_none, Layout, None, Some, filled_whole, filled_one, filled_two, filled_three, layout_in, passes_image, image_passes}
 use Rattle.abi.specs.Encoding.{decode_header}
-use Rattle.image_check.specs.inner.Parsed.{header_in, layout_of, Placed, Words, Marked, Filled, Measured, Whole, Passes, IsAt, ParsedIs}
+use Rattle.image_check.specs.inner.Parsed.{header_in, layout_of, Placed, Words, Marked, Filled, Measured, Whole, Passes, ParsedIs}
 
 -- ---- `is_marked`
 
@@ -26,11 +25,6 @@ module _ (words : List ℕ) where
 
 -- ---- `header_in`
 
--- twelve words over twelve others
-twelve : (z v : List ℕ) → length z ≡ 12 → length v ≡ 12 → splice z 0 v ≡ v
-unfolding splice
-twelve z v e k = ap (λ (n : ℕ). v ++ drop (0 + n) z) k ∙ ap (λ (n : ℕ). v ++ drop n z) (sym e) ∙ ap (λ (x : List ℕ). v ++ x) (drop-length z) ∙ append-nil v
-
 -- a header is decoded from its twelve words
 of_twelve : (m : List ℕ) → decode_header (take 12 m) ≡ decode_header m
 unfolding decode_header
@@ -38,11 +32,9 @@ of_twelve m =
     let g : (i : ℕ) → i < 12 → get_or (take 12 m) i 0 ≡ get_or m i 0 = λ i h. get_or-take 12 m i 0 h in
     simp get_or-drop (rw (g 0 (omega arith), g 1 (omega arith), g 2 (omega arith), g 3 (omega arith), g 4 (omega arith), g 5 (omega arith), g 6 (omega arith), g 7 (omega arith), g 8 (omega arith), g 9 (omega arith), g 10 (omega arith), g 11 (omega arith)))
 
-pub header_of_lem : (z w e : List ℕ) → length z ≡ 12 → 16 ≤ length w → e ≡ splice z 0 (take 12 (drop 2 w)) → decode_header e ≡ header_in w
+pub header_of_lem : (w e : List ℕ) → e ≡ take 12 (drop 2 w) → decode_header e ≡ header_in w
 unfolding header_in
-header_of_lem z w e k h q =
-    let n : length (take 12 (drop 2 w)) ≡ 12 = length-take-le 12 (drop 2 w) (rw (length-drop 2 w) (omega arith)) in
-    ap decode_header (q ∙ twelve z (take 12 (drop 2 w)) k n) ∙ of_twelve (drop 2 w)
+header_of_lem w e q = ap decode_header q ∙ of_twelve (drop 2 w)
 
 -- ---- `layout_for`
 
@@ -114,18 +106,7 @@ module _ (words : List ℕ) (l : Layout) (long : 16 ≤ length words) (p : Place
 
 module _ (words : List ℕ) where
   pub parsed_none : (Passes words → ⊥) → ParsedIs words None
-  parsed_none f =
-      record {
-        no_image = λ _. reads_none (λ i p e. f (image_passes words i p e));
-        image = λ l q. absurd (let z : ◌≡◌ {A = ℕ} 0 1 = cc in omega arith);
-      }
-
-  parsed_image : (l : Layout) → IsAt words l → ParsedIs words (Image l)
-  parsed_image l t =
-      record {
-        no_image = λ q. absurd (let z : ◌≡◌ {A = ℕ} 0 1 = cc in omega arith);
-        image = λ m q. let e : l ≡ m = cc in rw (← e) t;
-      }
+  parsed_none f = reads_none (λ i p e. f (image_passes words i p e))
 
   module _ (h : Header) (header : h ≡ header_in words) where
     pub parsed_outside : outside h ≡ true → ParsedIs words None
@@ -138,12 +119,12 @@ module _ (words : List ℕ) where
       pub parsed_broken : (Whole words l → ⊥) → ParsedIs words None
       parsed_broken f = parsed_none (λ t. f (rw layout_there t.whole))
 
-      pub parsed_whole : 16 ≤ length words → Marked words → outside h ≡ false → get_or words 14 0 ≤ 4096 → Whole words l → ParsedIs words (Image l)
+      pub parsed_whole : 16 ≤ length words → Marked words → outside h ≡ false → get_or words 14 0 ≤ 4096 → Whole words l → ParsedIs words (Some l)
       parsed_whole long m inside few w =
-          parsed_image l (rw layout_there (passes_image words (record {
+          rw layout_there (passes_image words (record {
             long = long;
             marked = m;
             inside = ap outside (sym header) ∙ inside;
             few = few;
             whole = rw layout_there at w;
-          })))
+          }))

@@ -6,7 +6,7 @@ ghost use Rattle.image_spec.specs.Outcomes.{ImageChecked};
 ghost use Rattle.image_check.specs.inner.Parsed.{IsAt};
 ghost use Rattle.image_check.specs.inner.Decoding.{ContentsChecked, DecodingIs};
 
-use parse::{Layout, Parsed};
+use parse::Layout;
 use refusals::{NO_IMAGE, UNSOUND_IMAGE};
 use table::TableAnswer;
 
@@ -28,17 +28,14 @@ fn is_contents_sound(words: &[u32], l: Layout, slots: &mut [u32]) -> bool
     ensures { ContentsChecked words.now l result slots.new }
 {
     let h = l.header;
-    let rows = l.rows;
-    let sorts = l.sorts;
-    let pending = l.pending;
-    let end = l.end;
-    if !table_check::rows_sound(h, &words[rows..sorts], &words[sorts..pending]) {
+    let rows = &words[l.rows..l.sorts];
+    if !table_check::rows_sound(h, rows, &words[l.sorts..l.pending]) {
         return false;
     }
-    if !key_rebuild::build_unique(table::index_shape(h), &words[rows..sorts], slots) {
+    if !key_rebuild::build_unique(table::index_shape(h), rows, slots) {
         return false;
     }
-    table_check::pending_whole(h, &words[pending..end])
+    table_check::pending_whole(h, &words[l.pending..l.end])
 }
 
 // The layout of the image that words are: refuses with 19 if they are none, with 20 if its table is not sound. Builds the table's key
@@ -47,8 +44,7 @@ pub fn decode(words: &[u32], slots: &mut [u32]) -> Decoding
     requires { 131072 ≤ length slots.old }
     ensures { DecodingIs words.now result slots.new }
 {
-    let parsed = parse::parse(words);
-    let Parsed::Image(l) = parsed else {
+    let Some(l) = parse::parse(words) else {
         return Decoding::Refused(NO_IMAGE);
     };
     if !is_contents_sound(words, l, slots) {
@@ -62,12 +58,8 @@ pub fn check_image(words: &[u32]) -> TableAnswer
     ensures { ImageChecked words.now result }
 {
     let mut slots = [0u32; MOST_SLOTS];
-    let decoding = decode(words, &mut slots);
-    match decoding {
+    match decode(words, &mut slots) {
         Decoding::Refused(number) => TableAnswer::Refused(number),
-        Decoding::Sound(l) => {
-            let h = l.header;
-            TableAnswer::Table(h)
-        }
+        Decoding::Sound(l) => TableAnswer::Table(l.header),
     }
 }

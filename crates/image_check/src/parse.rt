@@ -7,8 +7,8 @@ ghost use Rattle.image_check.specs.inner.Parsed.{header_in, layout_of, Placed, M
 
 use abi::places;
 use image_spec::{
-    BYTE_RANGE, FIXED_WORDS, FORMAT, HEADER_AT, LAST_BYTE, LONGEST_TEXT, MAGIC, TEXT_AT,
-    TEXT_LENGTH_AT, THREE_BYTE_RANGE, TWO_BYTE_RANGE, WORD_BYTES,
+    BYTE_RANGE, FIXED_WORDS, FORMAT, HEADER_AT, LONGEST_TEXT, MAGIC, TEXT_AT, TEXT_LENGTH_AT,
+    THREE_BYTE_RANGE, TWO_BYTE_RANGE, WORD_BYTES,
 };
 use table::{Header, refusing};
 
@@ -17,10 +17,8 @@ const LARGEST_FLAG_AT: usize = HEADER_AT + places::LARGEST_FLAG;
 
 const LARGEST_VALUE_AT: usize = HEADER_AT + places::LARGEST_VALUE;
 
-// The bytes of a word of the text, and its last byte, as an image has the text's length.
+// The bytes of a word of the text, as an image has the text's length.
 const TEXT_WORD_BYTES: u32 = WORD_BYTES as u32;
-
-const LAST_TEXT_BYTE: u32 = LAST_BYTE as u32;
 
 // The parts of an image: its header, its text's length in bytes, and where rows, sort entries and pending words begin. Each
 // part ends where the next begins; the checksum is at `end`.
@@ -32,12 +30,6 @@ pub struct Layout {
     pub sorts: usize,
     pub pending: usize,
     pub end: usize,
-}
-
-#[derive(Clone, Copy)]
-pub enum Parsed {
-    None,
-    Image(Layout),
 }
 
 // Whether the magic number and the format are right, and the value beside a flag 0 is 0.
@@ -63,7 +55,7 @@ fn header_in(words: &[u32]) -> Header
     ensures { result ≡ header_in words.now }
 {
     let mut encoded = [0u32; places::HEADER_WORDS];
-    row_buffer::write_row(&mut encoded, 0, &words[HEADER_AT..TEXT_LENGTH_AT]);
+    encoded.copy_from_slice(&words[HEADER_AT..TEXT_LENGTH_AT]);
     abi::decode_header(&encoded)
 }
 
@@ -72,17 +64,17 @@ fn layout_for(h: Header, text: u32) -> Layout
     requires { (outside h ≡ false) × (text ≤ 4096) }
     ensures { result ≡ layout_of h text }
 {
-    let rows = TEXT_AT + ((text + LAST_TEXT_BYTE) / TEXT_WORD_BYTES) as usize;
+    let rows = TEXT_AT + text.div_ceil(TEXT_WORD_BYTES) as usize;
     let sorts = rows + (h.rows * h.columns) as usize;
     let pending = sorts + (2 * h.entries) as usize;
     let end = pending + h.pending as usize;
     Layout {
         header: h,
-        text: text,
-        rows: rows,
-        sorts: sorts,
-        pending: pending,
-        end: end,
+        text,
+        rows,
+        sorts,
+        pending,
+        end,
     }
 }
 
@@ -122,26 +114,26 @@ fn is_whole(words: &[u32], l: Layout) -> bool
 }
 
 // The layout of the image that words are, if they are one.
-pub fn parse(words: &[u32]) -> Parsed
+pub fn parse(words: &[u32]) -> Option<Layout>
     ensures { ParsedIs words.now result }
 {
     if words.len() < FIXED_WORDS {
-        return Parsed::None;
+        return None;
     }
     if !is_marked(words) {
-        return Parsed::None;
+        return None;
     }
     let h = header_in(words);
     if refusing::is_outside(h) {
-        return Parsed::None;
+        return None;
     }
     let text = words[TEXT_LENGTH_AT];
     if LONGEST_TEXT < text {
-        return Parsed::None;
+        return None;
     }
     let l = layout_for(h, text);
     if !is_whole(words, l) {
-        return Parsed::None;
+        return None;
     }
-    Parsed::Image(l)
+    Some(l)
 }

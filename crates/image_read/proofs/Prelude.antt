@@ -1,15 +1,14 @@
 -- The names that the proofs of this crate take from elsewhere, re-exported. It defines nothing of its own.
-pub use Prim.Native.Nat.{◌%◌, ◌*◌, ◌+◌, ◌-◌, ◌/◌, ◌<◌, ◌≤◌, suc, ℕ}
+pub use Prim.Native.Nat.{◌%◌, ◌*◌, ◌+◌, ◌-◌, ◌/◌, ◌<◌, ◌≤◌, suc, zero, ℕ}
 pub use mathlib.Core.Bool.{Bool, ◌||◌, false, true}
-pub use mathlib.Core.List.{List, [], ◌++◌, ◌∷◌}
+pub use mathlib.Core.List.{List, [], append-nil, ◌++◌, ◌∷◌}
 pub use mathlib.Core.Option.{Option, none, some}
 pub use mathlib.Core.Path.{◌∙◌, ◌≡◌, ap, refl, sym}
 pub use native.Mathlib.Nat.{mul-le-mul_right}
 pub use native.Mathlib.Omega.{arith}
 pub use lib.Dec.{ltb}
-pub use lib.ListN.{drop, get_or, length, length-drop, length-replicate, length-set, set, take}
+pub use lib.ListN.{drop, drop_of_length-le, get_or, length, length-drop, length-replicate, set, take}
 pub use lib.Seq.{drop-cons, get_or-drop, get_or-take, length-take-le, take-length}
-pub use borrow.Author.Rules.{rules}
 pub use borrow.Author.Tests.{eq-eqb, le-ltb, lt-ltb, ltb-false, ne_eqb}
 pub use Rattle.crc32.specs.Crc.{bytes_of}
 pub use Rattle.image_check.specs.declared.Decoding.{Decoding}

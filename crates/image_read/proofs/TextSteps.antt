@@ -1,5 +1,6 @@
 -- The steps of reading an image's text: one law for each way that a function returns. Assumes nothing.
-use Rattle.image_read.proofs.Prelude.{ℕ, suc, ◌+◌, ◌*◌, ◌/◌, ◌%◌, ◌≤◌, ◌<◌, ◌≡◌, refl, sym, ap, ◌∙◌, List, ◌∷◌, ◌++◌, none, some, arith, length, take, drop, get_or, set, length-drop, drop-cons, take-length, get_or-drop, get_or-take, length-take-le, lt-ltb, le-ltb, copy_step, bytes_of, Reads, Layout, bytes_cons, length_bytes, byte_of, text_length, TextIn}
+use Rattle.std.specs.Int.{to_le_bytes, w32}
+use Rattle.image_read.proofs.Prelude.{ℕ, zero, suc, ◌+◌, ◌*◌, ◌/◌, ◌%◌, ◌≤◌, ◌<◌, ◌≡◌, refl, sym, ap, ◌∙◌, List, [], ◌∷◌, ◌++◌, append-nil, none, some, arith, length, take, drop, get_or, set, length-drop, drop_of_length-le, drop-cons, take-length, get_or-drop, get_or-take, length-take-le, lt-ltb, le-ltb, copy_step, bytes_of, Reads, Layout, bytes_cons, length_bytes, byte_of, text_length, TextIn}
 use Rattle.lists.specs.Lists.{splice}
 use Rattle.refusals.specs.Refusals.{first_refusal, reply}
 use Rattle.image_spec.specs.declared.LengthAnswer.TheVariants.{Refused, Length}
@@ -8,6 +9,13 @@ use Rattle.image_check.specs.inner.Parsed.{image_in, IsAt}
 use mathlib.Core.Option.{Option-elim}
 
 -- ---- `byte_at`
+
+below_four : (P : ℕ → Type 0) → P 0 → P 1 → P 2 → P 3 → (r : ℕ) → r < 4 → P r
+below_four P a b c d zero h = a
+below_four P a b c d (suc zero) h = b
+below_four P a b c d (suc (suc zero)) h = c
+below_four P a b c d (suc (suc (suc zero))) h = d
+below_four P a b c d (suc (suc (suc (suc r)))) h = absurd (omega arith)
 
 module _ (words : List ℕ) (i : ℕ) (t : TextIn words (i + 1)) where
   here : bytes_of (drop (i / 4) (drop 15 words)) ≡ bytes_of (get_or words (15 + i / 4) 0 ∷ drop (suc (i / 4)) (drop 15 words))
@@ -20,17 +28,11 @@ module _ (words : List ℕ) (i : ℕ) (t : TextIn words (i + 1)) where
       let n : i ≡ 4 * (i / 4) + r = omega arith in
       ap (λ (m : ℕ). get_or (bytes_of (drop 15 words)) m 0) n ∙ byte_of (i / 4) r (drop 15 words) ∙ ap (λ (b : List ℕ). get_or b r 0) here
 
-  pub byte_first : i % 4 ≡ 0 → get_or words (15 + i / 4) 0 % 256 ≡ get_or (bytes_of (drop 15 words)) i 0
-  byte_first e = sym (at_place 0 e ∙ rw bytes_cons)
-
-  pub byte_second : i % 4 ≡ 1 → get_or words (15 + i / 4) 0 / 256 % 256 ≡ get_or (bytes_of (drop 15 words)) i 0
-  byte_second e = sym (at_place 1 e ∙ rw bytes_cons)
-
-  pub byte_third : i % 4 ≡ 2 → get_or words (15 + i / 4) 0 / 65536 % 256 ≡ get_or (bytes_of (drop 15 words)) i 0
-  byte_third e = sym (at_place 2 e ∙ rw bytes_cons)
-
-  pub byte_last : (i % 4 ≡ 0 → ⊥) → (i % 4 ≡ 1 → ⊥) → (i % 4 ≡ 2 → ⊥) → get_or words (15 + i / 4) 0 / 16777216 % 256 ≡ get_or (bytes_of (drop 15 words)) i 0
-  byte_last a b c = sym (at_place 3 (omega arith) ∙ rw bytes_cons)
+  pub byte_is : get_or (to_le_bytes w32 (get_or words (15 + i / 4) 0)) (i % 4) 0 ≡ get_or (bytes_of (drop 15 words)) i 0
+  byte_is =
+      below_four (λ (r : ℕ). i % 4 ≡ r → get_or (to_le_bytes w32 (get_or words (15 + i / 4) 0)) r 0 ≡ get_or (bytes_of (drop 15 words)) i 0)
+      (λ e. sym (at_place 0 e ∙ rw bytes_cons)) (λ e. sym (at_place 1 e ∙ rw bytes_cons)) (λ e. sym (at_place 2 e ∙ rw bytes_cons)) (λ e. sym (at_place 3 e ∙ rw bytes_cons))
+      (i % 4) (omega arith) refl
 
 -- ---- `write_text`
 
@@ -52,12 +54,16 @@ module _ (words : List ℕ) (count : ℕ) (t : TextIn words count) where
       let f : b ≡ get_or text i 0 = e ∙ sym (get_or-take count (bytes_of (drop 15 words)) i 0 k) in
       ap (λ (x : ℕ). set (take i text ++ drop i output) i x) f ∙ copy_step text output i 0 (omega (arith, count_is)) (omega arith)
 
-  pub text_end : (output : List ℕ) (i : ℕ) → i ≡ count → take i text ++ drop i output ≡ splice output 0 text
+  -- all bytes are
+  pub text_end : (output : List ℕ) (i : ℕ) (part : List ℕ) → count ≤ length output → i ≡ count → part ≡ take i text ++ drop i (take count output)
+      → part ++ drop count output ≡ splice output 0 text
   unfolding splice
-  text_end output i e =
+  text_end output i part long e p =
       let n : i ≡ length text = e ∙ sym count_is in
-      let m : 0 + length text ≡ length text = omega arith in
-      rw (n, m, take-length text)
+      let none_left : drop i (take count output) ≡ [] = drop_of_length-le (take count output) (omega (arith, length-take-le count output long)) in
+      let whole : part ≡ text = p ∙ rw (none_left, append-nil (take i text), n, take-length text) in
+      let m : 0 + length text ≡ count = omega (arith, count_is) in
+      rw (whole, m)
 
 -- ---- `read_text`
 

@@ -13,9 +13,9 @@ ghost use Rattle.image_check.specs.inner.Parsed.{part, IsAt};
 ghost use Rattle.image_check.specs.inner.Decoding.{SlotsBuilt};
 ghost use Rattle.image_read.specs.inner.Loading.{load_refusal, PartsFit, PartsWritten, Built, Loading, TextIn};
 
-use image_check::parse::{Layout, Parsed};
+use image_check::parse::{self, Layout};
 use image_check::{Decoding, MOST_SLOTS};
-use image_spec::{BYTE_RANGE, LengthAnswer, TEXT_AT, THREE_BYTE_RANGE, TWO_BYTE_RANGE, WORD_BYTES};
+use image_spec::{LengthAnswer, TEXT_AT, WORD_BYTES};
 use key_index::IndexShape;
 use refusals::{ACCEPTED, NO_IMAGE, OUT_OF_BOUNDS, TOO_SHORT};
 use table::{Header, Lent, TableAnswer, refusing};
@@ -29,9 +29,7 @@ fn with_capacity(h: Header, capacity: u32) -> Header
     if capacity == 0 {
         return h;
     }
-    let mut n = h;
-    n.capacity = capacity;
-    n
+    Header { capacity, ..h }
 }
 
 // The number of the first test that a header and the lengths of the lent stores fail; `ACCEPTED` if they pass all.
@@ -127,8 +125,7 @@ pub fn read_image(
     ensures { ImageRead words.now capacity (body rows.old keys.old sorts.old) pending.old result (body rows.new keys.new sorts.new) pending.new }
 {
     let mut slots = [0u32; MOST_SLOTS];
-    let decoding = image_check::decode(words, &mut slots);
-    match decoding {
+    match image_check::decode(words, &mut slots) {
         Decoding::Refused(number) => TableAnswer::Refused(number),
         Decoding::Sound(l) => load(words, l, &slots, capacity, rows, keys, sorts, pending),
     }
@@ -141,18 +138,7 @@ fn byte_at(words: &[u32], i: usize) -> u8
     requires { TextIn words.now (i + 1) }
     ensures { result ≡ get_or (bytes_of (drop 15 words.now)) i 0 }
 {
-    let word = words[TEXT_AT + i / WORD_BYTES];
-    let place = i % WORD_BYTES;
-    if place == 0 {
-        return (word % BYTE_RANGE) as u8;
-    }
-    if place == 1 {
-        return (word / BYTE_RANGE % BYTE_RANGE) as u8;
-    }
-    if place == 2 {
-        return (word / TWO_BYTE_RANGE % BYTE_RANGE) as u8;
-    }
-    (word / THREE_BYTE_RANGE % BYTE_RANGE) as u8
+    words[TEXT_AT + i / WORD_BYTES].to_le_bytes()[i % WORD_BYTES]
 }
 
 // Writes the first `count` bytes of an image's text at the start of the output.
@@ -160,10 +146,8 @@ fn write_text(words: &[u32], count: usize, output: &mut [u8])
     requires { TextIn words.now count × (count ≤ length output.old) }
     ensures { output.new ≡ splice output.old 0 (take count (bytes_of (drop 15 words.now))) }
 {
-    let mut i = 0;
-    while i < count {
-        output[i] = byte_at(words, i);
-        i += 1;
+    for (i, byte) in output[..count].iter_mut().enumerate() {
+        *byte = byte_at(words, i);
     }
 }
 
@@ -171,8 +155,7 @@ fn write_text(words: &[u32], count: usize, output: &mut [u8])
 pub fn read_text(words: &[u32], output: &mut [u8]) -> LengthAnswer
     ensures { TextRead words.now output.old result output.new }
 {
-    let parsed = image_check::parse::parse(words);
-    let Parsed::Image(l) = parsed else {
+    let Some(l) = parse::parse(words) else {
         return LengthAnswer::Refused(NO_IMAGE);
     };
     let count = l.text as usize;

@@ -20,10 +20,7 @@ pub const FIXED_WORDS: usize = 16;
 // The longest text, in bytes.
 pub const LONGEST_TEXT: u32 = 4096;
 
-// The bytes of a word, and its last byte. Adding the last before dividing by the number rounds up.
 pub const WORD_BYTES: usize = 4;
-
-pub const LAST_BYTE: usize = WORD_BYTES - 1;
 
 // A word of at most one byte, two bytes or three bytes is below these.
 pub const BYTE_RANGE: u32 = 0x100;

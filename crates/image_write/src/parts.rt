@@ -8,10 +8,7 @@ ghost use Rattle.image_write.specs.inner.Parts.{image_head, store_words, words_i
 
 use abi::encode_header;
 use crc32::crc_words;
-use image_spec::{
-    BYTE_RANGE, FORMAT, HEADER_AT, LAST_BYTE, MAGIC, TEXT_AT, TEXT_LENGTH_AT, THREE_BYTE_RANGE,
-    TWO_BYTE_RANGE, WORD_BYTES,
-};
+use image_spec::{FORMAT, HEADER_AT, MAGIC, TEXT_AT, TEXT_LENGTH_AT, WORD_BYTES};
 use row_buffer::write_row;
 use table::Header;
 
@@ -20,7 +17,7 @@ pub fn packed_length(bytes: usize) -> usize
     requires { bytes ≤ 4096 }
     ensures { result ≡ (bytes + 3) / 4 }
 {
-    (bytes + LAST_BYTE) / WORD_BYTES
+    bytes.div_ceil(WORD_BYTES)
 }
 
 // Writes the words before the text: "MGTB", the format's number, the header, the text's length in bytes.
@@ -39,10 +36,7 @@ fn write_head(h: Header, text: usize, output: &mut [u32])
 fn byte_at(text: &[u8], at: usize) -> u8
     ensures { result ≡ get_or text.now at 0 }
 {
-    if at < text.len() {
-        return text[at];
-    }
-    0
+    text.get(at).copied().unwrap_or(0)
 }
 
 // Returns a word of the text: four bytes, lowest first.
@@ -51,11 +45,12 @@ fn text_word(text: &[u8], word: usize) -> u32
     ensures { result ≡ get_or (packed text.now) word 0 }
 {
     let at = WORD_BYTES * word;
-    let a = byte_at(text, at) as u32;
-    let b = byte_at(text, at + 1) as u32;
-    let c = byte_at(text, at + 2) as u32;
-    let d = byte_at(text, at + 3) as u32;
-    a + BYTE_RANGE * b + TWO_BYTE_RANGE * c + THREE_BYTE_RANGE * d
+    u32::from_le_bytes([
+        byte_at(text, at),
+        byte_at(text, at + 1),
+        byte_at(text, at + 2),
+        byte_at(text, at + 3),
+    ])
 }
 
 // Writes the text.
@@ -64,10 +59,8 @@ fn write_text(text: &[u8], output: &mut [u32], at: usize)
     ensures { output.new ≡ splice output.old at (packed text.now) }
 {
     let words = packed_length(text.len());
-    let mut i = 0;
-    while i < words {
-        output[at + i] = text_word(text, i);
-        i += 1;
+    for (i, word) in output[at..at + words].iter_mut().enumerate() {
+        *word = text_word(text, i);
     }
 }
 

@@ -1,5 +1,5 @@
 -- What parsing an image promises: the tests that words pass, and the places of the parts. Assumes nothing.
-use Rattle.std.specs.Prelude.{ℕ, ◌+◌, ◌-◌, ◌*◌, ◌/◌, ◌≤◌, ◌<◌, ◌≡◌, false, List, length, take, drop, get_or}
+use Rattle.std.specs.Prelude.{ℕ, ◌+◌, ◌-◌, ◌*◌, ◌/◌, ◌≤◌, ◌<◌, ◌≡◌, false, List, Option, MatchOption, length, take, drop, get_or}
 use Rattle.std.proofs.Math.Option.{none, some}
 use Rattle.crc32.specs.Crc.{crc32, bytes_of}
 use Rattle.table.specs.declared.Header.{Header}
@@ -7,8 +7,6 @@ use Rattle.table.specs.Refusing.{outside}
 use Rattle.abi.specs.Encoding.{decode_header}
 use Rattle.image_spec.specs.Image.{Image, packed, Reads}
 use Rattle.image_check.specs.declared.parse.Layout.{Layout}
-use Rattle.image_check.specs.declared.parse.Parsed.{Parsed}
-use Rattle.image_check.specs.declared.parse.Parsed.TheVariants.{None, Image as IsImage}
 
 -- ---- the parts
 
@@ -96,6 +94,5 @@ pub record IsAt (words : List ℕ) (l : Layout) : Type 0 where
   pub counted : length words ≡ l.end + 1
   pub reads : Reads words (some (image_in words l))
 
-pub record ParsedIs (words : List ℕ) (r : Parsed) : Type 0 where
-  pub no_image : r ≡ None → Reads words none
-  pub image : (l : Layout) → r ≡ IsImage l → IsAt words l
+abbrev pub ParsedIs : List ℕ → Option Layout → Type 0
+ParsedIs words r = MatchOption r (Reads words none) (λ l. IsAt words l)

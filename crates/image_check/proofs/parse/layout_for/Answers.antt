@@ -22,4 +22,4 @@ pub overflow_add-end : goal.overflow_add-end
 overflow_add-end c = omega (arith, few c.args.h c.requires.0, c.struct_known-3-1.given)
 
 pub returns : goal.returns
-returns c = layout_is _ _ _ _ _ _ refl refl refl refl
+returns c = layout_is _ _ _ _ _ _ (omega (arith, c.div_ceil.ensures)) refl refl refl
