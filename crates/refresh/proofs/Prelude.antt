@@ -10,17 +10,17 @@ pub use native.Mathlib.Numerals.{add-one}
 pub use native.Mathlib.Omega.{arith}
 pub use lib.Bits.{and_le_r, bit_and}
 pub use lib.Count.{count_trailing_zeros}
-pub use lib.Dec.{eqb, leb, ltb}
+pub use lib.Dec.{leb, ltb}
 pub use lib.ListN.{drop, get_or, length, length-append, length-set, replicate, set, take}
-pub use lib.Seq.{length-take-le, take_all, take-set-lt, take-suc, take-take}
+pub use lib.Seq.{length-take-le, take-set-lt, take-take}
 pub use borrow.Author.Rules.{rules}
-pub use borrow.Author.Tests.{eq-eqb, eqb-true, le-leb, le-ltb, leb-true, lt-ltb, ltb-false, ltb-true, not-false, not-true}
+pub use borrow.Author.Tests.{eq-eqb, le-leb, le-ltb, leb-true, lt-ltb, ltb-false, ltb-true, not-false}
 pub use Rattle.bitmap.specs.Laws.Bitmaps.{bitmap_none, count_none, count_to_le, marked_few, marked_then, marked_weaker, summarised_none, word_bits}
 pub use Rattle.bitmap.specs.Laws.Lowest.{Next, bitmap_word_none, next_bit, no_more, onward, onward_all}
 pub use Rattle.bitmap.specs.inner.Bitmaps.{Bitmap, Marked, Summarised, bit_of}
 pub use Rattle.constraints.specs.Constraints.{is_live}
 pub use Rattle.key_index.specs.Laws.Places.{Inside, inside}
-pub use Rattle.lists.specs.Laws.All.{all_more, all_snoc, and_both, or_no_left, or_no_right, or_right}
+pub use Rattle.lists.specs.Laws.All.{all_snoc, and_both, or_no_left, or_no_right, or_right}
 pub use Rattle.lists.specs.Laws.Filter.{all_get_d, all_of, and_left, and_right, filter_append, split}
 pub use Rattle.lists.specs.Laws.Parts.{length_splice, part_width, splice_nil, splice_then}
 pub use Rattle.lists.specs.Laws.Rising.{iota_snoc}

@@ -12,7 +12,7 @@ pub use lib.Dec.{eqb}
 pub use lib.ListN.{drop, get_or, get_or-replicate, length, length-replicate, length-set, replicate, set, take}
 pub use lib.Seq.{drop-set-lt, get_or-set_other, get_or-set_same, get_or-take, length-take-le, take_all, take-set-le}
 pub use borrow.Author.Rules.{rules}
-pub use borrow.Author.Tests.{eq-eqb, eqb-true, le-leb, leb-false, leb-true, lt-leb, ltb-true, ne_eqb, not-false, not-true}
+pub use borrow.Author.Tests.{eq-eqb, eqb-true, le-leb, leb-false, leb-true, lt-leb, ltb-true, ne_eqb}
 pub use Rattle.bitmap.specs.Laws.Bitmaps.{bitmap_of, marked_few, marked_none, marked_one, marked_then, marked_weaker}
 pub use Rattle.bitmap.specs.inner.Bitmaps.{Marked, MarkedOne}
 pub use Rattle.constraints.specs.Constraints.{is_live}
@@ -27,7 +27,7 @@ pub use Rattle.lists.specs.Lists.{elem, row_at, splice}
 pub use Rattle.refresh_index.specs.Laws.Chains.{chain_above, chain_longer, chain_none, chain_on, pushed_keeps, pushed_own}
 pub use Rattle.refresh_index.specs.Laws.Found.{found_mentions, mentions_found}
 pub use Rattle.refresh_index.specs.Laws.Using.{Usable, usable_is, usable_of}
-pub use Rattle.refresh_index.specs.inner.Entries.{Emptied, Fillable, Pushed, Readable, heads_at}
+pub use Rattle.refresh_index.specs.inner.Entries.{Fillable, Pushed, Readable, heads_at}
 pub use Rattle.refresh_index.specs.inner.Marking.{MarkedAll, Noted}
 pub use Rattle.refresh_spec.specs.Index.{bucket_of, chain}
 pub use Rattle.refresh_spec.proofs.Laws.Fronts.{bucket_below, chain_same}
