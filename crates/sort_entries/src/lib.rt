@@ -161,12 +161,10 @@ pub fn entries_sound(sorts: &[u32], entries: u32, rows: u32) -> bool
     if row_from(sorts, entries, rows, 0) != 0 {
         return false;
     }
-    let mut i: u32 = 0;
-    while i < entries {
+    for i in 0..entries {
         if !entry_sound(sorts, entries, rows, i) {
             return false;
         }
-        i += 1;
     }
     true
 }
@@ -229,14 +227,12 @@ pub fn sort_cells_sound(
     ensures { result ≡ cells_sound store.now columns sort rows (entries_of entries sorts.now) }
 {
     let mut at: u32 = 0;
-    let mut row: u32 = 0;
-    while row < rows {
+    for row in 0..rows {
         at = advance(sorts, entries, at, row);
         let value = value_from(sorts, entries, at);
         if !cell_sound(store, columns, sort, rows, row, value) {
             return false;
         }
-        row += 1;
     }
     true
 }

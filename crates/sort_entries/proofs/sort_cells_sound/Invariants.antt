@@ -1,11 +1,7 @@
--- `sort_entries::sort_cells_sound` meets its contract. Loop invariant: the check that the remaining rows must pass. Measure: their
--- number. Assumes nothing.
-use Rattle.sort_entries.proofs.Prelude.{◌-◌}
+-- `sort_entries::sort_cells_sound` meets its contract. Loop invariant: the check that the remaining rows must pass.
+-- Assumes nothing.
 use Rattle.sort_entries.proofs.LawsCheck.{Rest}
 use Rattle.sort_entries.proofs.sort_cells_sound.Given as goal
 
 abbrev pub invariant-loop-row : goal.invariant-loop-row
 invariant-loop-row l = Rest l.store l.columns l.sort l.rows l.sorts l.entries l.at l.row
-
-abbrev pub decreases-loop-row : goal.decreases-loop-row
-decreases-loop-row l = l.rows - l.row
