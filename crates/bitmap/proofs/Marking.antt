@@ -1,5 +1,5 @@
 -- The bit of a row in its word, and the bitmap with it. Assumes nothing.
-use Rattle.bitmap.proofs.Prelude.{ℕ, suc, ◌+◌, ◌-◌, ◌*◌, ◌/◌, ◌%◌, ◌^◌, ◌<◌, ◌≡◌, refl, sym, ap, ◌∙◌, inl, inr, Bool, false, cond, ◌||◌, List, one-mul, zero-mul, pow-suc, ℕ_discrete, dec_lt, one-add, arith, bit_and, bit_or, and_high, or_add_and, eqb, length, get_or, set, length-set, pow_pos, shl_exact, get_or-set_same, get_or-set_other, eq-eqb, ne_eqb, eqb-true, eqb-false, or_no_left, or_no_right, split, bitmap_word_same, below_bitmap_word, bitmap_word_with, word_bits}
+use Rattle.bitmap.proofs.Prelude.{ℕ, suc, ◌+◌, ◌-◌, ◌*◌, ◌/◌, ◌%◌, ◌^◌, ◌<◌, ◌≡◌, refl, sym, ap, ◌∙◌, inl, inr, Bool, false, cond, ◌||◌, List, one-mul, zero-mul, pow-suc, ℕ_discrete, one-add, arith, bit_and, bit_or, and_high, or_add_and, eqb, length, get_or, set, length-set, pow_pos, shl_exact, get_or-set_same, get_or-set_other, eq-eqb, ne_eqb, eqb-true, eqb-false, or_no_left, or_no_right, split, bitmap_word_same, below_bitmap_word, bitmap_word_with, word_bits}
 use Rattle.row_buffer.specs.Ranks.{set_below, bitmap_word, count_to}
 use Rattle.bitmap.specs.inner.Bitmaps.{Bitmap, bit_of, Summarised, MarkedOne}
 

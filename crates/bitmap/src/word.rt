@@ -10,10 +10,7 @@ use row_buffer::BITMAP_WORD_BITS;
 pub fn block(left: u32) -> u32
     ensures { result ≡ min 64 left }
 {
-    if left < BITMAP_WORD_BITS {
-        return left;
-    }
-    BITMAP_WORD_BITS
+    BITMAP_WORD_BITS.min(left)
 }
 
 // A bitmap word: the bits of the positions whose cell is different from `than`.
@@ -29,14 +26,11 @@ pub fn bits_of_different_cells(
 {
     let mut word: u64 = 0;
     let mut at = from;
-    let mut bit: u32 = 0;
-    while bit < count {
+    for bit in 0..count {
         let cell = cells[at];
-        let place = bit;
         at += stride;
-        bit += 1;
         if cell != than {
-            word = row_buffer::set_bit(word, place);
+            word = row_buffer::set_bit(word, bit);
         }
     }
     word
