@@ -46,10 +46,7 @@ fn block_end(start: usize, rows: usize) -> usize
     requires { start < rows }
     ensures { (start < result) × (result ≤ rows) }
 {
-    if rows - start <= BLOCK {
-        return rows;
-    }
-    start + BLOCK
+    start + BLOCK.min(rows - start)
 }
 
 // The cell above the cell of a row and column; 0 above the first row.
@@ -79,12 +76,10 @@ fn difference_column(
 {
     let base = column * rows;
     let mut above = cell_above(width, column, cells, start);
-    let mut row = start;
-    while row < end {
+    for row in start..end {
         let cell = cells[row * width + column];
-        output[base + row] = std::num::wrapping_sub_u32(cell, above);
+        output[base + row] = cell.wrapping_sub(above);
         above = cell;
-        row += 1;
     }
 }
 
@@ -103,11 +98,9 @@ fn sum_column(
 {
     let base = column * rows;
     let mut above = cell_above(width, column, output, start);
-    let mut row = start;
-    while row < end {
-        above = std::num::wrapping_add_u32(cells[base + row], above);
+    for row in start..end {
+        above = cells[base + row].wrapping_add(above);
         output[row * width + column] = above;
-        row += 1;
     }
 }
 
@@ -145,10 +138,8 @@ fn rearrange_block(
     requires { Shaped width rows cells.now output.old × Within start end rows × Begun back width rows start cells.now output.old }
     ensures { Filled (ordered back width cells.now) (placed back width rows) start end 0 width output.old output.new }
 {
-    let mut column = 0;
-    while column < width {
+    for column in 0..width {
         rearrange_column(back, width, rows, start, end, column, cells, output);
-        column += 1;
     }
 }
 

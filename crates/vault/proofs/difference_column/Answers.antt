@@ -1,4 +1,4 @@
-use Rattle.vault.proofs.Prelude.{arith}
+use Rattle.vault.proofs.Prelude.{◌+◌, ◌*◌, arith}
 use Rattle.vault.proofs.Filling.{column_scan_begin, column_scan_end, difference_more, to_inside, from_inside, columns_inside, rows_inside}
 use Rattle.vault.proofs.difference_column.Goals as goal
 
@@ -32,14 +32,8 @@ offset_bounds-output-base c = let p = c.requires in omega (arith, to_inside p.0 
 pub bounds-output-base : goal.bounds-output-base
 bounds-output-base c = let p = c.requires in omega (arith, to_inside p.0 p.1 c.loop-row-test.true p.2, p.0.room, c.loop-row.invariant.filled.same)
 
-pub overflow_add-row : goal.overflow_add-row
-overflow_add-row c = omega (arith, c.loop-row-test.true)
-
-pub loop-row-smaller : goal.loop-row-smaller
-loop-row-smaller c = omega (arith, c.loop-row-test.true)
-
 pub loop-row-preserved : goal.loop-row-preserved
-loop-row-preserved c = let p = c.requires in difference_more p.0 p.1 p.2 (λ i. omega (arith, c.shared_slice_known-1.given i)) c.loop-row-test.true c.loop-row.invariant (omega arith) c.wrapping_sub_u32.ensures.value
+loop-row-preserved c = let p = c.requires in difference_more p.0 p.1 p.2 (λ i. omega (arith, c.shared_slice_known-1.given i)) c.loop-row-test.true c.loop-row.invariant (omega arith) (omega (arith, c.shared_slice_known-1.given (c.loop-row.row * c.args.width + c.args.column)))
 
 pub shape_of-output : goal.shape_of-output
 shape_of-output c = c.loop-row.invariant.filled.same

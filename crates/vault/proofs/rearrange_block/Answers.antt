@@ -8,12 +8,6 @@ loop-column-init c = (omega arith, filled_nothing)
 pub rearrange_column-requires : goal.rearrange_column-requires
 rearrange_column-requires c = let p = c.requires in (still_shaped c.loop-column.invariant.1 p.0, p.1, c.loop-column-test.true, λ row column h k. c.loop-column.invariant.1.kept _ (p.2 row column h k))
 
-pub overflow_add-column : goal.overflow_add-column
-overflow_add-column c = omega (arith, c.loop-column-test.true)
-
-pub loop-column-smaller : goal.loop-column-smaller
-loop-column-smaller c = omega (arith, c.loop-column-test.true)
-
 pub loop-column-preserved : goal.loop-column-preserved
 loop-column-preserved c = (omega (arith, c.loop-column-test.true), filled_columns c.loop-column.invariant.1 c.rearrange_column.ensures)
 

@@ -1,4 +1,4 @@
-use Rattle.vault.proofs.Prelude.{◌∙◌, arith}
+use Rattle.vault.proofs.Prelude.{◌∙◌, refl, arith}
 use Rattle.vault.proofs.Filling.{column_scan_begin, column_scan_end, sum_more, above_summed, to_inside, from_inside, columns_inside, rows_fit}
 use Rattle.vault.proofs.sum_column.Goals as goal
 
@@ -11,8 +11,8 @@ cell_above-above-requires c = let p = c.requires in (p.2, rows_fit p.0 _ (omega 
 pub loop-row-init : goal.loop-row-init
 loop-row-init c = let p = c.requires in column_scan_begin p.1.forward (c.cell_above-above.ensures ∙ above_summed _ c.args.rows _ _ _ _ p.2 p.3)
 
-pub overflow_add-base : goal.overflow_add-base
-overflow_add-base c = let p = c.requires in omega (arith, to_inside p.0 p.1 c.loop-row-test.true p.2)
+pub overflow_add-above : goal.overflow_add-above
+overflow_add-above c = let p = c.requires in omega (arith, to_inside p.0 p.1 c.loop-row-test.true p.2)
 
 pub offset_bounds-cells-base : goal.offset_bounds-cells-base
 offset_bounds-cells-base c = let p = c.requires in omega (arith, to_inside p.0 p.1 c.loop-row-test.true p.2)
@@ -32,14 +32,8 @@ offset_bounds-output-row c = let p = c.requires in omega (arith, from_inside p.0
 pub bounds-output-row : goal.bounds-output-row
 bounds-output-row c = let p = c.requires in omega (arith, from_inside p.0 p.1 c.loop-row-test.true p.2, p.0.room, c.loop-row.invariant.filled.same)
 
-pub overflow_add-row : goal.overflow_add-row
-overflow_add-row c = omega (arith, c.loop-row-test.true)
-
-pub loop-row-smaller : goal.loop-row-smaller
-loop-row-smaller c = omega (arith, c.loop-row-test.true)
-
 pub loop-row-preserved : goal.loop-row-preserved
-loop-row-preserved c = let p = c.requires in sum_more p.0 p.1 p.2 (λ i. omega (arith, c.shared_slice_known-1.given i)) c.loop-row-test.true c.loop-row.invariant c.wrapping_add_u32-above.ensures.value
+loop-row-preserved c = let p = c.requires in sum_more p.0 p.1 p.2 (λ i. omega (arith, c.shared_slice_known-1.given i)) c.loop-row-test.true c.loop-row.invariant refl
 
 pub shape_of-output : goal.shape_of-output
 shape_of-output c = c.loop-row.invariant.filled.same
