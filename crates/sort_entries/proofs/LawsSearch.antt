@@ -1,5 +1,5 @@
 -- The position of a value, from the result of the binary search. Assumes nothing.
-use Rattle.sort_entries.proofs.Prelude.{ℕ, ◌+◌, ◌-◌, ◌*◌, ◌≤◌, ◌<◌, ◌≡◌, refl, sym, ap, ap₂, ◌∙◌, ◌⊎◌, inl, inr, Bool, true, false, cond, List, ℕ_discrete, arith, length, drop, get_or, eqb, ne_eqb, entries_of, first_row, entries_sound, length_entries_of, value_of, value_word, row_word, sound_climb, sound_facts, first_row_drop, first_row_past, place_found, place_absent, Found, Absent, SearchResult, Range, SearchResultIs, Ranged, position_found, range_of}
+use Rattle.sort_entries.proofs.Prelude.{ℕ, ◌+◌, ◌-◌, ◌*◌, ◌≤◌, ◌<◌, ◌≡◌, refl, sym, ap, ap₂, ◌∙◌, ◌⊎◌, inl, inr, Bool, true, false, cond, List, ℕ_discrete, arith, length, drop, get_or, eqb, ne_eqb, entries_of, first_row, entries_sound, length_entries_of, value_of, value_word, row_word, sound_climb, sound_facts, first_row_drop, first_row_past, place_found, place_absent, Result, Ok, Err, Range, SearchResultIs, Ranged, position_found, range_of}
 use Rattle.offsets.specs.Subsets.{Subset, range}
 use Rattle.offsets.specs.inner.Search.{Bracketed}
 use Rattle.sort_entries.specs.Laws.Positions.{Position, found, absent, range_at, fast_range_at}
@@ -39,7 +39,7 @@ module _ (store : List ℕ) (n rows v at : ℕ) (l : Bracketed store 2 0 n v at 
       ]
 
   pub search_found : (first next : ℕ) → first ≡ first_row (drop at (entries_of n store)) rows → next ≡ first_row (drop (at + 1) (entries_of n store)) rows
-      → at < n → get_or store (2 * at) 0 ≡ v → SearchResultIs store n rows v (Found first next)
+      → at < n → get_or store (2 * at) 0 ≡ v → SearchResultIs store n rows v (Ok (record { start = first; end = next }))
   search_found first next p q h e =
       record {
         is = λ s.
@@ -47,7 +47,7 @@ module _ (store : List ℕ) (n rows v at : ℕ) (l : Bracketed store 2 0 n v at 
             ap₂ found p q ∙ sym (place_found v (entries_of n store) rows at inside (before s) k (value_word store n at h ∙ e));
       }
 
-  pub search_absent : (first : ℕ) → first ≡ first_row (drop at (entries_of n store)) rows → (at < n → get_or store (2 * at) 0 ≡ v → ⊥) → SearchResultIs store n rows v (Absent first)
+  pub search_absent : (first : ℕ) → first ≡ first_row (drop at (entries_of n store)) rows → (at < n → get_or store (2 * at) 0 ≡ v → ⊥) → SearchResultIs store n rows v (Err first)
   search_absent first p ne =
       record {
         is = λ s. ap absent p ∙ sym (place_absent v (entries_of n store) rows at inside (before s) over);
@@ -74,10 +74,10 @@ absent_rest kind g rows a b =
 
 -- ---- the fast range
 
-pub ranged : (store : List ℕ) (n rows kind v : ℕ) (s t : SearchResult) (r : Range) → SearchResultIs store n rows v s → s ≡ t → range_of r ≡ range_at kind (position_found t) rows → Ranged store n rows kind v r
+pub ranged : (store : List ℕ) (n rows kind v : ℕ) (s t : Result Range ℕ) (r : Range) → SearchResultIs store n rows v s → s ≡ t → range_of r ≡ range_at kind (position_found t) rows → Ranged store n rows kind v r
 ranged store n rows kind v s t r p q e =
     record {
       is = λ sound.
-          e ∙ ap (λ (x : SearchResult). range_at kind (position_found x) rows) (sym q) ∙ ap (λ (x : Position). range_at kind x rows) (p.is sound)
+          e ∙ ap (λ (x : Result Range ℕ). range_at kind (position_found x) rows) (sym q) ∙ ap (λ (x : Position). range_at kind x rows) (p.is sound)
           ∙ sym (fast_range_at kind v (entries_of n store) rows (sound_climb (entries_of n store) rows sound));
     }

@@ -22,8 +22,7 @@ pub use Rattle.sort_entries.specs.Laws.Ranges.{place_absent, place_found}
 pub use Rattle.sort_entries.specs.Laws.Sound.{entry_row, first_row_drop, first_row_past, row_word, sound_climb, sound_facts, sound_first, sound_of, value_word, value_of}
 pub use Rattle.sort_entries.specs.Laws.Stores.{length_entries_of}
 pub use Rattle.sort_entries.specs.declared.Range.{Range}
-pub use Rattle.sort_entries.specs.declared.SearchResult.{SearchResult}
-pub use Rattle.sort_entries.specs.declared.SearchResult.TheVariants.{Absent, Found}
+pub use Rattle.std.specs.Prelude.{Result, Ok, Err}
 pub use Rattle.sort_entries.specs.inner.Append.{append_new, append_same, rises, rises_none}
 pub use Rattle.sort_entries.specs.inner.Checks.{Follows}
 pub use Rattle.sort_entries.specs.inner.Search.{Ranged, SearchResultIs, position_found, range_of}

@@ -3,9 +3,9 @@
 
 ghost use Rattle.std.specs.Prelude.{◌≡◌, ◌≤◌, ◌<◌, drop};
 ghost use Rattle.sort_entries.specs.Entries.{entries_of, first_row, entries_sound};
-ghost use Rattle.sort_entries.specs.Laws.Positions.{range_at};
+ghost use Rattle.sort_entries.specs.Laws.Positions.{found, absent, range_at};
 ghost use Rattle.sort_entries.specs.inner.Append.{EntryFits, Append};
-ghost use Rattle.sort_entries.specs.inner.Search.{EntriesFit, SearchResultIs, Ranged, position_found, range_of};
+ghost use Rattle.sort_entries.specs.inner.Search.{EntriesFit, SearchResultIs, Ranged, range_of};
 ghost use Rattle.sort_entries.specs.inner.Checks.{Decides, Follows, Advanced, head_value, Cells, cell_sound, cells_sound};
 
 use constraints::{AT_MOST, EQUAL, GREATER, LESS};
@@ -29,14 +29,6 @@ pub fn append_entry(sorts: &mut [u32], entries: u32, value: u32, row: u32) -> u3
     entries + 1
 }
 
-// The position of a value among the entries. `Found`: an entry has the value; the fields are its row and the next entry's row.
-// `Absent`: no entry has it; the field is the row of the first entry above it. The row of a missing entry is the row count.
-#[derive(Clone, Copy)]
-pub enum SearchResult {
-    Found(u32, u32),
-    Absent(u32),
-}
-
 // Rows from `start` on and below `end`.
 #[derive(Clone, Copy)]
 pub struct Range {
@@ -56,8 +48,9 @@ fn row_from(sorts: &[u32], entries: u32, rows: u32, at: u32) -> u32
     sorts[row_word]
 }
 
-// The position of a value among the entries: `binary_search_sort_val`.
-fn binary_search_sort_val(sorts: &[u32], entries: u32, rows: u32, value: u32) -> SearchResult
+// The position of a value among the entries: `binary_search_sort_val`. `Ok`: an entry has the value; the rows from its own on and
+// below the next entry's. `Err`: no entry has it; the row of the first entry above it. The row of a missing entry is the row count.
+fn binary_search_sort_val(sorts: &[u32], entries: u32, rows: u32, value: u32) -> Result<Range, u32>
     requires { EntriesFit sorts.now entries }
     ensures { SearchResultIs sorts.now entries rows value result }
 {
@@ -67,35 +60,35 @@ fn binary_search_sort_val(sorts: &[u32], entries: u32, rows: u32, value: u32) ->
         let word = (2 * at) as usize;
         if sorts[word] == value {
             let next = row_from(sorts, entries, rows, at + 1);
-            return SearchResult::Found(first, next);
+            return Ok(Range {
+                start: first,
+                end: next,
+            });
         }
     }
-    SearchResult::Absent(first)
+    Err(first)
 }
 
-// The range of a condition kind, if the rows from `first` to `next` have the value.
-fn range_found(kind: u32, first: u32, next: u32, rows: u32) -> Range
-    ensures { range_of result ≡ range_at kind (position_found (SearchResult.Found first next)) rows }
+// The range of a condition kind, if these rows have the value.
+fn range_found(kind: u32, with_value: Range, rows: u32) -> Range
+    ensures { range_of result ≡ range_at kind (found with_value.start with_value.end) rows }
 {
     match kind {
-        EQUAL => Range {
-            start: first,
-            end: next,
-        },
+        EQUAL => with_value,
         LESS => Range {
             start: 0,
-            end: first,
+            end: with_value.start,
         },
         GREATER => Range {
-            start: next,
+            start: with_value.end,
             end: rows,
         },
         AT_MOST => Range {
             start: 0,
-            end: next,
+            end: with_value.end,
         },
         _ => Range {
-            start: first,
+            start: with_value.start,
             end: rows,
         },
     }
@@ -103,7 +96,7 @@ fn range_found(kind: u32, first: u32, next: u32, rows: u32) -> Range
 
 // The range of a condition kind, if no row has the value and those from `above` on have higher ones.
 fn range_absent(kind: u32, above: u32, rows: u32) -> Range
-    ensures { range_of result ≡ range_at kind (position_found (SearchResult.Absent above)) rows }
+    ensures { range_of result ≡ range_at kind (absent above) rows }
 {
     match kind {
         EQUAL => Range { start: 0, end: 0 },
@@ -125,8 +118,8 @@ pub fn fast_range(sorts: &[u32], entries: u32, rows: u32, kind: u32, value: u32)
 {
     let standing = binary_search_sort_val(sorts, entries, rows, value);
     match standing {
-        SearchResult::Found(first, next) => range_found(kind, first, next, rows),
-        SearchResult::Absent(above) => range_absent(kind, above, rows),
+        Ok(with_value) => range_found(kind, with_value, rows),
+        Err(above) => range_absent(kind, above, rows),
     }
 }
 

@@ -2,8 +2,8 @@
 use Rattle.sort_entries.proofs.LawsSearch.{ranged}
 use Rattle.sort_entries.proofs.fast_range.Goals as goal
 
-pub returns-in-Found : goal.returns-in-Found
-returns-in-Found c = ranged _ _ _ _ _ _ _ _ c.binary_search_sort_val-standing.ensures c.in-Found.is c.range_found.ensures
+pub returns-in-Ok : goal.returns-in-Ok
+returns-in-Ok c = ranged _ _ _ _ _ _ _ _ c.binary_search_sort_val-standing.ensures c.in-Ok.is c.range_found.ensures
 
-pub returns-in-Absent : goal.returns-in-Absent
-returns-in-Absent c = ranged _ _ _ _ _ _ _ _ c.binary_search_sort_val-standing.ensures c.in-Absent.is c.range_absent.ensures
+pub returns-in-Err : goal.returns-in-Err
+returns-in-Err c = ranged _ _ _ _ _ _ _ _ c.binary_search_sort_val-standing.ensures c.in-Err.is c.range_absent.ensures

@@ -1,8 +1,6 @@
 -- Contracts of the search for a value and of the fast range. Assumes nothing.
-use Rattle.std.specs.Prelude.{ℕ, ◌*◌, ◌≤◌, ◌≡◌, true, List, length}
+use Rattle.std.specs.Prelude.{ℕ, ◌*◌, ◌≤◌, ◌≡◌, true, List, length, Result, Ok, Err}
 use Rattle.offsets.specs.Subsets.{Subset, range}
-use Rattle.sort_entries.specs.declared.SearchResult.{SearchResult}
-use Rattle.sort_entries.specs.declared.SearchResult.TheVariants.{Found, Absent}
 use Rattle.sort_entries.specs.declared.Range.{Range}
 use Rattle.sort_entries.specs.Entries.{fast_range, entries_of, entries_sound}
 use Rattle.sort_entries.specs.Laws.Positions.{Position, found, absent, position}
@@ -13,11 +11,11 @@ pub record EntriesFit (store : List ℕ) (n : ℕ) : Type 0 where
   pub words : 2 * n ≤ length store
 
 -- the position that a search result encodes
-abbrev pub position_found : SearchResult → Position
-position_found (Found first next) = found first next
-position_found (Absent above) = absent above
+abbrev pub position_found : Result Range ℕ → Position
+position_found (Ok rows) = found rows.start rows.end
+position_found (Err above) = absent above
 
-pub record SearchResultIs (store : List ℕ) (n rows v : ℕ) (r : SearchResult) : Type 0 where
+pub record SearchResultIs (store : List ℕ) (n rows v : ℕ) (r : Result Range ℕ) : Type 0 where
   pub is : entries_sound (entries_of n store) rows ≡ true → position_found r ≡ position v (entries_of n store) rows
 
 -- the subset that a range encodes
