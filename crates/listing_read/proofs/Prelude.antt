@@ -21,7 +21,6 @@ pub use Rattle.levels_text.specs.inner.Appending.{Appended, appended_none, appen
 pub use Rattle.listing_parse.specs.Laws.Steps.{ValidRows, none_from, row_few, rows_from, valid_rows_line, valid_rows_next, valid_rows_room, valid_rows_row}
 pub use Rattle.listing_parse.specs.declared.Survey.{Survey}
 pub use Rattle.listing_parse.specs.inner.Lines.{Found, LineReread}
-pub use Rattle.listing_read.specs.declared.ReadResult.{ReadResult}
 pub use Rattle.listing_spec.specs.Laws.Conversions.{fields_length, lacks_no_row, lacks_none, numbered_longer, plain_shorter}
 pub use Rattle.listing_spec.specs.Laws.Texts.{rows_shown, shown_listing, shown_text, text_shown, text_wrong}
 pub use Rattle.listing_spec.specs.Listings.{prefix_width}

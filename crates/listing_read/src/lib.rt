@@ -37,15 +37,8 @@ fn write_rows(numbered: bool, columns: usize, text: &[u8], start: usize, output:
     }
 }
 
-// The result of reading, in either form.
-#[derive(Clone, Copy)]
-enum ReadResult {
-    Refused(u32),
-    Found(Survey),
-}
-
-// Reads a text that is of the form.
-fn read_found(numbered: bool, s: Survey, text: &[u8], output: &mut [u32]) -> ReadResult
+// Reads a text that is of the form. An error is the number of the refusal.
+fn read_found(numbered: bool, s: Survey, text: &[u8], output: &mut [u32]) -> Result<Survey, u32>
     requires { Listed numbered text.now s }
     ensures { ListingRead numbered text.now output.old (read_view numbered result) output.new }
 {
@@ -53,20 +46,20 @@ fn read_found(numbered: bool, s: Survey, text: &[u8], output: &mut [u32]) -> Rea
     let rows = s.rows as usize;
     let width = row_width(numbered, columns);
     if output.len() < rows * width {
-        return ReadResult::Refused(TOO_SHORT);
+        return Err(TOO_SHORT);
     }
     write_rows(numbered, columns, text, s.start, output);
-    ReadResult::Found(s)
+    Ok(s)
 }
 
-fn read(numbered: bool, text: &[u8], output: &mut [u32]) -> ReadResult
+fn read(numbered: bool, text: &[u8], output: &mut [u32]) -> Result<Survey, u32>
     ensures { ListingRead numbered text.now output.old (read_view numbered result) output.new }
 {
     let s = scan_text(numbered, text);
     if s.is_listing {
         return read_found(numbered, s, text, output);
     }
-    ReadResult::Refused(NO_LISTING)
+    Err(NO_LISTING)
 }
 
 // Reads a listing in the old form.
@@ -74,8 +67,8 @@ pub fn read_listing(text: &[u8], output: &mut [u32]) -> ListingAnswer
     ensures { ListingRead false text.now output.old (listing_view result) output.new }
 {
     match read(false, text, output) {
-        ReadResult::Refused(number) => ListingAnswer::Refused(number),
-        ReadResult::Found(s) => ListingAnswer::Listing(ListingHead {
+        Err(number) => ListingAnswer::Refused(number),
+        Ok(s) => ListingAnswer::Listing(ListingHead {
             columns: s.columns,
             keys: s.keys,
             sort: s.sort,
@@ -91,8 +84,8 @@ pub fn read_numbered(text: &[u8], output: &mut [u32]) -> NumberedAnswer
     ensures { ListingRead true text.now output.old (numbered_view result) output.new }
 {
     match read(true, text, output) {
-        ReadResult::Refused(number) => NumberedAnswer::Refused(number),
-        ReadResult::Found(s) => NumberedAnswer::Listing(NumberedHead {
+        Err(number) => NumberedAnswer::Refused(number),
+        Ok(s) => NumberedAnswer::Listing(NumberedHead {
             columns: s.columns,
             keys: s.keys,
             sort: s.sort,
@@ -110,10 +103,8 @@ fn numbers_length(count: u32) -> usize
     ensures { result ≡ length (flatten (map field (iota 0 count))) }
 {
     let mut total = 0;
-    let mut number = 0;
-    while number < count {
+    for number in 0..count {
         total += number_length(number);
-        number += 1;
     }
     total
 }
@@ -204,10 +195,7 @@ fn write_converted(numbered: bool, s: Survey, text: &[u8], output: &mut [u8]) ->
 fn lacks_row(numbered: bool, s: Survey) -> bool
     ensures { result ≡ (numbered && not (eqb s.rows s.count)) }
 {
-    if numbered {
-        return s.rows != s.count;
-    }
-    false
+    numbered && s.rows != s.count
 }
 
 // True if the output is shorter than the text in the other form. The count and the row numbers make that text longer or shorter.

@@ -8,9 +8,6 @@ loop-number-init c = summing_begin _
 pub overflow_add-total : goal.overflow_add-total
 overflow_add-total c = omega (arith, summing_few c.loop-number.invariant, c.loop-number.invariant.inside, c.number_length-total.ensures, length_field c.loop-number.number, c.requires)
 
-pub overflow_add-number : goal.overflow_add-number
-overflow_add-number c = omega (arith, c.loop-number-test.true, c.requires)
-
 pub loop-number-preserved : goal.loop-number-preserved
 loop-number-preserved c = summing_more c.loop-number.invariant c.loop-number-test.true c.number_length-total.ensures
 
