@@ -26,4 +26,4 @@ pub returns : goal.returns
 returns c =
     let a = c.args in
     loading_done _ a.l a.capacity (body a.rows.now a.keys.now a.sorts.now) a.pending.now _ c.with_capacity-n.ensures _ c.load_refusal-refusal.ensures c.if-refusal-ne-ACCEPTED.false c.requires.0
-    _ _ _ c.write_parts.ensures _ c.index_shape.ensures _ c.write_keys.ensures c.keys-1.given
+    _ _ _ c.write_parts.ensures _ c.index_shape.ensures _ c.write_keys.ensures c.write_keys.auto.keys

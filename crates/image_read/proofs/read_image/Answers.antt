@@ -10,7 +10,7 @@ pub load-requires : goal.load-requires
 load-requires c =
     let d = c.decode.ensures in
     let e = c.in-Sound.is in
-    ((d.sound_at _ e).there, d.built _ e, omega (arith, length-replicate {A = ℕ} 131072 0, c.slots-2-1.given))
+    ((d.sound_at _ e).there, d.built _ e, omega (arith, length-replicate {A = ℕ} 131072 0))
 
 pub returns-in-Refused : goal.returns-in-Refused
 returns-in-Refused c =

@@ -8,7 +8,7 @@ returns-then-words-end c = whole_other_count _ _ c.requires.0 c.requires.1 c.if-
 
 pub is_filled-requires : goal.is_filled-requires
 is_filled-requires c =
-    whole_measured _ c.args.l c.requires.0 c.requires.1 c.if-words-end.false (λ i. omega (arith, c.shared_slice_known-1.given i))
+    whole_measured _ c.args.l c.requires.0 c.requires.1 c.if-words-end.false (λ i. omega (arith, c.type_inv.words i))
 
 pub returns-then-not-is_filled : goal.returns-then-not-is_filled
 returns-then-not-is_filled c = whole_unfilled _ _ c.requires.0 c.requires.1 (c.is_filled.ensures.no c.if-not-is_filled.true)

@@ -19,7 +19,7 @@ pub overflow_add-pending : goal.overflow_add-pending
 overflow_add-pending c = omega (arith, few c.args.h c.requires.0)
 
 pub overflow_add-end : goal.overflow_add-end
-overflow_add-end c = omega (arith, few c.args.h c.requires.0, c.struct_known-3-1.given)
+overflow_add-end c = omega (arith, few c.args.h c.requires.0)
 
 pub returns : goal.returns
 returns c = layout_is _ _ _ _ _ _ (omega (arith, c.div_ceil.ensures)) refl refl refl
