@@ -27,12 +27,10 @@ fn count_taken(n: u32, store: &[u32]) -> u32
     requires { n ≤ length store.now }
     ensures { result ≡ taken_count store.now n }
 {
+    let words = &store[..n as usize];
     let mut taken: u32 = 0;
-    let mut slot: u32 = 0;
-    while slot < n {
-        let word = store[slot as usize];
-        slot += 1;
-        if 0 < word {
+    for word in words {
+        if 0 < *word {
             taken += 1;
         }
     }
@@ -47,8 +45,7 @@ fn is_reached(t: IndexShape, rows: &[u32], store: &[u32], key: &[u32], hash: u32
     let n = 2 * t.room;
     let own = slot_word(hash, row);
     let mut at = home_slot(n, hash);
-    let mut passed: u32 = 0;
-    while passed < n {
+    for _ in 0..n {
         let word = store[at as usize];
         if word == own {
             return true;
@@ -60,7 +57,6 @@ fn is_reached(t: IndexShape, rows: &[u32], store: &[u32], key: &[u32], hash: u32
             return false;
         }
         at = key_index::next_slot(n, at);
-        passed += 1;
     }
     false
 }
@@ -82,12 +78,9 @@ pub fn key_store_sound(t: IndexShape, rows: &[u32], store: &[u32]) -> bool
     ensures { Decides (KeyStoreSound t rows.now store.now) result }
 {
     let mut live: u32 = 0;
-    let mut row: u32 = 0;
-    while row < t.rows {
-        let this = row;
-        row += 1;
-        if row_live(t, rows, this) {
-            if !is_found(t, rows, store, this) {
+    for row in 0..t.rows {
+        if row_live(t, rows, row) {
+            if !is_found(t, rows, store, row) {
                 return false;
             }
             live += 1;
