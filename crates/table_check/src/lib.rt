@@ -23,12 +23,9 @@ fn dead_rows(h: Header, rows: &[u32]) -> u32
     ensures { result ≡ dead_rows h rows.now }
 {
     let mut dead: u32 = 0;
-    let mut row: u32 = 0;
-    while row < h.rows {
+    for row in 0..h.rows {
         let at = row_start(row, h.columns);
-        let one = row_buffer::is_dead(rows, at);
-        row += 1;
-        if one {
+        if row_buffer::is_dead(rows, at) {
             dead += 1;
         }
     }
