@@ -78,6 +78,7 @@ fn close_up(
         entries: 0,
     };
     let mut next: u32 = 0;
+    // No `for`: each turn goes on by a block, and the last block may be shorter.
     while next < h.rows {
         let first = next;
         let count = bitmap::word::block(h.rows - first);
