@@ -208,8 +208,8 @@ module _ (h : Header) (rows : List ℕ) (column : ℕ) (pairs : List ℕ) (row :
     pub place_fails : dead ≡ false → (count place : ℕ) → place < count → from_pair place ≡ from_pair 0 → from_pair place ≡ some place → PlaceIs count (row_failing h rows column pairs row) place
     place_fails q count place k left e = record { fails = λ _. live_row_lem q ∙ sym left ∙ e; meets = λ m. absurd (omega arith) }
 
-    pub place_meets : dead ≡ false → (count place : ℕ) → count ≤ place → from_pair place ≡ from_pair 0 → from_pair place ≡ none → PlaceIs count (row_failing h rows column pairs row) place
-    place_meets q count place k left e = record { fails = λ m. absurd (omega arith); meets = λ _. live_row_lem q ∙ sym left ∙ e }
+    pub place_meets : dead ≡ false → (count place : ℕ) → from_pair place ≡ from_pair 0 → from_pair place ≡ none → PlaceIs count (row_failing h rows column pairs row) count
+    place_meets q count place left e = record { fails = λ m. absurd (omega arith); meets = λ _. live_row_lem q ∙ sym left ∙ e }
 
 -- ---- `check_precedence`
 

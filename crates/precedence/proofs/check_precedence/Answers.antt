@@ -11,7 +11,7 @@ pub returns-then-refusal-ne-ACCEPTED : goal.returns-then-refusal-ne-ACCEPTED
 returns-then-refusal-ne-ACCEPTED c = check_refused _ _ _ _ _ _ c.precedence_refusal-refusal.ensures c.if-refusal-ne-ACCEPTED.true
 
 pub loop-row-init : goal.loop-row-init
-loop-row-init c = (omega arith, λ sound differ. refl)
+loop-row-init c = λ sound differ. refl
 
 pub failing_pair-place-requires : goal.failing_pair-place-requires
 failing_pair-place-requires c = let a = accepts (goal.at.failing_pair-place-requires c).Else-refusal-ne-ACCEPTED in (a.tested, a.column_key, c.loop-row-test.true)
@@ -20,16 +20,10 @@ pub overflow_cast-result : goal.overflow_cast-result
 overflow_cast-result c = omega (arith, accepts (goal.at.overflow_cast-result c).Else-refusal-ne-ACCEPTED)
 
 pub returns-then-place-count : goal.returns-then-place-count
-returns-then-place-count c = check_fails _ _ _ _ _ _ c.precedence_refusal-refusal.ensures c.if-refusal-ne-ACCEPTED.false _ _ (λ sound differ. sym (row_fails _ _ _ _ _ c.loop-row-test.true _ ((c.failing_pair-place.ensures sound differ).fails c.if-place-count.true)) ∙ c.loop-row.invariant.1 sound differ ∙ rows_begin _ _ _ _)
-
-pub overflow_add-row : goal.overflow_add-row
-overflow_add-row c = omega (arith, accepts (goal.at.overflow_add-row c).Else-refusal-ne-ACCEPTED)
-
-pub loop-row-smaller : goal.loop-row-smaller
-loop-row-smaller c = omega arith
+returns-then-place-count c = check_fails _ _ _ _ _ _ c.precedence_refusal-refusal.ensures c.if-refusal-ne-ACCEPTED.false _ _ (λ sound differ. sym (row_fails _ _ _ _ _ c.loop-row-test.true _ ((c.failing_pair-place.ensures sound differ).fails c.if-place-count.true)) ∙ c.loop-row.invariant sound differ ∙ rows_begin _ _ _ _)
 
 pub loop-row-preserved : goal.loop-row-preserved
-loop-row-preserved c = (omega arith, λ sound differ. sym (row_meets_lem _ _ _ _ _ c.loop-row-test.true ((c.failing_pair-place.ensures sound differ).meets c.if-place-count.false)) ∙ c.loop-row.invariant.1 sound differ)
+loop-row-preserved c = λ sound differ. sym (row_meets_lem _ _ _ _ _ c.loop-row-test.true ((c.failing_pair-place.ensures sound differ).meets c.if-place-count.false)) ∙ c.loop-row.invariant sound differ
 
 pub returns : goal.returns
-returns c = check_met _ _ _ _ _ _ c.precedence_refusal-refusal.ensures c.if-refusal-ne-ACCEPTED.false (λ sound differ. sym (rows_end _ _ _ _ _ c.loop-row-test.false) ∙ c.loop-row.invariant.1 sound differ ∙ rows_begin _ _ _ _)
+returns c = check_met _ _ _ _ _ _ c.precedence_refusal-refusal.ensures c.if-refusal-ne-ACCEPTED.false (λ sound differ. sym (rows_end _ _ _ _ _ c.loop-row-test.false) ∙ c.loop-row.invariant sound differ ∙ rows_begin _ _ _ _)

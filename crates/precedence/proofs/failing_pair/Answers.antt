@@ -13,44 +13,14 @@ pub returns-then-is_dead : goal.returns-then-is_dead
 returns-then-is_dead c = λ sound differ. dead_row_lem _ _ _ _ _ _ (rw c.row_start-from.ensures at c.is_dead.ensures) (lies (goal.at.returns-then-is_dead c).Start).some_columns c.if-is_dead.true _
 
 pub loop-place-init : goal.loop-place-init
-loop-place-init c = (omega arith, λ sound differ. refl)
-
-pub overflow_mul-first : goal.overflow_mul-first
-overflow_mul-first c = omega arith
-
-pub offset_bounds-pairs-place : goal.offset_bounds-pairs-place
-offset_bounds-pairs-place c = omega arith
-
-pub bounds-pairs-place : goal.bounds-pairs-place
-bounds-pairs-place c = omega arith
-
-pub overflow_mul-second : goal.overflow_mul-second
-overflow_mul-second c = omega arith
-
-pub overflow_add-second : goal.overflow_add-second
-overflow_add-second c = omega arith
-
-pub offset_bounds-pairs-place-in-loop-place : goal.offset_bounds-pairs-place-in-loop-place
-offset_bounds-pairs-place-in-loop-place c = omega arith
-
-pub bounds-pairs-place-in-loop-place : goal.bounds-pairs-place-in-loop-place
-bounds-pairs-place-in-loop-place c = omega arith
-
-pub meets_pair-requires : goal.meets_pair-requires
-meets_pair-requires c = c.requires
+loop-place-init c = λ sound differ. refl
 
 pub returns-then-not-meets_pair : goal.returns-then-not-meets_pair
 returns-then-not-meets_pair c =
-    λ sound differ. place_fails _ _ _ _ _ _ (rw c.row_start-from.ensures at c.is_dead.ensures) (lies (goal.at.returns-then-not-meets_pair c).Start).some_columns c.if-is_dead.false _ _ c.loop-place-test.true (c.loop-place.invariant.1 sound differ) (pair_fails _ _ _ _ _ _ c.loop-place-test.true (sym (c.meets_pair.ensures sound differ) ∙ c.if-not-meets_pair.true))
-
-pub overflow_add-place : goal.overflow_add-place
-overflow_add-place c = omega arith
-
-pub loop-place-smaller : goal.loop-place-smaller
-loop-place-smaller c = omega arith
+    λ sound differ. place_fails _ _ _ _ _ _ (rw c.row_start-from.ensures at c.is_dead.ensures) (lies (goal.at.returns-then-not-meets_pair c).Start).some_columns c.if-is_dead.false _ _ c.loop-place-test.true (c.loop-place.invariant sound differ) (pair_fails _ _ _ _ _ _ c.loop-place-test.true (sym (c.meets_pair.ensures sound differ) ∙ c.if-not-meets_pair.true))
 
 pub loop-place-preserved : goal.loop-place-preserved
-loop-place-preserved c = (omega arith, λ sound differ. sym (pair_met _ _ _ _ _ _ c.loop-place-test.true (sym (c.meets_pair.ensures sound differ) ∙ c.if-not-meets_pair.false)) ∙ c.loop-place.invariant.1 sound differ)
+loop-place-preserved c = λ sound differ. sym (pair_met _ _ _ _ _ _ c.loop-place-test.true (sym (c.meets_pair.ensures sound differ) ∙ c.if-not-meets_pair.false)) ∙ c.loop-place.invariant sound differ
 
 pub returns : goal.returns
-returns c = λ sound differ. place_meets _ _ _ _ _ _ (rw c.row_start-from.ensures at c.is_dead.ensures) (lies (goal.at.returns c).Start).some_columns c.if-is_dead.false _ _ c.loop-place-test.false (c.loop-place.invariant.1 sound differ) (pairs_end _ _ _ _ _ _ c.loop-place-test.false)
+returns c = λ sound differ. place_meets _ _ _ _ _ _ (rw c.row_start-from.ensures at c.is_dead.ensures) (lies (goal.at.returns c).Start).some_columns c.if-is_dead.false _ _ (c.loop-place.invariant sound differ) (pairs_end _ _ _ _ _ _ c.loop-place-test.false)
