@@ -23,9 +23,6 @@ overflow_mul-buckets c = omega (arith, sizes (goal.at.overflow_mul-buckets c).St
 pub overflow_mul-buckets-2 : goal.overflow_mul-buckets-2
 overflow_mul-buckets-2 c = omega (arith, sizes (goal.at.overflow_mul-buckets-2 c).Start)
 
-pub heads_at-requires : goal.heads_at-requires
-heads_at-requires c = (c.requires.0.inside, c.requires.0.columns_few)
-
 pub empty_buckets-requires : goal.empty_buckets-requires
 empty_buckets-requires c = let l = c.requires.0 in omega (arith, sizes (goal.at.empty_buckets-requires c).Start, c.heads_at.ensures, l.index_long)
 

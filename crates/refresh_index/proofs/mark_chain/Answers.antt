@@ -20,9 +20,6 @@ returns-then-limit-eq0 c =
     let none : entries_under c.args.h.capacity c.args.index.now c.args.value ≡ [] = under_is _ _ _ c.args.value c.requires.1 ∙ rw c.if-limit-eq0.true (unfold chain in refl) in
     chain_end _ _ _ c.args.value _ none (chain_begin _ _ _ c.args.value _ _ _ refl)
 
-pub heads_at-requires : goal.heads_at-requires
-heads_at-requires c = (c.requires.0.inside, c.requires.0.columns_few)
-
 pub bounds-index-12 : goal.bounds-index-12
 bounds-index-12 c = omega (arith, sizes (goal.at.bounds-index-12 c).Start)
 

@@ -7,12 +7,6 @@ use Rattle.refresh_index.proofs.mark_values.Goals as goal
 pub loop-value-init : goal.loop-value-init
 loop-value-init c = record { noted = c.requires.3; listing = listing_begin _ _ _ _ _ _ }
 
-pub is_repeated-requires : goal.is_repeated-requires
-is_repeated-requires c = c.loop-value.invariant.noted.long
-
-pub mark_chain-marked-requires : goal.mark_chain-marked-requires
-mark_chain-marked-requires c = (c.requires.0, c.requires.1, c.loop-value.auto.words ∙ c.requires.2)
-
 pub overflow_add-marked : goal.overflow_add-marked
 overflow_add-marked c =
     let l = c.loop-value in

@@ -9,9 +9,6 @@ fits : (c : In-loop-place) → let a = c.args in
     Pushable a.h a.rows.now a.columns.now a.buckets a.row c.loop-place.place c.loop-place.index
 fits c = pushable _ _ _ _ _ c.requires.0 _ _ c.requires.1 c.loop-place-test.true _ c.loop-place.auto.index
 
-pub heads_at-heads-requires : goal.heads_at-heads-requires
-heads_at-heads-requires c = (c.requires.0.lendable.inside, c.requires.0.lendable.columns_few)
-
 pub overflow_mul-first : goal.overflow_mul-first
 overflow_mul-first c =
     let l = c.requires.0.lendable in
