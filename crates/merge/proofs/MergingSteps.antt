@@ -2,6 +2,8 @@
 use Prim.Native.Nat.{ℕ, ◌+◌, ◌*◌, ◌/◌, ◌≤◌, ◌<◌, max}
 use mathlib.Core.Path.{◌≡◌, refl, sym, ap, ◌∙◌}
 use mathlib.Core.Logic.{inl, inr}
+use Rattle.std.specs.Prelude.{Option, None, Some}
+use Rattle.std.proofs.Common.{subst}
 use mathlib.Core.Bool.{true, false}
 use mathlib.Core.List.{List}
 use native.Mathlib.Omega.{arith}
@@ -17,12 +19,16 @@ use Rattle.plain_table.specs.Plain.{live as live_count, compacts_after, Plain, a
 use Rattle.table.specs.declared.Header.{Header}
 use Rattle.table.specs.declared.Merge.{Merge}
 use Rattle.merge_insert.specs.declared.MergeProgress.{MergeProgress}
+use Rattle.merge_insert.specs.declared.StoppedAt.{StoppedAt}
+use Rattle.merge_insert.specs.declared.append.Stop.{Stop}
+use Rattle.merge_insert.specs.declared.append.Stop.TheVariants.{TableFull, OldSortValue}
+use Rattle.merge_insert.specs.inner.Appending.{stop_number}
 use Rattle.table.specs.declared.MergeAnswer.TheVariants.{Refused as MergeRefused, Merged}
 use Rattle.table.specs.Numbers.{merge_view}
 use Rattle.table.specs.Refusing.{merge_refusal}
 use Rattle.table.specs.Outcomes.{stores, body, compaction_words, lengths, Represents, with_pending, Merging}
 use Rattle.merge_pending.specs.inner.Becoming.{with_counts, with_dead, Ready}
-use Rattle.merge_insert.specs.inner.Insertions.{Insertions}
+use Rattle.merge_insert.specs.inner.Insertions.{stop_status, stop_place, Insertions}
 use Rattle.merge_remove.specs.inner.Removals.{Removable, Removals}
 use Rattle.table_compact.specs.inner.Compaction.{Lendable, Compaction}
 use Rattle.merge.specs.inner.Parts.{Applying, finished_as, Finishing}
@@ -119,8 +125,24 @@ pub lendable_emptied : {h : Header} {rows keys sorts live base : List ℕ} → L
 lendable_emptied l =
     record { fits = l.fits; sort_column = l.sort_column; sorts_long = l.sorts_long; live_long = l.live_long; base_long = l.base_long }
 
+-- the number of a stop is not 0
+stop_some : (stop : Stop) → stop_number stop ≡ 0 → ⊥
+stop_some TableFull z = omega arith
+stop_some OldSortValue z = omega arith
+
 module _ (m : MergeProgress) (before : ℕ) (rows keys sorts live base : List ℕ) where
-  finish_same : ((pending : List ℕ) (p : Plain) → Represents p (stores m.header rows keys sorts pending) → compacts_after m.status p ≡ false)
+  -- the result of a merge that stopped so
+  abbrev pub stopped_as : Option StoppedAt → Header → ℕ → ℕ → Merge
+  stopped_as stopped h kept dropped =
+      record { header = h; status = stop_status stopped; place = stop_place stopped; added = ltb before m.header.rows; kept = kept; dropped = dropped }
+
+  as_stopped : (stopped : Option StoppedAt) → m.stopped ≡ stopped → {h : Header} {kept dropped : ℕ} {rows' keys' sorts' live' base' : List ℕ}
+      → Finishing m before rows keys sorts live base (finished_as m before h kept dropped) rows' keys' sorts' live' base'
+      → Finishing m before rows keys sorts live base (stopped_as stopped h kept dropped) rows' keys' sorts' live' base'
+  as_stopped stopped e {h} {kept} {dropped} {rows'} {keys'} {sorts'} {live'} {base'} f =
+      subst (λ (o : Option StoppedAt). Finishing m before rows keys sorts live base (stopped_as o h kept dropped) rows' keys' sorts' live' base') e f
+
+  finish_same : ((pending : List ℕ) (p : Plain) → Represents p (stores m.header rows keys sorts pending) → compacts_after (stop_status m.stopped) p ≡ false)
       → Finishing m before rows keys sorts live base (finished_as m before (with_pending m.header 0) 0 0) rows keys sorts live base
   finish_same same =
       record {
@@ -139,25 +161,27 @@ module _ (m : MergeProgress) (before : ℕ) (rows keys sorts live base : List �
       }
 
   -- the merge stopped
-  pub finish_stopped : (m.status ≡ 0 → ⊥) → Finishing m before rows keys sorts live base (finished_as m before (with_pending m.header 0) 0 0) rows keys sorts live base
-  finish_stopped stopped = finish_same (λ pending p r. stopped_not m.status p stopped)
+  pub finish_stopped : (at : StoppedAt) → m.stopped ≡ Some at
+      → Finishing m before rows keys sorts live base (stopped_as (Some at) (with_pending m.header 0) 0 0) rows keys sorts live base
+  finish_stopped at e = as_stopped (Some at) e (finish_same (λ pending p r. stopped_not (stop_status m.stopped) p (rw e (stop_some at.stop))))
 
   -- no compaction is due
-  pub finish_kept : m.status ≡ 0 → compaction_due m.header.dead m.header.rows m.header.generation ≡ false
-      → Finishing m before rows keys sorts live base (finished_as m before (with_pending m.header 0) 0 0) rows keys sorts live base
-  finish_kept went d = finish_same (λ pending p r. due_not m.status p went (rw r.shown.header at d))
+  pub finish_kept : m.stopped ≡ None → compaction_due m.header.dead m.header.rows m.header.generation ≡ false
+      → Finishing m before rows keys sorts live base (stopped_as None (with_pending m.header 0) 0 0) rows keys sorts live base
+  finish_kept went d = as_stopped None went (finish_same (λ pending p r. due_not (stop_status m.stopped) p (ap stop_status went) (rw r.shown.header at d)))
 
   -- one is
-  pub finish_compacted : m.status ≡ 0 → compaction_due m.header.dead m.header.rows m.header.generation ≡ true
+  pub finish_compacted : m.stopped ≡ None → compaction_due m.header.dead m.header.rows m.header.generation ≡ true
       → (h' : Header) (rows' keys' sorts' live' base' : List ℕ) → Compaction (with_pending m.header 0) rows keys sorts live base h' rows' keys' sorts' live' base'
-      → Finishing m before rows keys sorts live base (finished_as m before h' h'.rows m.header.dead) rows' keys' sorts' live' base'
+      → Finishing m before rows keys sorts live base (stopped_as None h' h'.rows m.header.dead) rows' keys' sorts' live' base'
   finish_compacted went d h' rows' keys' sorts' live' base' c =
-      record {
+      as_stopped None went
+      (record {
         past = c.past;
         words_past = c.words_past;
         table = λ pending p r.
             let k = c.table pending (unstaged p) (unstaged_represents r) in
-            let e = due_compacts m.status p went (rw r.shown.header at d) in
+            let e = due_compacts (stop_status m.stopped) p (ap stop_status went) (rw r.shown.header at d) in
             let x : h'.rows ≡ live_count p = ap (λ (h : Header). h.rows) k.header ∙ compacted_rows p in
             let y : m.header.dead ≡ dead p = ap (λ (h : Header). h.dead) r.shown.header in
             record {
@@ -167,7 +191,7 @@ module _ (m : MergeProgress) (before : ℕ) (rows keys sorts live base : List �
               represents = rw e k.represents;
               words = λ g. absurd (compaction_raises_generation p (rw e at g));
             };
-      }
+      })
 
 -- ---- the entry point
 

@@ -66,13 +66,15 @@ fn finish(
     n.pending = 0;
     let mut r = Merge {
         header: n,
-        status: m.status,
-        place: m.place,
+        status: 0,
+        place: 0,
         added: before < m.header.rows,
         kept: 0,
         dropped: 0,
     };
-    if m.status != 0 {
+    if let Some(at) = m.stopped {
+        r.status = u32::from(at.stop);
+        r.place = at.place;
         return r;
     }
     if !is_due(n) {

@@ -1,15 +1,8 @@
--- Steps of an append in the code's form: what an admission implies, by its answer, the key store with the row, and the combined
--- answers of the parts. Assumes nothing.
-use Rattle.merge_insert.proofs.Prelude.{ℕ, ◌+◌, ◌*◌, ◌≤◌, ◌<◌, ◌≡◌, refl, sym, ap, ◌∙◌, Bool, true, false, false≢true, List, add-zero, arith, length, get_or, set, splice, IndexShape, slots, tagged, Fits, PutIs, replace_tail, fits_stores, past_size_class, fits_fewer, Rebuilt, Header, Insertion, Admission, Stop, Entries, index_shape_of, SamePast, full_shape_fits, full_index_shape_of, Placed, placed, grown_to, Stops, Entered, AdmissionIs, outgrown, KeysGrown, Rebuildable, RebuiltGrown, Growable, Stayed, Grew, NewIs, Replaced, ReplaceIs}
+-- Steps of an append in the code's form: what a row that has entered finds, the key store with the row, and the combined answers of
+-- the parts. Assumes nothing.
+use Rattle.merge_insert.proofs.Prelude.{ℕ, ◌+◌, ◌*◌, ◌≤◌, ◌<◌, ◌≡◌, refl, sym, ap, ◌∙◌, Bool, true, false, false≢true, List, add-zero, arith, length, get_or, set, splice, IndexShape, slots, tagged, Fits, PutIs, replace_tail, fits_stores, past_size_class, fits_fewer, Rebuilt, Header, index_shape_of, SamePast, full_shape_fits, full_index_shape_of, Placed, placed, grown_to, Stops, Entered, outgrown, KeysGrown, Rebuildable, RebuiltGrown, Growable, Stayed, Grew, Replaced}
 
--- ---- admissions
-
-module _ (h : Header) (sorts : List ℕ) (value : ℕ) (sorts' : List ℕ) (r : Admission) (a : AdmissionIs h sorts value sorts' r) where
-  pub stop_of : (n : ℕ) → r ≡ Stop n → Stops h value n × (sorts' ≡ sorts)
-  stop_of n e = rw e at a
-
-  pub entered_of : (n : ℕ) → r ≡ Entries n → Entered h sorts value n sorts'
-  entered_of n e = rw e at a
+-- ---- a row that has entered
 
 -- what a row that has entered finds: its place, slots for its number, and counts that can grow
 pub record Entering (h : Header) (rows keys cells : List ℕ) : Type 0 where
@@ -30,11 +23,6 @@ entering {h} {rows} {keys} g room =
       dead_fits = omega (arith, g.dead_fits);
       width = g.width;
     }
-
--- of an admission that gives the number of sort entries
-pub enters : {h : Header} {rows keys sorts cells : List ℕ} → Growable h rows keys sorts cells → (value : ℕ) (sorts' : List ℕ) (r : Admission) → AdmissionIs h sorts value sorts' r
-    → (n : ℕ) → r ≡ Entries n → Entering h rows keys cells
-enters g value sorts' r a n e = entering g (entered_of _ _ value sorts' r a n e).room
 
 -- the old row's place
 pub old_place : {h : Header} {rows keys cells : List ℕ} → Entering h rows keys cells → (old : ℕ) → old < h.rows → Placed h rows old
@@ -96,7 +84,7 @@ module _ (h : Header) (rows keys sorts cells : List ℕ) where
           let p : PutIs (slots (index_shape_of h)) keys hash h.rows r keys' = rw keyed-is at put_is in
           new_appended h' e (keys_by_entry h h' rows' keys keys' same o (r, p) (past_size_class h.capacity h.rows keys keys' p.tail))
 
-      pub new_rebuilt : outgrown h ≡ true → (r : Insertion) → RebuiltGrown h rows' keys 0 n (get_or cells h.sort 0) r keys' → NewIs h rows keys sorts cells hash rows' keys' sorts' r
+      pub new_rebuilt : outgrown h ≡ true → (r : Header) → RebuiltGrown h rows' keys 0 n (get_or cells h.sort 0) r keys' → Grew h rows keys sorts cells hash r rows' keys' sorts'
       new_rebuilt o r g = rw g.answer (new_appended _ refl (keys_by_rebuild h _ rows' keys keys' same o refl g.rebuilt))
 
     -- a known key's
@@ -111,6 +99,6 @@ module _ (h : Header) (rows keys sorts cells : List ℕ) where
       replaced_stepped o below keys-is h' e =
           replaced h' e (keys_by_entry h h' rows' keys keys' same o keys-is (past_size_class h.capacity h.rows keys keys' (replace_tail (slots (index_shape_of h)) slot _ keys keys' below keys-is)))
 
-      pub replaced_rebuilt : outgrown h ≡ true → (r : Insertion) → RebuiltGrown h rows' keys 1 n (get_or cells h.sort 0) r keys'
-          → ReplaceIs h rows keys sorts cells hash old slot rows' keys' sorts' r
+      pub replaced_rebuilt : outgrown h ≡ true → (r : Header) → RebuiltGrown h rows' keys 1 n (get_or cells h.sort 0) r keys'
+          → Replaced h rows keys sorts cells hash old slot r rows' keys' sorts'
       replaced_rebuilt o r g = rw g.answer (replaced _ refl (keys_by_rebuild h _ rows' keys keys' same o refl g.rebuilt))

@@ -1,6 +1,6 @@
 -- Steps of an insert in the code's form: the row that the rule makes, and the answers of the parts put together. Assumes
 -- nothing.
-use Rattle.merge_insert.proofs.Prelude.{ℕ, ◌+◌, ◌-◌, ◌*◌, ◌≤◌, ◌<◌, ◌≡◌, refl, sym, ap, ap₂, ◌∙◌, Bool, true, false, not, false≢true, List, add-zero, arith, length, take, drop, get_or, length-take, length-drop, take-take, take_all, get_or-take, get_or-drop, le-leb, lt-leb, not-true, not-false, part_width, part_splice, changes_from, made_from, survivor, survivor_length, survivor_old, IndexShape, Option, None, Some, Hit, slots, Fits, FoundIs, Header, Insertion, Unchanged, Appended, Stopped, index_shape_of, full_shape_fits, Ready, Inserting, placed, Growable, NewIs, ReplaceIs, length_made, skip_inserts, new_inserts, known_inserts}
+use Rattle.merge_insert.proofs.Prelude.{ℕ, ◌+◌, ◌-◌, ◌*◌, ◌≤◌, ◌<◌, ◌≡◌, refl, sym, ap, ap₂, ◌∙◌, Bool, true, false, not, false≢true, List, add-zero, arith, length, take, drop, get_or, length-take, length-drop, take-take, take_all, get_or-take, get_or-drop, le-leb, lt-leb, not-true, not-false, part_width, part_splice, changes_from, made_from, survivor, survivor_length, survivor_old, IndexShape, Option, None, Some, Hit, slots, Fits, FoundIs, Header, Result, Ok, Err, Stop, Insertion, appended, index_shape_of, full_shape_fits, Ready, Inserting, placed, Growable, NewIs, ReplaceIs, length_made, skip_inserts, new_inserts, known_inserts}
 use Rattle.lists.specs.Lists.{splice, row_at, same}
 use Rattle.cells.specs.Cells.{is_dead}
 use Rattle.merge_insert.specs.inner.Ruling.{Changes, row_made, Makeable, MadeIs, UnchangedOld, KnownIs}
@@ -109,12 +109,11 @@ module _ (h : Header) (rows keys sorts pending : List ℕ) (old from : ℕ) (rea
         ap₂ (λ (k : ℕ) (l : List ℕ). take k (drop 0 l)) z (m.row q) ∙ part_splice out row 0 (omega (arith, at.few_columns))
 
     -- it is appended and the old row dies, or the merge stops
-    pub known_of : b ≡ true → (hash slot : ℕ) (rows' keys' sorts' : List ℕ) (r : Insertion)
+    pub known_of : b ≡ true → (hash slot : ℕ) (rows' keys' sorts' : List ℕ) (r : Result Header Stop)
         → ReplaceIs h rows keys sorts (take (h.columns - 0) (drop 0 out')) hash old slot rows' keys' sorts' r
-        → KnownIs h rows keys sorts (take h.columns (drop from pending)) hash old slot rows' keys' sorts' r
-    known_of q hash slot rows' keys' sorts' Unchanged g = absurd g
-    known_of q hash slot rows' keys' sorts' (Appended h') g = (sym m.answer ∙ q, rw (made_cells q) at g)
-    known_of q hash slot rows' keys' sorts' (Stopped k) g = (sym m.answer ∙ q, rw (made_cells q) at g)
+        → KnownIs h rows keys sorts (take h.columns (drop from pending)) hash old slot rows' keys' sorts' (appended r)
+    known_of q hash slot rows' keys' sorts' (Ok h') g = (sym m.answer ∙ q, rw (made_cells q) at g)
+    known_of q hash slot rows' keys' sorts' (Err stop) g = (sym m.answer ∙ q, rw (made_cells q) at g)
 
 -- ---- one insert
 
@@ -128,7 +127,7 @@ module _ (h : Header) (rows keys sorts pending : List ℕ) (from hash : ℕ) (re
 
   -- a dead first cell
   pub inserts_skipped : (b : Bool) → b ≡ is_dead (get_or pending from 0) → b ≡ true
-      → Inserting h rows keys sorts (take h.columns (drop from pending)) hash Unchanged rows keys sorts
+      → Inserting h rows keys sorts (take h.columns (drop from pending)) hash (Ok None) rows keys sorts
   inserts_skipped b e q = skip_inserts h rows keys sorts (take h.columns (drop from pending)) hash (ap is_dead first_cell ∙ sym e ∙ q)
 
   -- the key can be looked up
@@ -168,16 +167,15 @@ module _ (h : Header) (rows keys sorts pending : List ℕ) (from hash : ℕ) (re
       live = ap is_dead first_cell ∙ sym e ∙ q
 
       -- a new key
-      pub inserts_new : f ≡ None → (r : Insertion) → NewIs h rows keys sorts (take (from + h.columns - from) (drop from pending)) hash rows' keys' sorts' r
-          → Inserting h rows keys sorts (take h.columns (drop from pending)) hash r rows' keys' sorts'
+      pub inserts_new : f ≡ None → (r : Result Header Stop) → NewIs h rows keys sorts (take (from + h.columns - from) (drop from pending)) hash rows' keys' sorts' r
+          → Inserting h rows keys sorts (take h.columns (drop from pending)) hash (appended r) rows' keys' sorts'
       inserts_new m r g =
           new_inserts h rows keys sorts (take h.columns (drop from pending)) hash ready.fits ready.entries_fit wide live f looked_up_rows m r rows' keys' sorts' (rewidth r g)
         where
-          rewidth : (r : Insertion) → NewIs h rows keys sorts (take (from + h.columns - from) (drop from pending)) hash rows' keys' sorts' r
+          rewidth : (r : Result Header Stop) → NewIs h rows keys sorts (take (from + h.columns - from) (drop from pending)) hash rows' keys' sorts' r
               → NewIs h rows keys sorts (take h.columns (drop from pending)) hash rows' keys' sorts' r
-          rewidth Unchanged k = k
-          rewidth (Appended h') k = rw (part_width pending from h.columns) at k
-          rewidth (Stopped n) k = rw (part_width pending from h.columns) at k
+          rewidth (Ok h') k = rw (part_width pending from h.columns) at k
+          rewidth (Err stop) k = rw (part_width pending from h.columns) at k
 
       -- a known one
       pub inserts_known : (hit : Hit) → f ≡ Some hit → (r : Insertion)

@@ -14,7 +14,6 @@ pub use Rattle.key_index.specs.Laws.Index.{replace_tail}
 pub use Rattle.key_index.specs.Laws.Places.{fits_stores}
 pub use Rattle.key_index.specs.Laws.SizeClasses.{fits_fewer, past_size_class}
 pub use Rattle.key_index.specs.Slots.{slots}
-pub use Rattle.std.specs.Prelude.{None, Option, Some}
 pub use Rattle.key_index.specs.declared.Hit.{Hit}
 pub use Rattle.key_index.specs.declared.IndexShape.{IndexShape}
 pub use Rattle.key_index.specs.inner.Index.{Fits, FoundIs, PutIs}
@@ -26,14 +25,14 @@ pub use Rattle.lists.specs.Lists.{splice}
 pub use Rattle.merge_insert.specs.Laws.Admission.{admit_entered, stops_full, stops_old}
 pub use Rattle.merge_insert.specs.Laws.Inserts.{known_inserts, length_made, new_inserts, skip_inserts}
 pub use Rattle.merge_insert.specs.Laws.Places.{Placed, placed}
+pub use Rattle.std.specs.Prelude.{Option, None, Some, Result, Ok, Err, unwrap_or}
+pub use Rattle.merge_insert.specs.declared.Applied.{Applied}
 pub use Rattle.merge_insert.specs.declared.MergeProgress.{MergeProgress}
-pub use Rattle.merge_insert.specs.declared.append.Admission.TheVariants.{Entries, Stop}
-pub use Rattle.merge_insert.specs.declared.append.Admission.{Admission}
-pub use Rattle.merge_insert.specs.declared.append.Insertion.TheVariants.{Appended, Stopped, Unchanged}
-pub use Rattle.merge_insert.specs.declared.append.Insertion.{Insertion}
-pub use Rattle.merge_insert.specs.inner.Appending.{AdmissionIs, Entered, Grew, Growable, KeysGrown, NewIs, Rebuildable, RebuiltGrown, ReplaceIs, Replaced, Stayed, Stops, grown_to, outgrown}
+pub use Rattle.merge_insert.specs.declared.StoppedAt.{StoppedAt}
+pub use Rattle.merge_insert.specs.declared.append.Stop.{Stop}
+pub use Rattle.merge_insert.specs.inner.Appending.{Insertion, appended, stop_number, AdmissionIs, Entered, Grew, Growable, KeysGrown, NewIs, Rebuildable, RebuiltGrown, ReplaceIs, Replaced, Stayed, Stops, grown_to, outgrown}
 pub use Rattle.merge_insert.specs.inner.Inserting.{InsertAgrees, Inserting}
-pub use Rattle.merge_insert.specs.inner.Insertions.{FirstInsert, InsertGoes, InsertNext, InsertedNext, InsertedTable, Insertions}
+pub use Rattle.merge_insert.specs.inner.Insertions.{stop_status, stop_place, FirstInsert, GoneOn, InsertGoes, InsertNext, InsertStops, InsertedNext, InsertedTable, Insertions, StoppedNext}
 pub use Rattle.merge_pending.specs.Laws.Steps.{recounted_capacity, recounted_refl, recounted_then, recounted_waiting, steps_refl, steps_then, waiting_cells, waiting_hash, waiting_kind, waiting_next, waiting_start, words_some}
 pub use Rattle.merge_pending.specs.inner.Becoming.{Ready}
 pub use Rattle.merge_rules.specs.Laws.Rules.{survivor_length, survivor_old}

@@ -3,40 +3,41 @@
 ghost use Rattle.std.specs.Prelude.{◌≡◌, ◌≤◌, ◌+◌, ◌<◌};
 ghost use Rattle.key_index.specs.Slots.{slots};
 ghost use Rattle.table.specs.Sound.{index_shape_of};
-ghost use Rattle.merge_insert.specs.inner.Appending.{Enterable, AdmissionIs, grown_to, outgrown, Rebuildable, RebuiltGrown, Growable, NewIs, ReplaceIs};
+ghost use Rattle.merge_insert.specs.inner.Appending.{Enterable, stop_number, AdmissionIs, grown_to, outgrown, Rebuildable, RebuiltGrown, Growable, NewIs, ReplaceIs};
 
-use refusals::{OLD_SORT_VALUE, TABLE_FULL};
 use row_buffer::row_start;
 use table::refusing::is_old;
 use table::{Header, index_shape};
 
-// The result of an insert of a merge: no change, a row appended, or the merge stopped with a number.
-#[derive(Clone, Copy)]
-pub enum Insertion {
-    Unchanged,
-    Appended(Header),
-    Stopped(u32),
+// Why a merge stops: a row must be appended and cannot be. Each variant has its number.
+#[derive(Clone, Copy, Debug, PartialEq, Eq, Hash)]
+pub enum Stop {
+    // The table has as many rows as its capacity.
+    TableFull = 8,
+    // The row's sort value is below the largest one appended.
+    OldSortValue = 9,
 }
 
-// Whether a row can be appended: the number of a stop, or the number of sort entries including the row's.
-#[derive(Clone, Copy)]
-enum Admission {
-    Stop(u32),
-    Entries(u32),
+impl From<Stop> for u32 {
+    ghost from_gives = { λ stop result. result ≡ stop_number stop };
+
+    fn from(stop: Stop) -> u32 {
+        stop as u32
+    }
 }
 
-// Adds the sort entry of a row with this sort value, unless the row stops the merge. 8 is tested before 9.
-fn admit(h: Header, sorts: &mut [u32], value: u32) -> Admission
+// Adds the sort entry of a row with this sort value, unless the row stops the merge. Returns the number of sort entries.
+fn admit(h: Header, sorts: &mut [u32], value: u32) -> Result<u32, Stop>
     requires { Enterable h sorts.old }
     ensures { AdmissionIs h sorts.old value sorts.new result }
 {
     if h.capacity <= h.rows {
-        return Admission::Stop(TABLE_FULL);
+        return Err(Stop::TableFull);
     }
     if is_old(h, value) {
-        return Admission::Stop(OLD_SORT_VALUE);
+        return Err(Stop::OldSortValue);
     }
-    Admission::Entries(sort_entries::append_entry(sorts, h.entries, value, h.rows))
+    Ok(sort_entries::append_entry(sorts, h.entries, value, h.rows))
 }
 
 // The header with one more row, whose sort value is now the largest.
@@ -69,13 +70,13 @@ fn rebuild_grown(
     died: u32,
     entries: u32,
     value: u32,
-) -> Insertion
+) -> Header
     requires { Rebuildable h rows.now keys.old died }
     ensures { RebuiltGrown h rows.now keys.old died entries value result keys.new }
 {
     let n = grown(h, died, entries, value);
     key_rebuild::rebuild(index_shape(n), rows, keys);
-    Insertion::Appended(n)
+    n
 }
 
 // Appends the row of a new key. If the key store is sound, a slot is free.
@@ -86,22 +87,18 @@ pub fn insert_new(
     sorts: &mut [u32],
     cells: &[u32],
     hash: u32,
-) -> Insertion
+) -> Result<Header, Stop>
     requires { Growable h rows.old keys.old sorts.old cells.now }
     ensures { NewIs h rows.old keys.old sorts.old cells.now hash rows.new keys.new sorts.new result }
 {
     let value = cells[h.sort as usize];
-    match admit(h, sorts, value) {
-        Admission::Stop(number) => Insertion::Stopped(number),
-        Admission::Entries(entries) => {
-            row_buffer::write_row(rows, row_start(h.rows, h.columns), cells);
-            if is_outgrown(h) {
-                return rebuild_grown(h, rows, keys, 0, entries, value);
-            }
-            key_index::put(index_shape(h), keys, hash, h.rows);
-            Insertion::Appended(grown(h, 0, entries, value))
-        }
+    let entries = admit(h, sorts, value)?;
+    row_buffer::write_row(rows, row_start(h.rows, h.columns), cells);
+    if is_outgrown(h) {
+        return Ok(rebuild_grown(h, rows, keys, 0, entries, value));
     }
+    key_index::put(index_shape(h), keys, hash, h.rows);
+    Ok(grown(h, 0, entries, value))
 }
 
 // Appends a row of a known key. It takes over the key's slot, and the old row dies.
@@ -114,21 +111,17 @@ pub fn replace_row(
     hash: u32,
     old: u32,
     slot: u32,
-) -> Insertion
+) -> Result<Header, Stop>
     requires { Growable h rows.old keys.old sorts.old cells.now × (old < h.rows) × (slot < slots (index_shape_of h)) }
     ensures { ReplaceIs h rows.old keys.old sorts.old cells.now hash old slot rows.new keys.new sorts.new result }
 {
     let value = cells[h.sort as usize];
-    match admit(h, sorts, value) {
-        Admission::Stop(number) => Insertion::Stopped(number),
-        Admission::Entries(entries) => {
-            row_buffer::set_stale(rows, row_start(old, h.columns));
-            row_buffer::write_row(rows, row_start(h.rows, h.columns), cells);
-            if is_outgrown(h) {
-                return rebuild_grown(h, rows, keys, 1, entries, value);
-            }
-            key_index::replace(keys, slot, hash, h.rows);
-            Insertion::Appended(grown(h, 1, entries, value))
-        }
+    let entries = admit(h, sorts, value)?;
+    row_buffer::set_stale(rows, row_start(old, h.columns));
+    row_buffer::write_row(rows, row_start(h.rows, h.columns), cells);
+    if is_outgrown(h) {
+        return Ok(rebuild_grown(h, rows, keys, 1, entries, value));
     }
+    key_index::replace(keys, slot, hash, h.rows);
+    Ok(grown(h, 1, entries, value))
 }

@@ -5,7 +5,7 @@ ghost use Rattle.merge_pending.specs.inner.Becoming.{Ready};
 ghost use Rattle.std.specs.Prelude.{◌≤◌, length};
 ghost use Rattle.merge_insert.specs.inner.Insertions.{Insertions, FirstInsert, InsertNext, InsertedNext};
 
-use append::Insertion;
+pub use append::Stop;
 use merge_pending::{next_record, record_length};
 use row::insert_row;
 use table::{HASH_AT, Header, INSERT, RECORD_HEAD};
@@ -17,8 +17,21 @@ mod row; // row.rt: one insert
 #[derive(Clone, Copy)]
 pub struct MergeProgress {
     pub header: Header,
-    pub status: u32,
+    pub stopped: Option<StoppedAt>,
+}
+
+// Where a merge stopped: why, and at which of the inserts.
+#[derive(Clone, Copy)]
+pub struct StoppedAt {
+    pub stop: Stop,
     pub place: u32,
+}
+
+// The result of the inserts so far: the header, and how many inserts there were.
+#[derive(Clone, Copy)]
+struct Applied {
+    header: Header,
+    count: u32,
 }
 
 // The place where a pass over the inserts starts: the first record or, if that is a removal, behind all records of its kind that
@@ -27,10 +40,9 @@ fn first_place(h: Header, pending: &[u32]) -> u32
     requires { (h.columns ≤ 8) × (h.keys ≤ 8) × (h.pending ≤ length pending.now) }
     ensures { FirstInsert h pending.now result }
 {
-    let words = record_length(h, pending, 0);
-    if words == 0 {
+    let Some(words) = record_length(h, pending, 0) else {
         return 0;
-    }
+    };
     if pending[0] == INSERT {
         return 0;
     }
@@ -38,43 +50,28 @@ fn first_place(h: Header, pending: &[u32]) -> u32
 }
 
 // Applies the record at a place if it is an insert. Takes the result of the inserts before it, and returns the result that includes
-// it: `place` is that of the next insert, unless this insert stops the merge.
+// it.
 fn insert_next(
-    m: MergeProgress,
+    m: Applied,
     rows: &mut [u32],
     keys: &mut [u32],
     sorts: &mut [u32],
     pending: &[u32],
     at: u32,
-) -> MergeProgress
+) -> Result<Applied, Stop>
     requires { InsertNext m rows.old keys.old sorts.old pending.now at }
     ensures { InsertedNext m rows.old keys.old sorts.old pending.now at result rows.new keys.new sorts.new }
 {
     let start = at as usize;
     if pending[start] != INSERT {
-        return m;
+        return Ok(m);
     }
-    let n = m.header;
     let hash = pending[start + HASH_AT];
-    let one = insert_row(n, rows, keys, sorts, pending, at + RECORD_HEAD, hash);
-    let mut r = m;
-    match one {
-        Insertion::Unchanged => {
-            r.status = 0;
-            r.place = m.place + 1;
-            r
-        }
-        Insertion::Appended(next) => {
-            r.header = next;
-            r.status = 0;
-            r.place = m.place + 1;
-            r
-        }
-        Insertion::Stopped(number) => {
-            r.status = number;
-            r
-        }
-    }
+    let appended = insert_row(m.header, rows, keys, sorts, pending, at + RECORD_HEAD, hash)?;
+    Ok(Applied {
+        header: appended.unwrap_or(m.header),
+        count: m.count + 1,
+    })
 }
 
 // Applies all inserts, in staging order, until one must be appended and cannot be. A run of removals before them is skipped.
@@ -88,21 +85,28 @@ pub fn insert_all(
     requires { Ready h rows.old keys.old sorts.old pending.now }
     ensures { Insertions h rows.old keys.old sorts.old pending.now result rows.new keys.new sorts.new }
 {
-    let mut done = MergeProgress {
+    let mut done = Applied {
         header: h,
-        status: 0,
-        place: 0,
+        count: 0,
     };
     let mut at = first_place(h, pending);
-    let mut words = record_length(h, pending, at);
-    while words != 0 {
-        done = insert_next(done, rows, keys, sorts, pending, at);
-        if done.status != 0 {
-            return done;
+    while let Some(words) = record_length(h, pending, at) {
+        match insert_next(done, rows, keys, sorts, pending, at) {
+            Ok(next) => done = next,
+            Err(stop) => {
+                return MergeProgress {
+                    header: done.header,
+                    stopped: Some(StoppedAt {
+                        stop,
+                        place: done.count,
+                    }),
+                };
+            }
         }
         at += words;
-        words = record_length(h, pending, at);
     }
-    done.place = 0;
-    done
+    MergeProgress {
+        header: done.header,
+        stopped: None,
+    }
 }

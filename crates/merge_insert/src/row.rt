@@ -7,7 +7,7 @@ ghost use Rattle.merge_pending.specs.inner.Becoming.{Ready};
 ghost use Rattle.merge_insert.specs.inner.Inserting.{Inserting};
 ghost use Rattle.merge_insert.specs.inner.Ruling.{MadeIs, Makeable, KnownIs};
 
-use super::append::{Insertion, insert_new, replace_row};
+use super::append::{Stop, insert_new, replace_row};
 use merge_rules::TAKE_NEW;
 use row_buffer::row_start;
 use table::{Header, index_shape};
@@ -49,7 +49,7 @@ fn make_row<'a>(
     true
 }
 
-// Inserts a row of a known key, which goes through the rule.
+// Inserts a row of a known key, which goes through the rule. Returns the header, if a row was appended.
 fn insert_known(
     h: Header,
     rows: &mut [u32],
@@ -60,19 +60,20 @@ fn insert_known(
     hash: u32,
     old: u32,
     slot: u32,
-) -> Insertion
+) -> Result<Option<Header>, Stop>
     requires { Ready h rows.old keys.old sorts.old pending.now × (from + h.columns ≤ h.pending) × (old < h.rows) × (slot < slots (index_shape_of h)) }
     ensures { KnownIs h rows.old keys.old sorts.old (take h.columns (drop from pending.now)) hash old slot rows.new keys.new sorts.new result }
 {
     let mut row = [0u32; 8];
     if !make_row(h, rows, old, pending, from, &mut row) {
-        return Insertion::Unchanged;
+        return Ok(None);
     }
     let width = h.columns as usize;
-    replace_row(h, rows, keys, sorts, &row[0..width], hash, old, slot)
+    let n = replace_row(h, rows, keys, sorts, &row[0..width], hash, old, slot)?;
+    Ok(Some(n))
 }
 
-// Applies one insert, whose cells are in the pending store from `from` on.
+// Applies one insert, whose cells are in the pending store from `from` on. Returns the header, if a row was appended.
 pub fn insert_row(
     h: Header,
     rows: &mut [u32],
@@ -81,19 +82,20 @@ pub fn insert_row(
     pending: &[u32],
     from: u32,
     hash: u32,
-) -> Insertion
+) -> Result<Option<Header>, Stop>
     requires { Ready h rows.old keys.old sorts.old pending.now × (from + h.columns ≤ h.pending) }
     ensures { Inserting h rows.old keys.old sorts.old (take h.columns (drop from pending.now)) hash result rows.new keys.new sorts.new }
 {
     let at = from as usize;
     if cells::is_stale(pending[at]) {
-        return Insertion::Unchanged;
+        return Ok(None);
     }
     let key = &pending[at..at + h.keys as usize];
     match key_index::look_up(index_shape(h), rows, keys, key, hash) {
         None => {
             let end = at + h.columns as usize;
-            insert_new(h, rows, keys, sorts, &pending[at..end], hash)
+            let n = insert_new(h, rows, keys, sorts, &pending[at..end], hash)?;
+            Ok(Some(n))
         }
         Some(hit) => { insert_known(h, rows, keys, sorts, pending, from, hash, hit.row, hit.slot) }
     }

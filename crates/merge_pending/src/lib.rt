@@ -7,23 +7,20 @@ ghost use Rattle.merge_pending.specs.inner.Becoming.{RecordLength, RunSkipped, C
 
 use table::{Header, REMOVE_ROW};
 
-// The number of words of the record at a place of the pending store; 0 if no complete record starts there.
-pub fn record_length(h: Header, pending: &[u32], at: u32) -> u32
+// The number of words of the record at a place of the pending store, if a complete record starts there.
+pub fn record_length(h: Header, pending: &[u32], at: u32) -> Option<u32>
     requires { (h.columns ≤ 8) × (h.keys ≤ 8) × (h.pending ≤ length pending.now) × (at ≤ h.pending) }
     ensures { RecordLength h pending.now at result }
 {
     if h.pending <= at {
-        return 0;
+        return None;
     }
     let kind = pending[at as usize];
     if REMOVE_ROW < kind {
-        return 0;
+        return None;
     }
     let words = table::kind_words(h, kind);
-    if h.pending - at < words {
-        return 0;
-    }
-    words
+    (words <= h.pending - at).then_some(words)
 }
 
 // The place after a run of records of one kind, each of `words` words.

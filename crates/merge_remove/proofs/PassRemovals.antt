@@ -1,8 +1,9 @@
 -- The removals of a pass: one record's turn, and what holds at each turn of the loop over the pending records. Assumes
 -- nothing.
-use Rattle.merge_remove.proofs.Prelude.{ℕ, ◌+◌, ◌*◌, ◌-◌, ◌≤◌, ◌≡◌, refl, sym, ap, ◌∙◌, Bool, true, false, cond, List, [], ◌∷◌, ℕ_discrete, add-zero, arith, eqb, length, take, drop, get_or, eq-eqb, ne_eqb, inl, inr, split, Fits, Staged, insert, remove_key, remove_row, Plain, Header, opening_of, full_index_shape_of, Stores, stores, Represents, SamePast, steps_refl, steps_then, waiting_start, words_some, waiting_kind, waiting_hash, waiting_key, waiting_row, waiting_row_key}
+use Rattle.merge_remove.proofs.Prelude.{ℕ, ◌+◌, ◌*◌, ◌-◌, ◌≤◌, ◌≡◌, refl, sym, ap, ◌∙◌, Bool, true, false, cond, List, [], ◌∷◌, ℕ_discrete, add-zero, arith, eqb, length, take, drop, get_or, eq-eqb, ne_eqb, inl, inr, split, Fits, Staged, insert, remove_key, remove_row, Plain, Header, opening_of, full_index_shape_of, Stores, stores, Represents, SamePast, steps_refl, steps_then, waiting_start, waiting_kind, waiting_hash, waiting_key, waiting_row, waiting_row_key}
+use Rattle.std.specs.Prelude.{None}
 use Rattle.lists.specs.Lists.{filter}
-use Rattle.merge_pending.specs.inner.Becoming.{Becomes, with_dead, Waiting, kind_of, RecordLength, of_kind, Remaining, CanSkip, NextRecord}
+use Rattle.merge_pending.specs.inner.Becoming.{Becomes, with_dead, Waiting, kind_of, RecordAt, RecordLength, of_kind, Remaining, CanSkip, NextRecord}
 use Rattle.merge_remove.specs.inner.Removals.{removed, removed_all, died, removal_of, Removal, RemovalAt, Removed, Removable, Removals, RemovalNext, RemovedNext}
 use Rattle.merge_pending.proofs.PassRecords.{Next, record_long}
 
@@ -93,8 +94,7 @@ pub record Removes (kind at : ℕ) (p : Plain) (s s' : Stores) : Type 0 where
   pub steps : Becomes p now s s'
 
 -- the loop's invariant
-pub record Removing (h : Header) (rows keys pending : List ℕ) (kind : ℕ) (rows' keys' : List ℕ) (dead at words : ℕ) : Type 0 where
-  pub here : RecordLength h pending at words
+pub record Removing (h : Header) (rows keys pending : List ℕ) (kind : ℕ) (rows' keys' : List ℕ) (dead at : ℕ) : Type 0 where
   pub inside : at ≤ h.pending
   pub few : 3 * dead ≤ 3 * h.dead + at
   pub fits : Fits (full_index_shape_of h) rows' keys'
@@ -105,10 +105,9 @@ pub record Removing (h : Header) (rows keys pending : List ℕ) (kind : ℕ) (ro
       → Removes kind at p (stores h rows keys sorts pending) (stores (with_dead h dead) rows' keys' sorts pending)
 
 module _ {h : Header} {rows keys pending : List ℕ} {kind : ℕ} (a : Removable h rows keys pending kind) where
-  pub removing_begin : {words : ℕ} → RecordLength h pending 0 words → Removing h rows keys pending kind rows keys h.dead 0 words
-  removing_begin l =
+  pub removing_begin : Removing h rows keys pending kind rows keys h.dead 0
+  removing_begin =
       record {
-        here = l;
         inside = omega arith;
         few = omega arith;
         fits = a.fits;
@@ -118,20 +117,17 @@ module _ {h : Header} {rows keys pending : List ℕ} {kind : ℕ} (a : Removable
         table = λ sorts p t. record { now = p; rest = p.staged; waiting = waiting_start t; same = refl; steps = steps_refl t };
       }
 
-  module _ {rows' keys' : List ℕ} {dead at words : ℕ} (v : Removing h rows keys pending kind rows' keys' dead at words) where
-    module _ (some : words ≡ 0 → ⊥) where
+  module _ {rows' keys' : List ℕ} {dead at : ℕ} (v : Removing h rows keys pending kind rows' keys' dead at) where
+    module _ {words : ℕ} (here : RecordAt h pending at words) where
       pub removing_long : 3 ≤ words
-      removing_long = record_long v.here a.fits.some_columns a.fits.some_keys (omega arith)
-
-      pub removing_inside : at + words ≤ h.pending
-      removing_inside = v.here.inside (omega arith)
+      removing_long = record_long here a.fits.some_columns a.fits.some_keys
 
       -- the record at the place is complete
       pub removing_requires : RemovalNext h rows' keys' pending at kind
       removing_requires =
           record {
             fits = v.fits;
-            inside = omega (arith, removing_long, removing_inside, a.pending_fits);
+            inside = omega (arith, removing_long, here.inside, a.pending_fits);
             whole = whole;
             some_kind = a.some_kind;
           }
@@ -143,21 +139,19 @@ module _ {h : Header} {rows keys pending : List ℕ} {kind : ℕ} (a : Removable
               record { some_kind = omega arith; most_kind = omega arith; whole = long (ℕ_discrete (get_or pending at 0) 1) }
             where
               long : Dec (get_or pending at 0 ≡ 1) → at + (h.keys + 1 + get_or pending at 0) ≤ length pending
-              long (yes q) = omega (arith, v.here.of_key (omega arith) q, removing_inside, a.pending_fits)
+              long (yes q) = omega (arith, here.of_key q, here.inside, a.pending_fits)
               long (no q) =
                   let two : get_or pending at 0 ≡ 2 = omega (arith, a.some_kind, a.most_kind) in
-                  omega (arith, v.here.of_row (omega arith) two, removing_inside, a.pending_fits)
+                  omega (arith, here.of_row two, here.inside, a.pending_fits)
 
       pub removing_passes : CanSkip h pending at words
-      removing_passes = record { here = v.here; some = omega arith; fits = a.pending_fits }
+      removing_passes = record { here = here; fits = a.pending_fits }
 
       -- once more
-      pub removing_again : {r : ℕ} {rows'' keys'' : List ℕ} {at' words' : ℕ} → RemovedNext h rows' keys' pending at kind r rows'' keys'' → NextRecord h pending at words kind at'
-          → RecordLength h pending at' words' → length rows'' ≡ length rows' → length keys'' ≡ length keys'
-          → Removing h rows keys pending kind rows'' keys'' (dead + r) at' words'
-      removing_again {r} {rows''} {keys''} {at'} one passes l same_rows same_keys =
+      pub removing_again : {r : ℕ} {rows'' keys'' : List ℕ} {at' : ℕ} → RemovedNext h rows' keys' pending at kind r rows'' keys'' → NextRecord h pending at words kind at'
+          → length rows'' ≡ length rows' → length keys'' ≡ length keys' → Removing h rows keys pending kind rows'' keys'' (dead + r) at'
+      removing_again {r} {rows''} {keys''} {at'} one passes same_rows same_keys =
           record {
-            here = l;
             inside = passes.inside;
             few = omega (arith, removing_long, v.few, one.few, passes.on);
             fits = omega (arith, v.fits);
@@ -169,7 +163,7 @@ module _ {h : Header} {rows keys pending : List ℕ} {kind : ℕ} (a : Removable
         where
           on : (sorts : List ℕ) (p : Plain) (t : Represents p (stores h rows keys sorts pending)) (rest : List Staged) → (v.table sorts p t).rest ≡ rest
               → Removes kind at' p (stores h rows keys sorts pending) (stores (with_dead h (dead + r)) rows'' keys'' sorts pending)
-          on sorts p t [] e = absurd (some (v.here.none (rw e at (v.table sorts p t).waiting)))
+          on sorts p t [] e = absurd (here.none (rw e at (v.table sorts p t).waiting))
           on sorts p t (first ∷ rest) e =
               let g = v.table sorts p t in
               let w : Next h pending at first rest = rw e at g.waiting in
@@ -185,8 +179,8 @@ module _ {h : Header} {rows keys pending : List ℕ} {kind : ℕ} (a : Removable
               }
 
     -- no record is left
-    pub removing_end : words ≡ 0 → Removals h rows keys pending kind (with_dead h dead) rows' keys'
-    removing_end z =
+    pub removing_end : RecordLength h pending at None → Removals h rows keys pending kind (with_dead h dead) rows' keys'
+    removing_end nothing =
         record {
           header = refl;
           dead_few = omega (arith, v.few, v.inside);
@@ -202,4 +196,4 @@ module _ {h : Header} {rows keys pending : List ℕ} {kind : ℕ} (a : Removable
             rw q g.steps
         done sorts p t (first ∷ rest) e =
             let w : Next h pending at first rest = rw e at (v.table sorts p t).waiting in
-            absurd (omega (arith, v.here.next first rest w, words_some (opening_of h) first))
+            absurd (nothing first rest w)

@@ -108,11 +108,9 @@ pub fn remove_all(
 {
     let mut dead = h.dead;
     let mut at: u32 = 0;
-    let mut words = record_length(h, pending, at);
-    while words != 0 {
+    while let Some(words) = record_length(h, pending, at) {
         dead += remove_next(h, rows, keys, pending, at, kind);
         at = next_record(h, pending, at, words, kind);
-        words = record_length(h, pending, at);
     }
     let mut n = h;
     n.dead = dead;

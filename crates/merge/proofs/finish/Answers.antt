@@ -4,11 +4,11 @@ use native.Mathlib.Omega.{arith}
 use Rattle.merge.proofs.MergingSteps.{due_left, lendable_emptied, finish_stopped, finish_kept, finish_compacted}
 use Rattle.merge.proofs.finish.Goals as goal
 
-pub returns-then-m-ne0 : goal.returns-then-m-ne0
-returns-then-m-ne0 c = finish_stopped _ _ _ _ _ _ _ c.if-m-ne0.true
+pub returns-in-Some : goal.returns-in-Some
+returns-in-Some c = rw c.from.ensures (finish_stopped _ _ _ _ _ _ _ _ c.in-Some.is)
 
 pub returns-then-not-is_due : goal.returns-then-not-is_due
-returns-then-not-is_due c = finish_kept _ _ _ _ _ _ _ c.if-m-ne0.false (sym c.is_due.ensures ∙ c.if-not-is_due.true)
+returns-then-not-is_due c = finish_kept _ _ _ _ _ _ _ c.in_default.is (sym c.is_due.ensures ∙ c.if-not-is_due.true)
 
 pub compact_rows-compacted-requires : goal.compact_rows-compacted-requires
 compact_rows-compacted-requires c =
@@ -16,4 +16,4 @@ compact_rows-compacted-requires c =
 
 pub returns : goal.returns
 returns c =
-    finish_compacted _ _ _ _ _ _ _ c.if-m-ne0.false (sym c.is_due.ensures ∙ c.if-not-is_due.false) _ _ _ _ _ _ c.compact_rows-compacted.ensures
+    finish_compacted _ _ _ _ _ _ _ c.in_default.is (sym c.is_due.ensures ∙ c.if-not-is_due.false) _ _ _ _ _ _ c.compact_rows-compacted.ensures

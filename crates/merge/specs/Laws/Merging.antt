@@ -18,7 +18,7 @@ use Rattle.table.specs.Numbers.{merge_view}
 use Rattle.table.specs.Stores.{header_of, row_store, sort_store}
 use Rattle.table.specs.Outcomes.{Stores, stores, body, compaction_words, Represents, merge_of, merged_store, MergedTable}
 use Rattle.merge_pending.specs.inner.Becoming.{Becomes}
-use Rattle.merge_insert.specs.inner.Insertions.{InsertedTable}
+use Rattle.merge_insert.specs.inner.Insertions.{stop_status, InsertedTable}
 use Rattle.merge_remove.specs.inner.Removals.{removed_all}
 use Rattle.merge.specs.inner.Parts.{AppliedTable, finished, FinishedTable}
 use Rattle.table.proofs.Laws.Shown.{rows_counted}
@@ -99,7 +99,7 @@ module _ {h : Header} {rows keys sorts pending live base : List ℕ} {m : MergeP
     (a : AppliedTable p (stores h rows keys sorts pending) (stores m.header rows₁ keys₁ sorts₁ pending) m)
     (f : FinishedTable m h.rows rows₁ keys₁ sorts₁ live base r rows' keys' sorts' live' base' pending (applied p).table) where
   -- the result is the merged table
-  merged_finished : finished m.status (applied p).table ≡ (merged p).table
+  merged_finished : finished (stop_status m.stopped) (applied p).table ≡ (merged p).table
   unfolding merged
   merged_finished = ap (λ (status : ℕ). finished status (applied p).table) a.status
 

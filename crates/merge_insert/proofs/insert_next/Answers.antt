@@ -1,6 +1,7 @@
 -- `merge_insert::insert_next` meets its contract. Assumes nothing.
 use Rattle.merge_insert.proofs.Prelude.{arith}
-use Rattle.merge_insert.proofs.PassInserts.{inserted_other, inserted_kept, inserted_appended, inserted_stopped}
+use Rattle.merge_insert.proofs.PassInserts.{inserted_other, inserted_next, inserted_stopped}
+use Rattle.std.proofs.lemmas.Result.{err_from_is_err_and}
 use Rattle.merge_insert.proofs.insert_next.Goals as goal
 
 pub returns-then-pending-start-ne-INSERT : goal.returns-then-pending-start-ne-INSERT
@@ -12,20 +13,17 @@ bounds-pending-start-2 c = let p = c.requires in omega (arith, p.ready.pending_f
 pub overflow_add-at : goal.overflow_add-at
 overflow_add-at c = let p = c.requires in omega (arith, p.whole c.if-pending-start-ne-INSERT.false)
 
-pub insert_row-one-requires : goal.insert_row-one-requires
-insert_row-one-requires c = let p = c.requires in (p.ready, omega (arith, p.whole c.if-pending-start-ne-INSERT.false))
+pub insert_row-requires : goal.insert_row-requires
+insert_row-requires c = let p = c.requires in (p.ready, omega (arith, p.whole c.if-pending-start-ne-INSERT.false))
 
-pub overflow_add-r-in-Appended : goal.overflow_add-r-in-Appended
-overflow_add-r-in-Appended c = let p = c.requires in omega (arith, p.place_fits, p.inside)
+pub overflow_add-result : goal.overflow_add-result
+overflow_add-result c = let p = c.requires in omega (arith, p.place_fits, p.inside)
 
-pub returns-in-Unchanged : goal.returns-in-Unchanged
-returns-in-Unchanged c =
-    inserted_kept c.requires c.if-pending-start-ne-INSERT.false c.insert_row-one.ensures c.in-Unchanged.is
+pub returns-in_err-appended : goal.returns-in_err-appended
+returns-in_err-appended c =
+    let p = err_from_is_err_and c.from_residual.result c.from_residual.ensures.1 in
+    rw (p.1, p.2) (inserted_stopped c.requires c.if-pending-start-ne-INSERT.false _ c.in_err-appended.ensures)
 
-pub returns-in-Appended : goal.returns-in-Appended
-returns-in-Appended c =
-    inserted_appended c.requires c.if-pending-start-ne-INSERT.false c.insert_row-one.ensures _ c.in-Appended.is
-
-pub returns-in-Stopped : goal.returns-in-Stopped
-returns-in-Stopped c =
-    inserted_stopped c.requires c.if-pending-start-ne-INSERT.false c.insert_row-one.ensures _ c.in-Stopped.is
+pub returns : goal.returns
+returns c =
+    rw c.unwrap_or.ensures (inserted_next c.requires c.if-pending-start-ne-INSERT.false _ c.in_ok-appended.ensures)

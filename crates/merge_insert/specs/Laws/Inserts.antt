@@ -1,7 +1,7 @@
 -- One insert of a merge: the effect of its parts on the stores is that of the plain table's insertion. First come the cases of an
 -- insertion, then the row made and the key store afterwards, then the contract of the insert for each case. Assumes nothing.
 use Prim.Native.Nat.{ℕ, zero, suc, ◌+◌, ◌*◌, ◌≤◌, ◌<◌}
-use Rattle.std.specs.Prelude.{◌≡◌, Bool, true, false, Option as RustOption, Some, None, leb, length, drop, get_or, set}
+use Rattle.std.specs.Prelude.{◌≡◌, Bool, true, false, Option as RustOption, Some, None, Result, Ok, Err, leb, length, drop, get_or, set}
 use Rattle.std.proofs.Math.Path.{refl, ap, ap₂}
 use Rattle.std.proofs.Common.{sym, ◌∙◌, inl, inr, add-zero, suc-mul, add-one, arith, length-set, leb-true, eqb-true}
 use Rattle.std.proofs.Math.Option.{Option, none, some}
@@ -30,15 +30,14 @@ use Rattle.plain_table.specs.Proper.{row_of}
 use Rattle.plain_table.proofs.Laws.Rows.{keys_distinct_of}
 use Rattle.plain_table.proofs.Laws.Proper.{insertion_proper}
 use Rattle.table.specs.declared.Header.{Header}
-use Rattle.merge_insert.specs.declared.append.Insertion.{Insertion}
-use Rattle.merge_insert.specs.declared.append.Insertion.TheVariants.{Unchanged, Appended, Stopped}
+use Rattle.merge_insert.specs.declared.append.Stop.{Stop}
 use Rattle.table.specs.Sound.{index_shape_of}
 use Rattle.table.specs.inner.FullIndexShape.{full_index_shape_of}
 use Rattle.table.proofs.Laws.Refusals.{full_shape_fits}
 use Rattle.table.specs.Outcomes.{Stores, stores, Represents}
 use Rattle.merge_pending.specs.inner.Becoming.{Recounted, hash_of}
 use Rattle.merge_insert.specs.inner.Inserting.{InsertAgrees, Inserting}
-use Rattle.merge_insert.specs.inner.Appending.{grown_to, outgrown, KeysGrown, Grew, NewIs, Replaced}
+use Rattle.merge_insert.specs.inner.Appending.{Insertion, appended, stop_number, grown_to, outgrown, KeysGrown, Grew, NewIs, Replaced}
 use Rattle.merge_insert.specs.inner.Ruling.{Changes, row_made, KnownIs}
 use Rattle.table.proofs.Laws.Stored.{marked_dead}
 use Rattle.table.proofs.Laws.Shown.{in_live}
@@ -210,19 +209,19 @@ led {h} l steps = elim (split (outgrown h)) [ inl o ↦ l.more o | inr o ↦ ste
 -- ---- the contract of an insert
 
 header_in : Header → Insertion → Header
-header_in d Unchanged = d
-header_in d (Appended h) = h
-header_in d (Stopped n) = d
+header_in d (Ok None) = d
+header_in d (Ok (Some h)) = h
+header_in d (Err stop) = d
 
-same_header : (a b : Header) → ◌≡◌ {A = Insertion} (Appended a) (Appended b) → a ≡ b
+same_header : (a b : Header) → ◌≡◌ {A = Insertion} (Ok (Some a)) (Ok (Some b)) → a ≡ b
 unfolding header_in
 same_header a b e = ap (header_in a) e
 
-kept_no : (h : Header) → ◌≡◌ {A = Insertion} Unchanged (Appended h) → ⊥
+kept_no : (h : Header) → ◌≡◌ {A = Insertion} (Ok None) (Ok (Some h)) → ⊥
 kept_no h e = let z : ◌≡◌ {A = ℕ} 0 1 = cc in omega arith
 
-stopped_no : (n : ℕ) (h : Header) → ◌≡◌ {A = Insertion} (Stopped n) (Appended h) → ⊥
-stopped_no n h e = let z : ◌≡◌ {A = ℕ} 0 1 = cc in omega arith
+stopped_no : (stop : Stop) (h : Header) → ◌≡◌ {A = Insertion} (Err stop) (Ok (Some h)) → ⊥
+stopped_no stop h e = let z : ◌≡◌ {A = ℕ} 0 1 = cc in omega arith
 
 -- the counts with one more row still fit
 recounted : (h : Header) (d e v : ℕ) → h.rows < h.capacity → h.entries ≤ h.rows → e ≤ h.entries + 1 → d ≤ h.dead + 1
@@ -232,7 +231,7 @@ recounted h d e v room few k l =
 
 module _ (h : Header) (rows keys sorts cells : List ℕ) (hash : ℕ) where
   -- "An insert with a dead first cell is skipped"
-  pub skip_inserts : is_dead (get_or cells 0 0) ≡ true → Inserting h rows keys sorts cells hash Unchanged rows keys sorts
+  pub skip_inserts : is_dead (get_or cells 0 0) ≡ true → Inserting h rows keys sorts cells hash (Ok None) rows keys sorts
   unfolding skipped
   skip_inserts e =
       record {
@@ -317,7 +316,7 @@ module _ (h : Header) (rows keys sorts cells : List ℕ) (hash : ℕ) where
 
           -- the stores after the row made is appended and the old row is dead
           replaced_steps : (h' : Header) (rows' keys' sorts' : List ℕ) → Replaced h rows keys sorts (row_made h (row_at h.columns hit.row rows) cells) hash hit.row hit.slot h' rows' keys' sorts'
-              → InsertAgrees p cells (stores h rows keys sorts pending) rows' keys' sorts' (Appended h')
+              → InsertAgrees p cells (stores h rows keys sorts pending) rows' keys' sorts' (Ok (Some h'))
           replaced_steps h' rows' keys' sorts' g =
               let row : List ℕ = row_made h (row_at h.columns hit.row rows) cells in
               let goes : insertion cells p ≡ accepted (with_row p (kill_at hit.row p.rows) row) =
@@ -335,7 +334,7 @@ module _ (h : Header) (rows keys sorts cells : List ℕ) (hash : ℕ) where
 
       -- the stores after the row of a new key is appended
       grew_steps : f ≡ None → (h' : Header) (rows' keys' sorts' : List ℕ) → Grew h rows keys sorts cells hash h' rows' keys' sorts'
-          → InsertAgrees p cells (stores h rows keys sorts pending) rows' keys' sorts' (Appended h')
+          → InsertAgrees p cells (stores h rows keys sorts pending) rows' keys' sorts' (Ok (Some h'))
       grew_steps e h' rows' keys' sorts' g =
           let goes : insertion cells p ≡ accepted (with_row p p.rows cells) =
           new_way e ∙ append_goes cells p p.rows (stop_same r cells ∙ g.entered.free) in (
@@ -350,11 +349,10 @@ module _ (h : Header) (rows keys sorts cells : List ℕ) (hash : ℕ) where
           )
 
     -- "A new key is appended"
-    pub new_inserts : f ≡ None → (r : Insertion) (rows' keys' sorts' : List ℕ) → NewIs h rows keys sorts cells hash rows' keys' sorts' r
-        → Inserting h rows keys sorts cells hash r rows' keys' sorts'
+    pub new_inserts : f ≡ None → (r : Result Header Stop) (rows' keys' sorts' : List ℕ) → NewIs h rows keys sorts cells hash rows' keys' sorts' r
+        → Inserting h rows keys sorts cells hash (appended r) rows' keys' sorts'
     unfolding hash_of
-    new_inserts e Unchanged rows' keys' sorts' g = absurd g
-    new_inserts e (Appended h') rows' keys' sorts' g =
+    new_inserts e (Ok h') rows' keys' sorts' g =
         record {
           past = g.keys_after.past;
           header = λ h'' q.
@@ -363,26 +361,26 @@ module _ (h : Header) (rows keys sorts cells : List ℕ) (hash : ℕ) where
           unchanged = λ no. absurd (no h' refl);
           table = λ hash-is pending p r. grew_steps hash-is r e h' rows' keys' sorts' g;
         }
-    new_inserts e (Stopped n) rows' keys' sorts' g =
+    new_inserts e (Err stop) rows' keys' sorts' g =
         record {
           past = ap (drop (2 * h.capacity)) g.same_keys;
-          header = λ h'' q. absurd (stopped_no n h'' q);
+          header = λ h'' q. absurd (stopped_no stop h'' q);
           unchanged = λ no. (g.same_rows, g.same_keys, g.same_sorts);
-          table = λ hash-is pending p r. (new_way hash-is r e ∙ append_stops cells p p.rows n (stop_same r cells ∙ g.stops.number) g.stops.some, g.stops.some);
+          table = λ hash-is pending p r. (new_way hash-is r e ∙ append_stops cells p p.rows (stop_number stop) (stop_same r cells ∙ g.stops.number) g.stops.some, g.stops.some);
         }
 
     -- "A known key goes through the rule; a row so made is appended and the old row dies"
     pub known_inserts : (hit : Hit) → f ≡ Some hit → (r : Insertion) (rows' keys' sorts' : List ℕ) → KnownIs h rows keys sorts cells hash hit.row hit.slot rows' keys' sorts' r
         → Inserting h rows keys sorts cells hash r rows' keys' sorts'
     unfolding hash_of
-    known_inserts hit e Unchanged rows' keys' sorts' g =
+    known_inserts hit e (Ok None) rows' keys' sorts' g =
         record {
           past = ap (drop (2 * h.capacity)) g.same_keys;
           header = λ h'' q. absurd (kept_no h'' q);
           unchanged = λ no. (g.same_rows, g.same_keys, g.same_sorts);
           table = λ hash-is pending p r. keep_way hash-is r hit e g.unchanged;
         }
-    known_inserts hit e (Appended h') rows' keys' sorts' g =
+    known_inserts hit e (Ok (Some h')) rows' keys' sorts' g =
         record {
           past = g.1.keys_after.past;
           header = λ h'' q.
@@ -391,14 +389,14 @@ module _ (h : Header) (rows keys sorts cells : List ℕ) (hash : ℕ) where
           unchanged = λ no. absurd (no h' refl);
           table = λ hash-is pending p r. replaced_steps hash-is r hit e g.0 h' rows' keys' sorts' g.1;
         }
-    known_inserts hit e (Stopped n) rows' keys' sorts' g =
+    known_inserts hit e (Err stop) rows' keys' sorts' g =
         record {
           past = ap (drop (2 * h.capacity)) g.1.same_keys;
-          header = λ h'' q. absurd (stopped_no n h'' q);
+          header = λ h'' q. absurd (stopped_no stop h'' q);
           unchanged = λ no. (g.1.same_rows, g.1.same_keys, g.1.same_sorts);
           table = λ hash-is pending p r. (
             make_way hash-is r hit e g.0
-                ∙ append_stops _ p (kill_at hit.row p.rows) n (stop_same r _ ∙ g.1.stops.number) g.1.stops.some,
+                ∙ append_stops _ p (kill_at hit.row p.rows) (stop_number stop) (stop_same r _ ∙ g.1.stops.number) g.1.stops.some,
             g.1.stops.some,
           );
         }

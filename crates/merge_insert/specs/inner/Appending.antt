@@ -11,16 +11,30 @@ use Rattle.key_index.specs.inner.Index.{Fits, PutIs}
 use Rattle.key_rebuild.specs.inner.Rebuilding.{Rebuilt}
 use Rattle.plain_table.specs.Plain.{below}
 use Rattle.table.specs.declared.Header.{Header}
-use Rattle.std.specs.Prelude.{Some}
+use Rattle.std.specs.Prelude.{Option, Some, Result, Ok, Err}
 use Rattle.table.specs.Numbers.{largest_view}
-use Rattle.merge_insert.specs.declared.append.Insertion.{Insertion}
-use Rattle.merge_insert.specs.declared.append.Insertion.TheVariants.{Unchanged, Appended, Stopped}
-use Rattle.merge_insert.specs.declared.append.Admission.{Admission}
-use Rattle.merge_insert.specs.declared.append.Admission.TheVariants.{Stop, Entries}
+use Rattle.merge_insert.specs.declared.append.Stop.{Stop}
+use Rattle.merge_insert.specs.declared.append.Stop.TheVariants.{TableFull, OldSortValue}
 use Rattle.table.specs.Sound.{index_shape_of}
 use Rattle.table.specs.inner.FullIndexShape.{full_index_shape_of}
 use Rattle.table.specs.Outcomes.{SamePast}
 use Rattle.merge_pending.specs.inner.Becoming.{with_counts}
+
+-- ---- the answers
+
+-- the number of each stop
+abbrev pub stop_number : Stop → ℕ
+stop_number TableFull = 8
+stop_number OldSortValue = 9
+
+-- an insert: the header if a row was appended, or a stop
+abbrev pub Insertion : Type 0
+Insertion = Result (Option Header) Stop
+
+-- an append, as the insert that it is
+abbrev pub appended : Result Header Stop → Insertion
+appended (Ok h) = Ok (Some h)
+appended (Err stop) = Err stop
 
 -- ---- the sort entry of a row
 
@@ -50,9 +64,9 @@ pub record Entered (h : Header) (sorts : List ℕ) (value n : ℕ) (sorts' : Lis
   pub same : length sorts' ≡ length sorts
 
 -- a stop writes nothing
-abbrev pub AdmissionIs : Header → List ℕ → ℕ → List ℕ → Admission → Type 0
-AdmissionIs h sorts value sorts' (Stop n) = Stops h value n × (sorts' ≡ sorts)
-AdmissionIs h sorts value sorts' (Entries n) = Entered h sorts value n sorts'
+abbrev pub AdmissionIs : Header → List ℕ → ℕ → List ℕ → Result ℕ Stop → Type 0
+AdmissionIs h sorts value sorts' (Err stop) = Stops h value (stop_number stop) × (sorts' ≡ sorts)
+AdmissionIs h sorts value sorts' (Ok n) = Entered h sorts value n sorts'
 
 -- ---- a row is appended
 
@@ -77,8 +91,8 @@ pub record Rebuildable (h : Header) (rows keys : List ℕ) (died : ℕ) : Type 0
   pub place : h.rows < h.capacity
   pub dead_fits : h.dead + died ≤ 4294967295
 
-pub record RebuiltGrown (h : Header) (rows keys : List ℕ) (died entries value : ℕ) (r : Insertion) (keys' : List ℕ) : Type 0 where
-  pub answer : r ≡ Appended (grown_to h (h.dead + died) entries value)
+pub record RebuiltGrown (h : Header) (rows keys : List ℕ) (died entries value : ℕ) (r : Header) (keys' : List ℕ) : Type 0 where
+  pub answer : r ≡ grown_to h (h.dead + died) entries value
   pub rebuilt : Rebuilt (index_shape_of (grown_to h (h.dead + died) entries value)) rows keys keys'
 
 -- stores long enough for one more row, and the cells of the row
@@ -105,10 +119,9 @@ pub record Grew (h : Header) (rows keys sorts cells : List ℕ) (hash : ℕ) (h'
   pub keys_after : KeysGrown h h' rows' keys ((r : Bool) × PutIs (slots (index_shape_of h)) keys hash h.rows r keys') keys'
 
 -- "A new key is appended"
-abbrev pub NewIs : Header → List ℕ → List ℕ → List ℕ → List ℕ → ℕ → List ℕ → List ℕ → List ℕ → Insertion → Type 0
-NewIs h rows keys sorts cells hash rows' keys' sorts' Unchanged = ⊥
-NewIs h rows keys sorts cells hash rows' keys' sorts' (Appended h') = Grew h rows keys sorts cells hash h' rows' keys' sorts'
-NewIs h rows keys sorts cells hash rows' keys' sorts' (Stopped n) = Stayed h rows keys sorts cells n rows' keys' sorts'
+abbrev pub NewIs : Header → List ℕ → List ℕ → List ℕ → List ℕ → ℕ → List ℕ → List ℕ → List ℕ → Result Header Stop → Type 0
+NewIs h rows keys sorts cells hash rows' keys' sorts' (Ok h') = Grew h rows keys sorts cells hash h' rows' keys' sorts'
+NewIs h rows keys sorts cells hash rows' keys' sorts' (Err stop) = Stayed h rows keys sorts cells (stop_number stop) rows' keys' sorts'
 
 -- the row is after the others, its number is in the old row's slot, and the old row has the dead mark
 pub record Replaced (h : Header) (rows keys sorts cells : List ℕ) (hash old slot : ℕ) (h' : Header) (rows' keys' sorts' : List ℕ) : Type 0 where
@@ -118,7 +131,6 @@ pub record Replaced (h : Header) (rows keys sorts cells : List ℕ) (hash old sl
   pub keys_after : KeysGrown h h' rows' keys (keys' ≡ set keys slot (tagged hash h.rows)) keys'
 
 -- "a row so made is appended and the old row dies"
-abbrev pub ReplaceIs : Header → List ℕ → List ℕ → List ℕ → List ℕ → ℕ → ℕ → ℕ → List ℕ → List ℕ → List ℕ → Insertion → Type 0
-ReplaceIs h rows keys sorts cells hash old slot rows' keys' sorts' Unchanged = ⊥
-ReplaceIs h rows keys sorts cells hash old slot rows' keys' sorts' (Appended h') = Replaced h rows keys sorts cells hash old slot h' rows' keys' sorts'
-ReplaceIs h rows keys sorts cells hash old slot rows' keys' sorts' (Stopped n) = Stayed h rows keys sorts cells n rows' keys' sorts'
+abbrev pub ReplaceIs : Header → List ℕ → List ℕ → List ℕ → List ℕ → ℕ → ℕ → ℕ → List ℕ → List ℕ → List ℕ → Result Header Stop → Type 0
+ReplaceIs h rows keys sorts cells hash old slot rows' keys' sorts' (Ok h') = Replaced h rows keys sorts cells hash old slot h' rows' keys' sorts'
+ReplaceIs h rows keys sorts cells hash old slot rows' keys' sorts' (Err stop) = Stayed h rows keys sorts cells (stop_number stop) rows' keys' sorts'

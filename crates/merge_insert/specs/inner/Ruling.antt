@@ -1,11 +1,9 @@
 -- The row that the rule makes of an old and a new row in a merge. Holds for any stores, sound or not. Assumes nothing.
-use Rattle.std.specs.Prelude.{ℕ, ◌+◌, ◌*◌, ◌≤◌, ◌≡◌, Bool, true, false, cond, List, leb, length, take, drop}
+use Rattle.std.specs.Prelude.{ℕ, ◌+◌, ◌*◌, ◌≤◌, ◌≡◌, Bool, true, false, cond, List, leb, length, take, drop, None, Some, Ok, Err}
 use Rattle.lists.specs.Lists.{splice, row_at}
 use Rattle.merge_rules.specs.Rules.{changes_from, made_from, survivor}
 use Rattle.table.specs.declared.Header.{Header}
-use Rattle.merge_insert.specs.declared.append.Insertion.{Insertion}
-use Rattle.merge_insert.specs.declared.append.Insertion.TheVariants.{Unchanged, Appended, Stopped}
-use Rattle.merge_insert.specs.inner.Appending.{Stayed, Replaced}
+use Rattle.merge_insert.specs.inner.Appending.{Insertion, stop_number, Stayed, Replaced}
 
 -- a cell outside keys and sort column changes
 abbrev pub Changes : Header → List ℕ → List ℕ → Bool
@@ -39,8 +37,8 @@ pub record UnchangedOld (h : Header) (rows keys sorts cells : List ℕ) (old : �
 
 -- "A known key goes through the rule; a row so made is appended and the old row dies"
 abbrev pub KnownIs : Header → List ℕ → List ℕ → List ℕ → List ℕ → ℕ → ℕ → ℕ → List ℕ → List ℕ → List ℕ → Insertion → Type 0
-KnownIs h rows keys sorts cells hash old slot rows' keys' sorts' Unchanged = UnchangedOld h rows keys sorts cells old rows' keys' sorts'
-KnownIs h rows keys sorts cells hash old slot rows' keys' sorts' (Appended h') =
+KnownIs h rows keys sorts cells hash old slot rows' keys' sorts' (Ok None) = UnchangedOld h rows keys sorts cells old rows' keys' sorts'
+KnownIs h rows keys sorts cells hash old slot rows' keys' sorts' (Ok (Some h')) =
     (Changes h (row_at h.columns old rows) cells ≡ true) × Replaced h rows keys sorts (row_made h (row_at h.columns old rows) cells) hash old slot h' rows' keys' sorts'
-KnownIs h rows keys sorts cells hash old slot rows' keys' sorts' (Stopped n) =
-    (Changes h (row_at h.columns old rows) cells ≡ true) × Stayed h rows keys sorts (row_made h (row_at h.columns old rows) cells) n rows' keys' sorts'
+KnownIs h rows keys sorts cells hash old slot rows' keys' sorts' (Err stop) =
+    (Changes h (row_at h.columns old rows) cells ≡ true) × Stayed h rows keys sorts (row_made h (row_at h.columns old rows) cells) (stop_number stop) rows' keys' sorts'

@@ -1,6 +1,6 @@
 -- Contracts of the parts of a merge: how the stores of one plain table become those of another, with every row cell and sort cell
 -- given, and where the remaining records are in the pending store. Assumes nothing.
-use Rattle.std.specs.Prelude.{ℕ, ◌+◌, ◌*◌, ◌≤◌, ◌<◌, ◌≡◌, Bool, true, List, [], ◌∷◌, length, take, drop, get_or, eqb, Option}
+use Rattle.std.specs.Prelude.{ℕ, ◌+◌, ◌*◌, ◌≤◌, ◌<◌, ◌≡◌, Bool, true, List, [], ◌∷◌, length, take, drop, get_or, eqb, Option, None, Some}
 use Rattle.lists.specs.Lists.{rows_of, filter}
 use Rattle.cells.specs.Cells.{compact_hash, key_hash}
 use Rattle.key_index.specs.inner.Index.{Fits}
@@ -70,16 +70,22 @@ pub record Waiting (o : Opening) (pending : List ℕ) (used at : ℕ) (rest : Li
   pub held : Holds o (drop at pending) rest
   pub counted : at + words_all o rest ≡ used
 
--- the number of words of the record at a place, 0 if no complete record starts there: a safe number to advance by, on any store
-pub record RecordLength (h : Header) (pending : List ℕ) (at n : ℕ) : Type 0 where
-  pub inside : 0 < n → at + n ≤ h.pending
-  pub fits : at + n ≤ 4294967295
-  pub of_insert : 0 < n → get_or pending at 0 ≡ 0 → n ≡ h.columns + 2
-  pub of_key : 0 < n → get_or pending at 0 ≡ 1 → n ≡ h.keys + 2
-  pub of_row : 0 < n → get_or pending at 0 ≡ 2 → n ≡ h.keys + 3
-  pub kind : 0 < n → get_or pending at 0 ≤ 2
-  pub none : Waiting (opening_of h) pending h.pending at [] → n ≡ 0
-  pub next : (r : Staged) (rest : List Staged) → Waiting (opening_of h) pending h.pending at (r ∷ rest) → n ≡ words_of (opening_of h) r
+-- a complete record of this many words is at a place
+pub record RecordAt (h : Header) (pending : List ℕ) (at words : ℕ) : Type 0 where
+  pub some : 0 < words
+  pub inside : at + words ≤ h.pending
+  pub fits : at + words ≤ 4294967295
+  pub of_insert : get_or pending at 0 ≡ 0 → words ≡ h.columns + 2
+  pub of_key : get_or pending at 0 ≡ 1 → words ≡ h.keys + 2
+  pub of_row : get_or pending at 0 ≡ 2 → words ≡ h.keys + 3
+  pub kind : get_or pending at 0 ≤ 2
+  pub none : Waiting (opening_of h) pending h.pending at [] → ⊥
+  pub next : (r : Staged) (rest : List Staged) → Waiting (opening_of h) pending h.pending at (r ∷ rest) → words ≡ words_of (opening_of h) r
+
+-- the number of words of the record at a place, if a complete record starts there: a safe number to advance by, on any store
+abbrev pub RecordLength : Header → List ℕ → ℕ → Option ℕ → Type 0
+RecordLength h pending at None = (r : Staged) (rest : List Staged) → Waiting (opening_of h) pending h.pending at (r ∷ rest) → ⊥
+RecordLength h pending at (Some words) = RecordAt h pending at words
 
 -- ---- records that a pass skips
 
@@ -102,8 +108,7 @@ pub record RunSkipped (h : Header) (pending : List ℕ) (from kind words at : �
 
 -- a complete record is at a place
 pub record CanSkip (h : Header) (pending : List ℕ) (at words : ℕ) : Type 0 where
-  pub here : RecordLength h pending at words
-  pub some : 0 < words
+  pub here : RecordAt h pending at words
   pub fits : h.pending ≤ length pending
 
 -- the record is skipped, together with any unwanted records that follow it

@@ -5,7 +5,7 @@ use Rattle.merge_remove.proofs.PassRemovals.{Removing}
 use Rattle.merge_remove.proofs.remove_all.Given as goal
 
 abbrev pub invariant-loop-words : goal.invariant-loop-words
-invariant-loop-words l = Removing l.h l.initial.rows l.initial.keys l.pending l.kind l.rows l.keys l.dead l.at l.words
+invariant-loop-words l = Removing l.h l.initial.rows l.initial.keys l.pending l.kind l.rows l.keys l.dead l.at
 
 abbrev pub decreases-loop-words : goal.decreases-loop-words
 decreases-loop-words l = l.h.pending - l.at

@@ -1,6 +1,7 @@
 -- `merge_insert::row::insert_row` meets its contract. Assumes nothing.
-use Rattle.merge_insert.proofs.Prelude.{arith}
+use Rattle.merge_insert.proofs.Prelude.{arith, Ok, Err}
 use Rattle.merge_insert.proofs.InsertSteps.{inserts_skipped, findable, can_append, found_row, found_slot, inserts_new, inserts_known}
+use Rattle.std.proofs.lemmas.Result.{err_from_is_err_and}
 use Rattle.merge_insert.proofs.row.insert_row.Goals as goal
 
 pub returns-then-is_stale : goal.returns-then-is_stale
@@ -24,12 +25,21 @@ insert_known-requires c =
     let f = c.look_up.ensures in
     (p.0, p.1, found_row _ _ _ _ _ _ _ p.0 p.1 _ k _ f _ c.in-Some.is, found_slot _ _ _ _ _ _ _ p.0 p.1 _ k _ f _ c.in-Some.is)
 
-pub returns-in-None : goal.returns-in-None
-returns-in-None c =
+pub returns-in_err-n-in-None : goal.returns-in_err-n-in-None
+returns-in_err-n-in-None c =
+    let p = c.requires in
+    let d = c.insert_new in
+    let e = err_from_is_err_and c.from_residual.result c.from_residual.ensures.1 in
+    rw (e.1, e.2)
+    (inserts_new _ _ _ _ _ _ _ p.0 p.1 _ c.index_shape.ensures _ c.look_up.ensures _ c.is_stale.ensures c.if-is_stale.false
+    d.new.rows d.new.keys d.new.sorts c.in-None.is (Err _) c.in_err-n-in-None.ensures)
+
+pub returns-in_ok-n-in-None : goal.returns-in_ok-n-in-None
+returns-in_ok-n-in-None c =
     let p = c.requires in
     let d = c.insert_new in
     inserts_new _ _ _ _ _ _ _ p.0 p.1 _ c.index_shape.ensures _ c.look_up.ensures _ c.is_stale.ensures c.if-is_stale.false
-    d.new.rows d.new.keys d.new.sorts c.in-None.is d.result d.ensures
+    d.new.rows d.new.keys d.new.sorts c.in-None.is (Ok _) c.in_ok-n-in-None.ensures
 
 pub returns-in-Some : goal.returns-in-Some
 returns-in-Some c =
