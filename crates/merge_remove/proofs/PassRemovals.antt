@@ -2,12 +2,18 @@
 -- nothing.
 use Rattle.merge_remove.proofs.Prelude.{ℕ, ◌+◌, ◌*◌, ◌-◌, ◌≤◌, ◌≡◌, refl, sym, ap, ◌∙◌, Bool, true, false, cond, List, [], ◌∷◌, ℕ_discrete, add-zero, arith, eqb, length, take, drop, get_or, eq-eqb, ne_eqb, inl, inr, split, Fits, Staged, insert, remove_key, remove_row, Plain, Header, opening_of, full_index_shape_of, Stores, stores, Represents, SamePast, steps_refl, steps_then, waiting_start, waiting_kind, waiting_hash, waiting_key, waiting_row, waiting_row_key}
 use Rattle.std.specs.Prelude.{None}
+use Rattle.std.specs.Int.{from_bool}
 use Rattle.lists.specs.Lists.{filter}
 use Rattle.merge_pending.specs.inner.Becoming.{Becomes, with_dead, Waiting, kind_of, RecordAt, RecordLength, of_kind, Remaining, CanSkip, NextRecord}
 use Rattle.merge_remove.specs.inner.Removals.{removed, removed_all, died, removal_of, Removal, RemovalAt, Removed, Removable, Removals, RemovalNext, RemovedNext}
 use Rattle.merge_pending.proofs.PassRecords.{Next, record_long}
 
 -- ---- one removal
+
+pub died_counted : (r : Bool) → from_bool r ≡ died r
+unfolding died
+died_counted true = refl
+died_counted false = refl
 
 died_few : (r : Bool) → died r ≤ 1
 unfolding died

@@ -1,6 +1,6 @@
 -- The result of a removal, from the contracts of its calls: a row that is marked dead, a key that no live row has, and the live row
 -- of a key. Assumes nothing.
-use Rattle.merge_remove.proofs.Prelude.{ℕ, ◌+◌, ◌*◌, ◌≤◌, ◌<◌, ◌≡◌, refl, sym, ap, ◌∙◌, Bool, true, false, not, false≢true, inl, inr, List, add-zero, arith, eqb, length, eqb-true, eqb-false, eq-eqb, ne_eqb, not-true, not-false, split, live_first, Staled, IndexShape, Option, None, Some, Hit, LiveAt, key_at, slots, KeysSound, Fits, FoundAt, FoundIs, rows_in_lem, row_inside, past_size_class, RowRemoved, remove_key, remove_row, Plain, Header, index_shape_of, full_index_shape_of, stores, Represents, SamePast, full_shape_fits, in_live, steps_refl, dying, dying_steps, without_key_none, without_key_one, without_row_none, without_row_one, without_row_other}
+use Rattle.merge_remove.proofs.Prelude.{ℕ, ◌+◌, ◌*◌, ◌≤◌, ◌<◌, ◌≡◌, refl, sym, ap, ◌∙◌, Bool, true, false, not, false≢true, inl, inr, List, add-zero, arith, eqb, length, eqb-true, eqb-false, ne_eqb, not-true, not-false, split, live_first, Staled, IndexShape, Option, None, Some, Hit, LiveAt, key_at, slots, KeysSound, Fits, FoundAt, FoundIs, rows_in_lem, row_inside, past_size_class, RowRemoved, remove_key, remove_row, Plain, Header, index_shape_of, full_index_shape_of, stores, Represents, SamePast, full_shape_fits, in_live, steps_refl, dying, dying_steps, without_key_none, without_key_one, without_row_none, without_row_one, without_row_other}
 use Rattle.cells.specs.Cells.{compact_hash, key_hash}
 use Rattle.merge_pending.specs.inner.Becoming.{Becomes, with_dead, hash_of}
 use Rattle.merge_remove.specs.inner.Removals.{Kills, removal_of, spared, Removal, died, removed}
@@ -24,10 +24,6 @@ killed t rows keys row slot was rows' keys' f taken staled =
 -- ---- a removal
 
 -- one by key takes any row, one by row only the one that it names
-pub spared_key : (kind row found : ℕ) → kind ≡ 1 → false ≡ spared kind row found
-unfolding spared
-spared_key kind row found e = rw (eq-eqb kind 1 e)
-
 pub spared_row : (kind row found : ℕ) → (kind ≡ 1 → ⊥) → not (eqb found row) ≡ spared kind row found
 unfolding spared
 spared_row kind row found e = rw (ne_eqb kind 1 e)

@@ -6,7 +6,7 @@ ghost use Rattle.std.specs.Prelude.{◌≡◌, ◌<◌, length};
 ghost use Rattle.key_index.specs.inner.Index.{Fits};
 ghost use Rattle.key_index.specs.Slots.{slots};
 ghost use Rattle.table.specs.inner.FullIndexShape.{full_index_shape_of};
-ghost use Rattle.merge_remove.specs.inner.Removals.{Kills, removal_of, spared, Removal, RemovalAt, Removed, Removable, Removals, RemovalNext, RemovedNext};
+ghost use Rattle.merge_remove.specs.inner.Removals.{Kills, died, removal_of, spared, Removal, RemovalAt, Removed, Removable, Removals, RemovalNext, RemovedNext};
 
 use key_index::IndexShape;
 use merge_pending::{next_record, record_length};
@@ -27,10 +27,7 @@ fn kill(t: IndexShape, rows: &mut [u32], keys: &mut [u32], row: u32, slot: u32) 
 fn is_spared(kind: u32, row: u32, found: u32) -> bool
     ensures { result ≡ spared kind row found }
 {
-    if kind == REMOVE_KEY {
-        return false;
-    }
-    found != row
+    kind != REMOVE_KEY && found != row
 }
 
 // Removes the live row of a key; if the removal names a row, only if it is that row. Returns whether a row died.
@@ -74,7 +71,7 @@ fn remove_record(h: Header, rows: &mut [u32], keys: &mut [u32], pending: &[u32],
     remove_one(h, rows, keys, kind, row, &pending[from..to], hash)
 }
 
-// Applies the record at a place if it is a removal of this kind. Returns the number of rows that died.
+// Applies the record at a place if it is a removal of this kind. Returns whether a row died.
 fn remove_next(
     h: Header,
     rows: &mut [u32],
@@ -82,17 +79,14 @@ fn remove_next(
     pending: &[u32],
     at: u32,
     kind: u32,
-) -> u32
+) -> bool
     requires { RemovalNext h rows.old keys.old pending.now at kind }
-    ensures { RemovedNext h rows.old keys.old pending.now at kind result rows.new keys.new }
+    ensures { RemovedNext h rows.old keys.old pending.now at kind (died result) rows.new keys.new }
 {
     if pending[at as usize] != kind {
-        return 0;
+        return false;
     }
-    if remove_record(h, rows, keys, pending, at) {
-        return 1;
-    }
-    0
+    remove_record(h, rows, keys, pending, at)
 }
 
 // Applies all removals of a kind, in staging order. Runs of other records are skipped.
@@ -109,7 +103,8 @@ pub fn remove_all(
     let mut dead = h.dead;
     let mut at: u32 = 0;
     while let Some(words) = record_length(h, pending, at) {
-        dead += remove_next(h, rows, keys, pending, at, kind);
+        let died = remove_next(h, rows, keys, pending, at, kind);
+        dead += u32::from(died);
         at = next_record(h, pending, at, words, kind);
     }
     let mut n = h;
