@@ -8,8 +8,8 @@ ghost use Rattle.replay.specs.Replays.{Replayed};
 ghost use Rattle.replay.specs.Encoding.{request_of};
 ghost use Rattle.replay_frames.specs.Frames.{framed};
 
-use calls::make_call;
-use replay_frames::{Frame, HEAD_WORDS, frame_at};
+use calls::{decode, make_call};
+use replay_frames::Frames;
 use table::{Header, TableAnswer};
 use table_open::open_table;
 
@@ -30,26 +30,12 @@ fn make_calls(
     ensures { Made (framed request_of calls.now) (lengths rows.old keys.old sorts.old pending.old live.old base.old) (stores h rows.old keys.old sorts.old pending.old) (compaction_words live.old base.old) index.old (stores result rows.new keys.new sorts.new pending.new) (compaction_words live.new base.new) index.new }
 {
     let mut n = h;
-    let mut at: usize = 0;
-    loop {
-        let frame = frame_at(calls, at);
-        let Frame::Words(words) = frame else {
-            return n;
-        };
-        n = make_call(
-            n,
-            calls[at],
-            &calls[at + HEAD_WORDS..at + words],
-            rows,
-            keys,
-            sorts,
-            pending,
-            live,
-            base,
-            index,
-        );
-        at += words;
+    for frame in Frames(calls) {
+        if let Some(request) = decode(frame) {
+            n = make_call(n, request, rows, keys, sorts, pending, live, base, index);
+        }
     }
+    n
 }
 
 // Opens a table and executes all requests on it. Each refresh among them is lent the index store.

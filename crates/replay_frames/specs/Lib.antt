@@ -1,3 +1,3 @@
 pub mod Frames
-pub mod inner
+pub mod Items
 pub mod Laws

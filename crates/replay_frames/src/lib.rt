@@ -1,33 +1,33 @@
 // Lists in words: each item is a kind, a count and that number of words.
 #![tactic(auto)]
 
-ghost use Rattle.std.specs.Prelude.{◌≤◌, length};
-ghost use Rattle.replay_frames.specs.inner.Lengths.{FrameIs};
+ghost use Rattle.std.specs.Iterator.{YieldsFirstBy, item_count};
+ghost use Rattle.replay_frames.specs.Items.{item_of, items_left};
 
-// The words of an item before those that it counts, and the place of the count.
-pub const HEAD_WORDS: usize = 2;
-
-const COUNT_AT: usize = 1;
-
-// What begins at a place: no complete item, or an item of this many words, including its kind and count.
+// An item: its kind and the words that it counts.
 #[derive(Clone, Copy)]
-pub enum Frame {
-    None,
-    Words(usize),
+pub struct Frame<'a> {
+    pub kind: u32,
+    pub words: &'a [u32],
 }
 
-// The item at a place.
-pub fn frame_at(words: &[u32], at: usize) -> Frame
-    requires { at ≤ length words.now }
-    ensures { FrameIs words.now at result }
-{
-    let left = words.len() - at;
-    if left < HEAD_WORDS {
-        return Frame::None;
+// The items of a list, in order. An incomplete item ends it.
+#[derive(Clone, Copy)]
+pub struct Frames<'a>(pub &'a [u32]);
+
+impl<'a> Iterator for Frames<'a> {
+    type Item = Frame<'a>;
+
+    ghost next_gives = { YieldsFirstBy item_of items_left };
+
+    ghost remaining = { item_count items_left };
+
+    fn next(&mut self) -> Option<Frame<'a>> {
+        let [kind, count, rest @ ..] = self.0 else {
+            return None;
+        };
+        let (words, rest) = rest.split_at_checked(*count as usize)?;
+        self.0 = rest;
+        Some(Frame { kind: *kind, words })
     }
-    let count = words[at + COUNT_AT] as usize;
-    if left < count + HEAD_WORDS {
-        return Frame::None;
-    }
-    Frame::Words(count + HEAD_WORDS)
 }

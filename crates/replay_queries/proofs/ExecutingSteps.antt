@@ -3,9 +3,7 @@ use Prim.Native.Nat.{ℕ, ◌+◌, ◌*◌, ◌/◌, ◌≤◌, ◌<◌}
 use mathlib.Core.Path.{◌≡◌, refl}
 use mathlib.Core.Bool.{Bool, true, false, ◌||◌}
 use mathlib.Core.Option.{Option-elim}
-use mathlib.Core.List.{List, []}
-use native.Mathlib.Decide.{ℕ_discrete}
-use native.Mathlib.Omega.{arith}
+use mathlib.Core.List.{List}
 use lib.ListN.{length, take, get_or}
 use Rattle.refusals.specs.Refusals.{if_accepted}
 use Rattle.offsets.specs.declared.SubsetAnswer.{SubsetAnswer}
@@ -80,23 +78,18 @@ module _ {h : Header} {rows : List ℕ} {a : Subset} (cells : List ℕ) {l : Run
 
 -- ---- `execute`
 
--- words that are no query
-no_three : (kind : ℕ) (cells : List ℕ) → (kind ≡ 1 → ⊥) → (kind ≡ 2 → ⊥) → (kind ≡ 3 → ⊥) → (length cells ≡ 3 → ⊥) → query_of kind cells ≡ []
-no_three kind cells one two three n =
-    elim (ℕ_discrete kind 0) [
-      | yes e ↦ no_one kind cells e n
-      | no zero ↦ elim (ℕ_discrete kind 4) [ yes e ↦ no_range kind cells e n | no four ↦ no_kind kind cells (omega arith) ]
-    ]
-
 module _ {h : Header} {rows sorts : List ℕ} {a : Subset} (kind : ℕ) (cells : List ℕ) {l : RunAnswer} {place : ℕ} {output : List ℕ} where
-  pub execute_short : (kind ≡ 1 → ⊥) → (kind ≡ 2 → ⊥) → (kind ≡ 3 → ⊥) → (length cells ≡ 3 → ⊥) → Executed h rows sorts a (query_of kind cells) l place output l output
-  execute_short one two three n = execute_nothing (no_three kind cells one two three n) refl
+  pub execute_short : kind ≡ 0 → (length cells ≡ 3 → ⊥) → Executed h rows sorts a (query_of kind cells) l place output l output
+  execute_short e n = execute_nothing (no_one kind cells e n) refl
+
+  pub execute_short_range : kind ≡ 4 → (length cells ≡ 3 → ⊥) → Executed h rows sorts a (query_of kind cells) l place output l output
+  execute_short_range e n = execute_nothing (no_range kind cells e n) refl
 
   pub execute_short_ends : kind ≡ 3 → (length cells ≡ 2 → ⊥) → Executed h rows sorts a (query_of kind cells) l place output l output
   execute_short_ends e n = execute_nothing (no_ends kind cells e n) refl
 
-  pub execute_none : (kind ≡ 0 → ⊥) → (kind ≡ 1 → ⊥) → (kind ≡ 2 → ⊥) → (kind ≡ 3 → ⊥) → (kind ≡ 4 → ⊥) → Executed h rows sorts a (query_of kind cells) l place output l output
-  execute_none zero one two three four = execute_nothing (no_kind kind cells (omega arith)) refl
+  pub execute_none : 4 < kind → Executed h rows sorts a (query_of kind cells) l place output l output
+  execute_none m = execute_nothing (no_kind kind cells m) refl
 
   pub execute_list : {l' : RunAnswer} {output' : List ℕ} → kind ≡ 1 → ListExecuted h rows a cells l place output l' output' → Executed h rows sorts a (query_of kind cells) l place output l' output'
   execute_list e m = rw (query_list kind cells e) (m.execute sorts)

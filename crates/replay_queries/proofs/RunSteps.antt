@@ -1,5 +1,5 @@
 -- A run, query by query. Assumes nothing.
-use Rattle.replay_queries.proofs.Prelude.{ℕ, zero, suc, ◌+◌, ◌-◌, ◌≤◌, min, ◌≡◌, refl, sym, ap, ◌∙◌, Bool, false, ◌||◌, List, [], ◌∷◌, ◌++◌, append_assoc, append-nil, arith, length, take, drop, get_or, length-take, length-append, Cut, Whole, framed_end, framed_next, Header, Query, refines, Outcome, outcome, or_assoc, or-false, any_both, RunAnswer, query_of, shorter, RunMade, QueriesExecuted, QueryExecuted, queried_then}
+use Rattle.replay_queries.proofs.Prelude.{ℕ, zero, suc, ◌+◌, ◌≤◌, min, ◌≡◌, refl, sym, ap, ◌∙◌, Bool, false, ◌||◌, List, [], ◌∷◌, ◌++◌, append_assoc, append-nil, arith, length, take, drop, length-take, length-append, framed_end, framed_next, items_few, Header, Query, refines, Outcome, outcome, or_assoc, or-false, any_both, RunAnswer, query_of, shorter, RunMade, QueriesExecuted, QueryExecuted, queried_then}
 use mathlib.Core.Bool.{cond}
 use lib.Dec.{eqb}
 use borrow.Author.Tests.{ne_eqb}
@@ -10,6 +10,7 @@ use Rattle.replay_queries.specs.Outcomes.{ids_at, subset_left, QueriedAll, end}
 use Rattle.replay_queries.specs.inner.Executing.{Inside}
 use Rattle.replay_queries.specs.Laws.Executing.{behind}
 use Rattle.replay_frames.specs.Frames.{framed}
+use Rattle.replay_frames.specs.Items.{items}
 
 -- the ids left are within the list
 pub inside_count : (place : ℕ) {count room : ℕ} → count ≤ cond (eqb place 0) 0 room → count ≤ room
@@ -31,63 +32,58 @@ drop_behind zero (x ∷ a) b h = absurd (omega arith)
 drop_behind (suc n) [] b h = absurd (omega arith)
 drop_behind (suc n) (x ∷ a) b h = drop_behind n a b (omega arith)
 
--- before the query at a place: the result of the remaining queries, with those accepted so far, is the result of all queries
-module _ (h : Header) (rows sorts ids words first₀ second₀ : List ℕ) (l₀ : RunAnswer) (first second : List ℕ) (l : RunAnswer) (at : ℕ) where
+-- before the queries in the words that are left: the result of the remaining queries, with those accepted so far, is the result of all queries
+module _ (h : Header) (rows sorts ids words first₀ second₀ : List ℕ) (l₀ : RunAnswer) (first second : List ℕ) (l : RunAnswer) (left : List ℕ) where
   pub record Going : Type 0 where
-    pub inside : at ≤ length words
     pub first_long : length first ≡ length first₀
     pub second_long : length second ≡ length second₀
     pub alike : length second₀ ≡ length first₀
     pub fits : Inside l (length first₀)
-    pub early : l.taken ≤ at
+    pub early : l.taken + length (items left) ≤ length words
     pub accepted : List Query
     pub refined_is : l.refined ≡ (l₀.refined || any refines accepted)
-    pub taken : l.taken + length (framed query_of (drop at words)) ≡ l₀.taken + length (framed query_of words)
-    pub rest : (o : Outcome) → QueriedAll h rows sorts (length first₀) (subset_left l ids first second) (framed query_of (drop at words)) o
+    pub taken : l.taken + length (framed query_of left) ≡ l₀.taken + length (framed query_of words)
+    pub rest : (o : Outcome) → QueriedAll h rows sorts (length first₀) (subset_left l ids first second) (framed query_of left) o
         → QueriedAll h rows sorts (length first₀) (subset_left l₀ ids first₀ second₀) (framed query_of words) (behind accepted o)
 
 module _ {h : Header} {rows sorts ids words first₀ second₀ : List ℕ} {l₀ : RunAnswer} where
   pub going_begin : l₀.count ≡ 0 → l₀.place ≡ 0 → l₀.taken ≡ 0 → length second₀ ≡ length first₀
-      → Going h rows sorts ids words first₀ second₀ l₀ first₀ second₀ l₀ 0
-  going_begin none whole fresh alike =
+      → {left : List ℕ} → left ≡ words → Going h rows sorts ids words first₀ second₀ l₀ first₀ second₀ l₀ left
+  going_begin none whole fresh alike e =
       record {
-        inside = omega arith;
         first_long = refl;
         second_long = refl;
         alike = alike;
         fits = (omega arith, omega arith);
-        early = omega arith;
+        early = omega (arith, ap (λ (w : List ℕ). length (items w)) e, items_few words);
         accepted = [];
         refined_is = unfold any in sym (or-false l₀.refined);
-        taken = refl;
-        rest = λ o more. more;
+        taken = rw e;
+        rest = λ o more. rw (← e) more;
       }
 
-  module _ {first second : List ℕ} {l : RunAnswer} {at : ℕ} (v : Going h rows sorts ids words first₀ second₀ l₀ first second l at) where
+  module _ {first second : List ℕ} {l : RunAnswer} {left : List ℕ} (v : Going h rows sorts ids words first₀ second₀ l₀ first second l left) where
     -- one query is run
-    pub going_again : {first' second' : List ℕ} {l' : RunAnswer} {count : ℕ} → Whole words at count
-        → QueryExecuted h rows sorts ids (query_of (get_or words at 0) (take (at + count - (at + 2)) (drop (at + 2) words))) l first second l' first' second'
+    pub going_again : {first' second' : List ℕ} {l' : RunAnswer} {item : ℕ × List ℕ} (left' : List ℕ) → items left ≡ item ∷ items left'
+        → QueryExecuted h rows sorts ids (query_of item.0 item.1) l first second l' first' second'
         → length first' ≡ length first → length second' ≡ length second
-        → Going h rows sorts ids words first₀ second₀ l₀ first' second' l' (at + count)
-    going_again {first'} {second'} {l'} {count} here p a b =
-        let cells : at + count - (at + 2) ≡ count - 2 = omega arith in
-        let q : List Query = query_of (get_or words at 0) (take (count - 2) (drop (at + 2) words)) in
-        let qs : List Query = framed query_of (drop (at + count) words) in
-        let t : QueryExecuted h rows sorts ids q l first second l' first' second' = rw cells at p in
+        → Going h rows sorts ids words first₀ second₀ l₀ first' second' l' left'
+    going_again {first'} {second'} {l'} {item} left' here t a b =
+        let q : List Query = query_of item.0 item.1 in
+        let qs : List Query = framed query_of left' in
         let queried : List Query = t.execute.accepted in
-        let frame : framed query_of (drop at words) ≡ q ++ qs = framed_next query_of here in
+        let frame : framed query_of left ≡ q ++ qs = framed_next query_of left left' here in
         record {
-          inside = here.inside;
           first_long = a ∙ v.first_long;
           second_long = b ∙ v.second_long;
           alike = v.alike;
           fits = rw v.first_long at t.execute.fits;
-          early = omega (arith, t.few, v.early, here.counted);
+          early = omega (arith, t.few, v.early, ap length here);
           accepted = v.accepted ++ queried;
           refined_is = t.execute.refined_is ∙ ap (λ (r : Bool). r || any refines queried) v.refined_is ∙ or_assoc l₀.refined (any refines v.accepted) (any refines queried)
               ∙ ap (λ (r : Bool). l₀.refined || r) (sym (any_both refines v.accepted queried));
           taken =
-              let sum : length (framed query_of (drop at words)) ≡ length q + length qs = ap length frame ∙ length-append q qs in
+              let sum : length (framed query_of left) ≡ length q + length qs = ap length frame ∙ length-append q qs in
               let both = t.execute.taken in
               omega (arith, sum, both, v.taken);
           rest = λ o more.
@@ -96,14 +92,14 @@ module _ {h : Header} {rows sorts ids words first₀ second₀ : List ℕ} {l₀
         }
 
     -- no query is left
-    pub going_end : Cut words at → QueriesExecuted h rows sorts ids (framed query_of words) l₀ first₀ second₀ l first second
+    pub going_end : items left ≡ [] → QueriesExecuted h rows sorts ids (framed query_of words) l₀ first₀ second₀ l first second
     going_end none =
-        let frame : framed query_of (drop at words) ≡ [] = framed_end query_of none in
+        let frame : framed query_of left ≡ [] = framed_end query_of left none in
         record {
           accepted = v.accepted;
           queried = rw (append-nil v.accepted) at (v.rest (outcome (subset_left l ids first second) []) (rw frame (end (subset_left l ids first second))));
           refined_is = v.refined_is;
-          taken = let empty : length (framed query_of (drop at words)) ≡ 0 = ap length frame in omega (arith, empty, v.taken);
+          taken = let empty : length (framed query_of left) ≡ 0 = ap length frame in omega (arith, empty, v.taken);
           fits = v.fits;
         }
 

@@ -12,6 +12,7 @@ use offsets::{SubsetAnswer, SubsetHead};
 use offsets_intersect::intersect;
 use query::array::refine_first;
 use query::refine_one;
+use replay_frames::Frame;
 use table::{Header, RangeAnswer};
 use table_read::fast_subset;
 
@@ -155,8 +156,7 @@ pub fn execute(
     h: Header,
     rows: &[u32],
     sorts: &[u32],
-    kind: u32,
-    cells: &[u32],
+    frame: Frame<'_>,
     l: RunAnswer,
     head: SubsetHead,
     ids: &[u32],
@@ -164,39 +164,35 @@ pub fn execute(
     out: &mut [u32],
 ) -> RunAnswer
     requires { l.taken < 18446744073709551615 }
-    ensures { Executed h rows.now sorts.now (subset_of head ids.now) (query_of kind cells.now) l place out.old result out.new }
+    ensures { Executed h rows.now sorts.now (subset_of head ids.now) (query_of frame.entry.kind frame.entry.words.now) l place out.old result out.new }
 {
-    if kind == REFINE_LIST {
-        return execute_list(h, rows, cells, l, head, ids, place, out);
-    }
-    if kind == INTERSECT_LIST {
-        let listed = SubsetHead {
-            dense: false,
-            start: 0,
-            end: 0,
-        };
-        return apply_answer(l, place, false, intersect(head, ids, listed, cells, out));
-    }
-    if kind == INTERSECT_RANGE {
-        if cells.len() != RANGE_WORDS {
-            return l;
+    let cells = frame.words;
+    match frame.kind {
+        REFINE_ONE if cells.len() == CONDITION_WORDS => {
+            let c = read_condition(cells, 0);
+            apply_answer(l, place, true, refine_one(h, rows, head, ids, c, out))
         }
-        let range = SubsetHead {
-            dense: true,
-            start: cells[0],
-            end: cells[1],
-        };
-        return apply_answer(l, place, false, intersect(head, ids, range, ids, out));
+        REFINE_LIST => execute_list(h, rows, cells, l, head, ids, place, out),
+        INTERSECT_LIST => {
+            let listed = SubsetHead {
+                dense: false,
+                start: 0,
+                end: 0,
+            };
+            apply_answer(l, place, false, intersect(head, ids, listed, cells, out))
+        }
+        INTERSECT_RANGE if cells.len() == RANGE_WORDS => {
+            let range = SubsetHead {
+                dense: true,
+                start: cells[0],
+                end: cells[1],
+            };
+            apply_answer(l, place, false, intersect(head, ids, range, ids, out))
+        }
+        INTERSECT_SORT_RANGE if cells.len() == CONDITION_WORDS => {
+            let c = read_condition(cells, 0);
+            execute_range(h, sorts, c, l, head, ids, place, out)
+        }
+        _ => l,
     }
-    if cells.len() != CONDITION_WORDS {
-        return l;
-    }
-    let c = read_condition(cells, 0);
-    if kind == REFINE_ONE {
-        return apply_answer(l, place, true, refine_one(h, rows, head, ids, c, out));
-    }
-    if kind == INTERSECT_SORT_RANGE {
-        return execute_range(h, sorts, c, l, head, ids, place, out);
-    }
-    l
 }

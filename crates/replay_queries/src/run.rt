@@ -10,7 +10,7 @@ ghost use Rattle.replay_queries.specs.inner.Running.{QueriesExecuted, QueryExecu
 use super::{FIRST_LIST, RunAnswer, SECOND_LIST, STARTING_LIST, execute};
 use offsets::SubsetHead;
 use query_spec::refusing::smaller;
-use replay_frames::{Frame, HEAD_WORDS, frame_at};
+use replay_frames::{Frame, Frames};
 use table::Header;
 
 // Runs one query on the ids left. Its output goes to the lent list that does not have them.
@@ -18,15 +18,14 @@ fn execute_query(
     h: Header,
     rows: &[u32],
     sorts: &[u32],
-    kind: u32,
-    cells: &[u32],
+    frame: Frame<'_>,
     l: RunAnswer,
     ids: &[u32],
     first: &mut [u32],
     second: &mut [u32],
 ) -> RunAnswer
     requires { Inside l (length first.old) × (length second.old ≡ length first.old) × (l.taken < 18446744073709551615) }
-    ensures { QueryExecuted h rows.now sorts.now ids.now (query_of kind cells.now) l first.old second.old result first.new second.new }
+    ensures { QueryExecuted h rows.now sorts.now ids.now (query_of frame.entry.kind frame.entry.words.now) l first.old second.old result first.new second.new }
 {
     let head = SubsetHead {
         dense: l.dense,
@@ -39,8 +38,7 @@ fn execute_query(
             h,
             rows,
             sorts,
-            kind,
-            cells,
+            frame,
             l,
             head,
             &first[..count],
@@ -53,8 +51,7 @@ fn execute_query(
             h,
             rows,
             sorts,
-            kind,
-            cells,
+            frame,
             l,
             head,
             &second[..count],
@@ -62,7 +59,7 @@ fn execute_query(
             first,
         );
     }
-    execute(h, rows, sorts, kind, cells, l, head, ids, FIRST_LIST, first)
+    execute(h, rows, sorts, frame, l, head, ids, FIRST_LIST, first)
 }
 
 // Runs all queries, in order, each on the ids that the last accepted one left, in two lists of one length.
@@ -80,25 +77,10 @@ fn run_queries_within(
     ensures { QueriesExecuted h rows.now sorts.now ids.now (framed query_of queries.now) l first.old second.old result first.new second.new }
 {
     let mut n = l;
-    let mut at: usize = 0;
-    loop {
-        let frame = frame_at(queries, at);
-        let Frame::Words(words) = frame else {
-            return n;
-        };
-        n = execute_query(
-            h,
-            rows,
-            sorts,
-            queries[at],
-            &queries[at + HEAD_WORDS..at + words],
-            n,
-            ids,
-            first,
-            second,
-        );
-        at += words;
+    for frame in Frames(queries) {
+        n = execute_query(h, rows, sorts, frame, n, ids, first, second);
     }
+    n
 }
 
 // Runs all queries. Both lists are used up to the length of the shorter, so it does not matter which one is lent first.

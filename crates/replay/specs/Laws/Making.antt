@@ -55,18 +55,12 @@ words_unlent {c = c} l w one call =
     record { calls = c ∷ []; served = next one call (end _ _); words_past = λ p r. (refl, refl); words_kept = λ p r none. refl }
 
 module _ {h : Header} {pending : List ℕ} {requests : List Request} where
-  pub nothing_staged : requests ≡ [] → MadeOnPending requests h pending h pending
-  nothing_staged e = record { made = λ rows keys sorts live base index. none_made _ _ _ _ e }
-
   pub staging_made : {h' : Header} {pending' : List ℕ} {q : Staged} {answer : TableAnswer} → requests ≡ make (staging q) ∷ [] → Staging h pending q answer pending'
       → h' ≡ if_accepted (table_view answer) (λ h. h) h → MadeOnPending requests h pending h' pending'
   staging_made {h'} {pending'} {q} {answer} e m same =
       record { made = λ rows keys sorts live base index. rw (e, same) (words_unlent (lengths rows keys sorts pending live base) (compaction_words live base) (made _ _) (stages (compaction_words live base) q answer pending' m)) }
 
 module _ {h : Header} {rows pending index : List ℕ} {requests : List Request} where
-  pub nothing_refreshed : requests ≡ [] → MadeOnIndex requests h rows pending index h pending index
-  nothing_refreshed e = record { made = λ keys sorts live base. none_made _ _ _ _ e }
-
   pub refreshing_made : {h' : Header} {pending' index' : List ℕ} {r : Refresh} {answer : RefreshAnswer} → requests ≡ refresh r ∷ [] → Refreshing h rows pending index r answer pending' index'
       → h' ≡ if_accepted (refresh_view answer) (λ a. a.header) h → MadeOnIndex requests h rows pending index h' pending' index'
   refreshing_made {h'} {pending'} {index'} {r} {answer} e m same =
@@ -78,11 +72,6 @@ module _ {h : Header} {rows pending index : List ℕ} {requests : List Request} 
               | inr unsound ↦ rw (e, same) (words_unlent l (compaction_words live base) (refreshed_unsound r answer pending' index' m unsound) (refreshes_unsound (compaction_words live base) r index answer pending' index' m unsound))
             ];
       }
-
-  -- with any other stores
-  pub index_made : {h' : Header} {pending' index' : List ℕ} {same : List Request} → requests ≡ same → MadeOnIndex same h rows pending index h' pending' index' → (keys sorts live base : List ℕ)
-      → Made requests (lengths rows keys sorts pending live base) (stores h rows keys sorts pending) (compaction_words live base) index (stores h' rows keys sorts pending') (compaction_words live base) index'
-  index_made e m keys sorts live base = rw e (m.made keys sorts live base)
 
 -- the capacity of a table
 table_capacity : {p : Plain} {s : Stores} → Represents p s → s.header.capacity ≡ p.opening.capacity

@@ -1,29 +1,10 @@
--- Items one by one: a place without a complete item, and a place with one. Assumes nothing.
-use Prim.Native.Nat.{ℕ, zero, suc, ◌+◌, ◌-◌, ◌≤◌, ◌<◌}
-use Rattle.std.specs.Prelude.{◌≡◌, length, take, drop, get_or}
-use Rattle.std.proofs.Math.Path.{refl}
-use Rattle.std.proofs.Common.{◌∙◌, arith, length-drop, drop-drop, get_or-drop, le-leb}
-use mathlib.Core.List.{List, [], ◌∷◌, ◌++◌}
+-- Items one by one: words without a complete item, and words that begin with one; and what a list encodes, from its items. Assumes
+-- nothing.
+use Rattle.std.specs.Prelude.{ℕ, zero, suc, ◌+◌, ◌≤◌, ◌<◌, ◌≡◌, List, [], ◌∷◌, ◌++◌, length, take, drop, get_or, cond, leb, true, false, flat_map, refl}
+use Rattle.std.proofs.Common.{ap, ◌∙◌, sym, arith, le-leb}
 use Rattle.std.proofs.lemmas.Bool.{lt-leb}
 use Rattle.replay_frames.specs.Frames.{framed_after, framed}
-use Rattle.replay_frames.specs.inner.Lengths.{Cut, Whole}
-
--- ---- the item at a place
-
-module _ (words : List ℕ) (at : ℕ) (inside : at ≤ length words) where
-  -- fewer than two words are left
-  pub cut_end : length words - at < 2 → Cut words at
-  cut_end h = record { short = omega arith }
-
-  -- fewer than the count are left
-  pub cut_count : length words - at < get_or words (at + 1) 0 + 2 → Cut words at
-  cut_count h = record { short = omega arith }
-
-  -- all words of the item are left
-  pub whole_there : get_or words (at + 1) 0 + 2 ≤ length words - at → Whole words at (get_or words (at + 1) 0 + 2)
-  whole_there h = record { inside = omega arith; counted = refl }
-
--- ---- the items from a place on
+use Rattle.replay_frames.specs.Items.{items}
 
 module _ {A : Type 0} (of : ℕ → List ℕ → List A) where
   framed_after_lem : (n : ℕ) (words : List ℕ) → framed_after of n words ≡ framed of (drop n words)
@@ -32,33 +13,63 @@ module _ {A : Type 0} (of : ℕ → List ℕ → List A) where
   framed_after_lem (suc n) [] = refl
   framed_after_lem (suc n) (word ∷ words) = framed_after_lem n words
 
-  framed_cut : (words : List ℕ) → length words < get_or words 1 0 + 2 → framed of words ≡ []
+  -- no complete item
+  pub framed_cut : (words : List ℕ) → length words < get_or words 1 0 + 2 → framed of words ≡ []
   unfolding framed_after
   framed_cut [] h = refl
   framed_cut (kind ∷ []) h = refl
   framed_cut (kind ∷ count ∷ words) h = rw (lt-leb count (length words) (omega arith))
 
-  framed_whole : (words : List ℕ) → get_or words 1 0 + 2 ≤ length words
+  -- an item, and those behind it
+  pub framed_whole : (words : List ℕ) → get_or words 1 0 + 2 ≤ length words
       → framed of words ≡ of (get_or words 0 0) (take (get_or words 1 0) (drop 2 words)) ++ framed of (drop (get_or words 1 0) (drop 2 words))
   unfolding framed_after
   framed_whole [] h = absurd (omega arith)
   framed_whole (kind ∷ []) h = absurd (omega arith)
   framed_whole (kind ∷ count ∷ words) h = rw (le-leb count (length words) (omega arith), framed_after_lem count words)
 
-  second : (words : List ℕ) (at : ℕ) → get_or (drop at words) 1 0 ≡ get_or words (at + 1) 0
-  second words at = get_or-drop at words 1 0
+-- ---- what a list encodes
 
-  module _ {words : List ℕ} {at : ℕ} where
-    -- no more items
-    pub framed_end : Cut words at → framed of (drop at words) ≡ []
-    framed_end l = framed_cut (drop at words) (omega (arith, length-drop at words, second words at, l.short))
+module _ {A : Type 0} (of : ℕ → List ℕ → List A) where
+  abbrev decoded : List (ℕ × List ℕ) → List A
+  decoded = flat_map (λ item. of item.0 item.1)
 
-    -- an item, and those behind it
-    pub framed_next : {n : ℕ} → Whole words at n
-        → framed of (drop at words) ≡ of (get_or words at 0) (take (n - 2) (drop (at + 2) words)) ++ framed of (drop (at + n) words)
-    framed_next {n} l =
-        let count : get_or words (at + 1) 0 ≡ n - 2 = omega (arith, l.counted) in
-        let start : at + 0 ≡ at = omega arith in
-        let end : at + 2 + (n - 2) ≡ at + n = omega (arith, l.counted) in
-        framed_whole (drop at words) (omega (arith, length-drop at words, second words at, l.inside, l.counted))
-        ∙ rw (second words at, count, get_or-drop at words 0 0, drop-drop 2 at words, drop-drop (n - 2) (at + 2) words, start, end)
+  after_items : (n : ℕ) (words : List ℕ) → framed_after of n words ≡ decoded (framed_after (λ kind words. (kind, words) ∷ []) n words)
+  unfolding framed_after
+  after_items n [] = refl
+  after_items (suc n) (word ∷ words) = after_items n words
+  after_items zero (kind ∷ []) = refl
+  after_items zero (kind ∷ count ∷ words) =
+      elim (leb count (length words)) as (λ b. cond b (of kind (take count words) ++ framed_after of count words) []
+      ≡ decoded (cond b ((kind, take count words) ∷ framed_after (λ kind words. (kind, words) ∷ []) count words) [])) [
+        | true ↦ ap (λ (l : List A). of kind (take count words) ++ l) (after_items count words)
+        | false ↦ refl
+      ]
+
+  pub framed_items : (words : List ℕ) → framed of words ≡ decoded (items words)
+  framed_items words = after_items 0 words
+
+  -- no more items
+  pub framed_end : (words : List ℕ) → items words ≡ [] → framed of words ≡ []
+  framed_end words e = framed_items words ∙ ap decoded e
+
+  -- an item, and those behind it
+  pub framed_next : (words rest : List ℕ) {item : ℕ × List ℕ} → items words ≡ item ∷ items rest → framed of words ≡ of item.0 item.1 ++ framed of rest
+  framed_next words rest {item} e = framed_items words ∙ ap decoded e ∙ ap (λ (l : List A). of item.0 item.1 ++ l) (sym (framed_items rest))
+
+-- ---- how many items a list has: no more than words
+
+after_few : (n : ℕ) (words : List ℕ) → length {A = ℕ × List ℕ} (framed_after (λ kind words. (kind, words) ∷ []) n words) ≤ length words
+unfolding framed_after
+after_few n [] = omega arith
+after_few (suc n) (word ∷ words) = let few = after_few n words in omega arith
+after_few zero (kind ∷ []) = omega arith
+after_few zero (kind ∷ count ∷ words) =
+    let few = after_few count words in
+    elim (leb count (length words)) as (λ b. length {A = ℕ × List ℕ} (cond b ((kind, take count words) ∷ framed_after (λ kind words. (kind, words) ∷ []) count words) []) ≤ suc (suc (length words))) [
+      | true ↦ omega arith
+      | false ↦ omega arith
+    ]
+
+pub items_few : (words : List ℕ) → length (items words) ≤ length words
+items_few words = after_few 0 words

@@ -1,27 +1,31 @@
 -- `replay_queries::execute` meets its contract. Assumes nothing.
-use Rattle.replay_queries.proofs.ExecutingSteps.{execute_short, execute_short_ends, execute_none, execute_list, put_ids, put_ends, put_one, execute_fast}
+use Rattle.replay_queries.proofs.Prelude.{arith}
+use Rattle.replay_queries.proofs.ExecutingSteps.{execute_short, execute_short_ends, execute_short_range, execute_none, execute_list, put_ids, put_ends, put_one, execute_fast}
 use Rattle.replay_queries.proofs.execute.Goals as goal
 
-pub returns-then-kind-eq-REFINE_LIST : goal.returns-then-kind-eq-REFINE_LIST
-returns-then-kind-eq-REFINE_LIST c = execute_list _ _ c.if-kind-eq-REFINE_LIST.true c.execute_list.ensures
+pub returns-in-0 : goal.returns-in-0
+returns-in-0 c = put_one _ _ c.in-0.is c.if-cells-eq-CONDITION_WORDS.true c.read_condition-c.ensures c.refine_one.ensures c.apply_answer.ensures
 
-pub returns-then-kind-eq-INTERSECT_LIST : goal.returns-then-kind-eq-INTERSECT_LIST
-returns-then-kind-eq-INTERSECT_LIST c = put_ids _ _ _ _ c.if-kind-eq-INTERSECT_LIST.true c.intersect.ensures c.apply_answer.ensures
+pub returns-in-1 : goal.returns-in-1
+returns-in-1 c = execute_list _ _ c.in-1.is c.execute_list.ensures
 
-pub returns-then-cells-ne-RANGE_WORDS : goal.returns-then-cells-ne-RANGE_WORDS
-returns-then-cells-ne-RANGE_WORDS c = execute_short_ends _ _ c.if-kind-eq-INTERSECT_RANGE.true c.if-cells-ne-RANGE_WORDS.true
+pub returns-in-2 : goal.returns-in-2
+returns-in-2 c = put_ids _ _ _ _ c.in-2.is c.intersect.ensures c.apply_answer-in-2.ensures
 
-pub returns-then-kind-eq-INTERSECT_RANGE : goal.returns-then-kind-eq-INTERSECT_RANGE
-returns-then-kind-eq-INTERSECT_RANGE c = put_ends _ _ _ c.if-kind-eq-INTERSECT_RANGE.true c.if-cells-ne-RANGE_WORDS.false c.intersect-then-kind-eq-INTERSECT_RANGE.ensures c.apply_answer-then-kind-eq-INTERSECT_RANGE.ensures
+pub returns-in-3 : goal.returns-in-3
+returns-in-3 c = put_ends _ _ _ c.in-3.is c.if-cells-eq-RANGE_WORDS.true c.intersect-in-3.ensures c.apply_answer-in-3.ensures
 
-pub returns-then-cells-ne-CONDITION_WORDS : goal.returns-then-cells-ne-CONDITION_WORDS
-returns-then-cells-ne-CONDITION_WORDS c = execute_short _ _ c.if-kind-eq-REFINE_LIST.false c.if-kind-eq-INTERSECT_LIST.false c.if-kind-eq-INTERSECT_RANGE.false c.if-cells-ne-CONDITION_WORDS.true
+pub returns-in-4 : goal.returns-in-4
+returns-in-4 c = execute_fast _ _ c.in-4.is c.if-cells-eq-CONDITION_WORDS-2.true c.read_condition-c-in-4.ensures c.execute_range.ensures
 
-pub returns-then-kind-eq-REFINE_ONE : goal.returns-then-kind-eq-REFINE_ONE
-returns-then-kind-eq-REFINE_ONE c = put_one _ _ c.if-kind-eq-REFINE_ONE.true c.if-cells-ne-CONDITION_WORDS.false c.read_condition-c.ensures c.refine_one.ensures c.apply_answer-then-kind-eq-REFINE_ONE.ensures
+pub returns-in_default : goal.returns-in_default
+returns-in_default c = execute_short _ _ c.in-0.is c.if-cells-eq-CONDITION_WORDS.false
 
-pub returns-then-kind-eq-INTERSECT_SORT_RANGE : goal.returns-then-kind-eq-INTERSECT_SORT_RANGE
-returns-then-kind-eq-INTERSECT_SORT_RANGE c = execute_fast _ _ c.if-kind-eq-INTERSECT_SORT_RANGE.true c.if-cells-ne-CONDITION_WORDS.false c.read_condition-c.ensures c.execute_range.ensures
+pub returns-in_default-2 : goal.returns-in_default-2
+returns-in_default-2 c = execute_short_ends _ _ c.in-3.is c.if-cells-eq-RANGE_WORDS.false
 
-pub returns : goal.returns
-returns c = execute_none _ _ c.if-kind-eq-REFINE_ONE.false c.if-kind-eq-REFINE_LIST.false c.if-kind-eq-INTERSECT_LIST.false c.if-kind-eq-INTERSECT_RANGE.false c.if-kind-eq-INTERSECT_SORT_RANGE.false
+pub returns-in_default-3 : goal.returns-in_default-3
+returns-in_default-3 c = execute_short_range _ _ c.in-4.is c.if-cells-eq-CONDITION_WORDS-2.false
+
+pub returns-in_default-4 : goal.returns-in_default-4
+returns-in_default-4 c = execute_none _ _ (omega arith)
