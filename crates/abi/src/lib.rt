@@ -1,5 +1,7 @@
 // Encodes headers and answers as words for C callers, and decodes their arguments. A fixed number of words is a fixed array, which
 // goes to C as a plain pointer.
+// The conversions are functions: an impl of `From` for a type of another crate may stand only there, and a type around the words is
+// no plainer.
 #![tactic(auto)]
 
 ghost use Rattle.std.specs.Prelude.{◌≡◌};
@@ -79,10 +81,7 @@ pub fn decode_subset(words: &[u32; 3]) -> SubsetHead
 pub fn encode_bool(answer: bool) -> u32
     ensures { result ≡ bit answer }
 {
-    if answer {
-        return 1;
-    }
-    0
+    u32::from(answer)
 }
 
 fn encode_largest(largest: Option<u32>) -> [u32; 2]

@@ -1,5 +1,5 @@
 -- `abi::decode_largest` meets its contract. Assumes nothing.
-use Rattle.abi.proofs.Prelude.{rules}
+use borrow.Author.Rules.{rules}
 use Rattle.abi.specs.Encoding.{decode_largest}
 use Rattle.abi.proofs.decode_largest.Goals as goal
 

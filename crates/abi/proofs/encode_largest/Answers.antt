@@ -1,17 +1,8 @@
 -- `abi::encode_largest` meets its contract. Assumes nothing.
-use Rattle.abi.proofs.Prelude.{rules}
 use mathlib.Core.Option.{Option-elim}
 use Rattle.table.specs.Numbers.{largest_view}
 use Rattle.abi.specs.Encoding.{encode_option}
 use Rattle.abi.proofs.encode_largest.Goals as goal
-
-pub enum_told-1 : goal.enum_told-1
-unfolding encode_option largest_view Option-elim
-enum_told-1 c = search rules
-
-pub enum_known-largest : goal.enum_known-largest
-unfolding encode_option largest_view Option-elim
-enum_known-largest c = search rules
 
 pub returns-in-None : goal.returns-in-None
 unfolding encode_option largest_view Option-elim

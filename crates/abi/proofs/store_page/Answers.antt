@@ -1,26 +1,10 @@
 -- `abi::store_page` meets its contract. Assumes nothing.
-use Rattle.abi.proofs.Prelude.{refl, stored_as, rules}
+use Rattle.abi.proofs.Prelude.{refl, stored_as}
 use Rattle.query_spec.specs.Queries.{page_view, next_view}
 use Rattle.abi.specs.Encoding.{encode_option, encode_page, returned}
 use Rattle.refusals.specs.Refusals.{if_accepted}
 use mathlib.Core.Option.{Option-elim}
 use Rattle.abi.proofs.store_page.Goals as goal
-
-pub enum_known-answer : goal.enum_known-answer
-unfolding page_view next_view encode_option Option-elim encode_page returned if_accepted
-enum_known-answer c = search rules
-
-pub enum_known-answer-in-Page-1 : goal.enum_known-answer-in-Page-1
-unfolding page_view next_view encode_option Option-elim encode_page returned if_accepted
-enum_known-answer-in-Page-1 c = search rules
-
-pub enum_told-1 : goal.enum_told-1
-unfolding page_view next_view encode_option Option-elim encode_page returned if_accepted
-enum_told-1 c = search rules
-
-pub enum_known-next : goal.enum_known-next
-unfolding page_view next_view encode_option Option-elim encode_page returned if_accepted
-enum_known-next c = search rules
 
 pub returns-in-Refused : goal.returns-in-Refused
 unfolding page_view next_view encode_option Option-elim encode_page returned if_accepted

@@ -1,21 +1,9 @@
 -- `abi::store_range` meets its contract. Assumes nothing.
-use Rattle.abi.proofs.Prelude.{refl, stored_as, rules}
+use Rattle.abi.proofs.Prelude.{refl, stored_as}
 use Rattle.table.specs.Numbers.{range_view}
 use Rattle.abi.specs.Encoding.{encode_range, returned}
 use Rattle.refusals.specs.Refusals.{if_accepted}
 use Rattle.abi.proofs.store_range.Goals as goal
-
-pub enum_known-answer : goal.enum_known-answer
-unfolding range_view encode_range returned if_accepted
-enum_known-answer c = search rules
-
-pub enum_told-1 : goal.enum_told-1
-unfolding range_view encode_range returned if_accepted
-enum_told-1 c = search rules
-
-pub enum_known-answer-in-Range-1 : goal.enum_known-answer-in-Range-1
-unfolding range_view encode_range returned if_accepted
-enum_known-answer-in-Range-1 c = search rules
 
 pub returns-in-Refused : goal.returns-in-Refused
 unfolding range_view encode_range returned if_accepted

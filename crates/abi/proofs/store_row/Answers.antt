@@ -1,22 +1,10 @@
 -- `abi::store_row` meets its contract. Assumes nothing.
-use Rattle.abi.proofs.Prelude.{refl, stored_as, rules}
+use Rattle.abi.proofs.Prelude.{refl, stored_as}
 use Rattle.table.specs.Numbers.{row_view}
 use Rattle.abi.specs.Encoding.{encode_option, returned}
 use Rattle.refusals.specs.Refusals.{if_accepted}
 use mathlib.Core.Option.{Option-elim}
 use Rattle.abi.proofs.store_row.Goals as goal
-
-pub enum_known-answer : goal.enum_known-answer
-unfolding row_view encode_option Option-elim returned if_accepted
-enum_known-answer c = search rules
-
-pub enum_told-1 : goal.enum_told-1
-unfolding row_view encode_option Option-elim returned if_accepted
-enum_told-1 c = search rules
-
-pub enum_known-answer-in-Row-1 : goal.enum_known-answer-in-Row-1
-unfolding row_view encode_option Option-elim returned if_accepted
-enum_known-answer-in-Row-1 c = search rules
 
 pub returns-in-Refused : goal.returns-in-Refused
 unfolding row_view encode_option Option-elim returned if_accepted

@@ -1,20 +1,8 @@
 -- `abi::store_subset` meets its contract. Assumes nothing.
-use Rattle.abi.proofs.Prelude.{refl, stored_as, rules}
+use Rattle.abi.proofs.Prelude.{refl, stored_as}
 use Rattle.abi.specs.Encoding.{subset_head_view, encode_subset, returned}
 use Rattle.refusals.specs.Refusals.{if_accepted}
 use Rattle.abi.proofs.store_subset.Goals as goal
-
-pub enum_known-answer : goal.enum_known-answer
-unfolding subset_head_view encode_subset returned if_accepted
-enum_known-answer c = search rules
-
-pub enum_known-answer-in-Range-1 : goal.enum_known-answer-in-Range-1
-unfolding subset_head_view encode_subset returned if_accepted
-enum_known-answer-in-Range-1 c = search rules
-
-pub enum_known-answer-in-List-1 : goal.enum_known-answer-in-List-1
-unfolding subset_head_view encode_subset returned if_accepted
-enum_known-answer-in-List-1 c = search rules
 
 pub returns-in-Refused : goal.returns-in-Refused
 unfolding subset_head_view encode_subset returned if_accepted

@@ -1,21 +1,9 @@
 -- `abi::store_table` meets its contract. Assumes nothing.
-use Rattle.abi.proofs.Prelude.{refl, stored_as, rules}
+use Rattle.abi.proofs.Prelude.{refl, stored_as}
 use Rattle.table.specs.Numbers.{table_view}
 use Rattle.abi.specs.Encoding.{returned}
 use Rattle.refusals.specs.Refusals.{if_accepted}
 use Rattle.abi.proofs.store_table.Goals as goal
-
-pub enum_known-answer : goal.enum_known-answer
-unfolding table_view returned if_accepted
-enum_known-answer c = search rules
-
-pub enum_known-answer-in-Table-1 : goal.enum_known-answer-in-Table-1
-unfolding table_view returned if_accepted
-enum_known-answer-in-Table-1 c = search rules
-
-pub encode_header-requires : goal.encode_header-requires
-unfolding table_view returned if_accepted
-encode_header-requires c = search rules
 
 pub returns-in-Refused : goal.returns-in-Refused
 unfolding table_view returned if_accepted

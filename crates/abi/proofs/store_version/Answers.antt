@@ -1,17 +1,9 @@
 -- `abi::store_version` meets its contract. Assumes nothing.
-use Rattle.abi.proofs.Prelude.{refl, stored_as, rules}
+use Rattle.abi.proofs.Prelude.{refl, stored_as}
 use Rattle.table.specs.Numbers.{version_view}
 use Rattle.abi.specs.Encoding.{encode_version, returned}
 use Rattle.refusals.specs.Refusals.{if_accepted}
 use Rattle.abi.proofs.store_version.Goals as goal
-
-pub enum_known-answer : goal.enum_known-answer
-unfolding version_view encode_version returned if_accepted
-enum_known-answer c = search rules
-
-pub enum_known-answer-in-Version-1 : goal.enum_known-answer-in-Version-1
-unfolding version_view encode_version returned if_accepted
-enum_known-answer-in-Version-1 c = search rules
 
 pub returns-in-Refused : goal.returns-in-Refused
 unfolding version_view encode_version returned if_accepted
