@@ -5,20 +5,7 @@ use Rattle.precedence.specs.Precedence.{precedence_view}
 use Rattle.abi.specs.Encoding.{returned}
 use Rattle.abi.specs.Laws.Encoding.{stored_as}
 use Rattle.abi_precedence.specs.Encoding.{encode_failure}
-use borrow.Author.Rules.{rules}
 use Rattle.abi_precedence.proofs.store_failure.Goals as goal
-
-pub enum_known-answer : goal.enum_known-answer
-unfolding precedence_view encode_failure returned if_accepted
-enum_known-answer c = search rules
-
-pub enum_told-1 : goal.enum_told-1
-unfolding precedence_view encode_failure returned if_accepted
-enum_told-1 c = search rules
-
-pub enum_known-answer-in-Fails-1 : goal.enum_known-answer-in-Fails-1
-unfolding precedence_view encode_failure returned if_accepted
-enum_known-answer-in-Fails-1 c = search rules
 
 pub returns-in-Refused : goal.returns-in-Refused
 unfolding precedence_view encode_failure returned if_accepted
