@@ -94,8 +94,7 @@ fn line_at(text: &[u8], start: usize, letter: u8, width: usize, numbers: &mut [u
         return 0;
     }
     let mut at = start + 1;
-    let mut count = 0;
-    while count < width {
+    for count in 0..width {
         if text[at] != b',' {
             return 0;
         }
@@ -105,7 +104,6 @@ fn line_at(text: &[u8], start: usize, letter: u8, width: usize, numbers: &mut [u
         }
         numbers[count] = number.value;
         at = number.end;
-        count += 1;
     }
     if text[at] != b'\n' {
         return 0;
@@ -125,10 +123,7 @@ fn reread_decimal(text: &[u8], start: usize) -> Number
         value = 10 * value + (text[at] - b'0') as u32;
         at += 1;
     }
-    Number {
-        value: value,
-        end: at,
-    }
+    Number { value, end: at }
 }
 
 // Reads again a D line that has passed its checks. Returns the offset after its newline.
@@ -140,12 +135,10 @@ pub fn reread_line(text: &[u8], start: usize, width: usize, numbers: &mut [u32])
     ensures { LineReread text.now start width numbers.old result numbers.new }
 {
     let mut at = start + 1;
-    let mut count = 0;
-    while count < width {
+    for count in 0..width {
         let number = reread_decimal(text, at + 1);
         numbers[count] = number.value;
         at = number.end;
-        count += 1;
     }
     at + 1
 }
@@ -330,13 +323,13 @@ pub fn scan_text(numbered: bool, text: &[u8]) -> Survey
     let rows = count_rows(numbered, columns as usize, count, text, start, &mut numbers);
     Survey {
         is_listing: rows != WRONG,
-        columns: columns,
-        keys: keys,
-        sort: sort,
-        rule: rule,
-        generation: generation,
-        count: count,
+        columns,
+        keys,
+        sort,
+        rule,
+        generation,
+        count,
         rows: rows as u32,
-        start: start,
+        start,
     }
 }

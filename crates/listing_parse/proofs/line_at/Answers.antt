@@ -39,12 +39,6 @@ offset_bounds-numbers-count c = omega (arith, c.loop-count-test.true, c.requires
 pub bounds-numbers-count : goal.bounds-numbers-count
 bounds-numbers-count c = omega (arith, c.loop-count.invariant.room, c.loop-count.invariant.same, c.loop-count-test.true)
 
-pub overflow_add-count : goal.overflow_add-count
-overflow_add-count c = omega (arith, c.loop-count-test.true, c.requires.lt_letter.1)
-
-pub loop-count-smaller : goal.loop-count-smaller
-loop-count-smaller c = omega (arith, c.loop-count-test.true)
-
 pub loop-count-preserved : goal.loop-count-preserved
 loop-count-preserved c = reading_more c.loop-count.invariant c.loop-count-test.true c.if-text-at-ne44.false _ (c.decimal_at-number.ensures.found (search rules))
 

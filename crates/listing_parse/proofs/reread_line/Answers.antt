@@ -19,9 +19,6 @@ offset_bounds-numbers-count c = omega (arith, c.loop-count-test.true, c.requires
 pub bounds-numbers-count : goal.bounds-numbers-count
 bounds-numbers-count c = omega (arith, c.loop-count.invariant.room, c.loop-count.invariant.same, c.loop-count-test.true)
 
-pub loop-count-smaller : goal.loop-count-smaller
-loop-count-smaller c = omega (arith, c.loop-count-test.true)
-
 pub loop-count-preserved : goal.loop-count-preserved
 loop-count-preserved c =
     let r = c.loop-count.invariant in
