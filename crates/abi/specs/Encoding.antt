@@ -6,7 +6,6 @@ use Rattle.std.proofs.Math.Option
 use Rattle.std.proofs.Math.Option.{Option, none, some, Option-elim}
 use Rattle.refusals.specs.Refusals.{Reply, refused, accepted, if_accepted}
 use Rattle.offsets.specs.Subsets.{Subset, range, list}
-use Rattle.offsets.specs.declared.SubsetHead.{SubsetHead}
 use Rattle.offsets.specs.declared.SubsetAnswer.{SubsetAnswer}
 use Rattle.offsets.specs.declared.SubsetAnswer.TheVariants.{Refused as SubsetRefused, Range as SubsetRange, List as SubsetList}
 use Rattle.plain_table.specs.Staged.{opening_in}
@@ -37,6 +36,15 @@ decode_header words =
     (decode_largest (get_or words 10 0) (get_or words 11 0))
 
 -- A subset is three words: whether it is a range, its start and its end. The ids of a list are passed separately.
+pub record SubsetHead : Type 0 where
+  pub dense : Bool
+  pub start : ℕ
+  pub end : ℕ
+
+-- "its kind, its two ends and the caller's list of ids"
+abbrev pub subset_in : SubsetHead → List ℕ → Subset
+subset_in head ids = cond head.dense (range head.start head.end) (list ids)
+
 abbrev pub decode_subset : List ℕ → SubsetHead
 decode_subset words = record { dense = not (eqb (get_or words 0 0) 0); start = get_or words 1 0; end = get_or words 2 0 }
 

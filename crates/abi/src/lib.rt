@@ -7,12 +7,13 @@
 ghost use Rattle.std.specs.Prelude.{◌≡◌};
 ghost use Rattle.constraints.specs.Encoding.{condition_in};
 ghost use Rattle.table.specs.Numbers.{largest_view, table_view, merge_view, row_view, cell_view, range_view, version_view, sound_view};
+ghost use Rattle.offsets.specs.Answers.{lent_subset};
 ghost use Rattle.query_spec.specs.Queries.{match_view, page_view};
-ghost use Rattle.abi.specs.Encoding.{decode_largest, decode_columns, decode_header, decode_subset, bit, encode_header, encode_merge, encode_bool, encode_option, encode_range, encode_version, subset_head_view, encode_subset, encode_page, Stored};
+ghost use Rattle.abi.specs.Encoding.{decode_largest, decode_columns, decode_header, subset_in, decode_subset, bit, encode_header, encode_merge, encode_bool, encode_option, encode_range, encode_version, subset_head_view, encode_subset, encode_page, Stored};
 
 use constraints::Constraint;
-use offsets::{SubsetAnswer, SubsetHead};
-use query_spec::{MatchAnswer, NextPlace, PageAnswer};
+use offsets::{SubsetAnswer, SubsetRef};
+use query_spec::{MatchAnswer, PageAnswer};
 use refusals::ACCEPTED;
 use table::{
     CellAnswer, Header, MergeAnswer, RangeAnswer, RowAnswer, SoundAnswer, TableAnswer,
@@ -66,13 +67,15 @@ pub fn decode_condition(words: &[u32; 3]) -> Constraint
     }
 }
 
-pub fn decode_subset(words: &[u32; 3]) -> SubsetHead
-    ensures { result ≡ decode_subset words.now }
+pub fn decode_subset<'a>(words: &[u32; 3], ids: &'a [u32]) -> SubsetRef<'a>
+    ensures subset { lent_subset result ≡ subset_in (decode_subset words.now) ids.now }
+    ensures ids { result.ids.now ≡ ids.now }
 {
-    SubsetHead {
+    SubsetRef {
         dense: words[0] != 0,
         start: words[1],
         end: words[2],
+        ids,
     }
 }
 
@@ -247,11 +250,11 @@ pub fn store_page(answer: PageAnswer, page: &mut [u32; 4]) -> u32
         PageAnswer::Page(p) => {
             let next = p.next;
             match next {
-                NextPlace::None => {
+                None => {
                     *page = [p.written, p.dead, 0, 0];
                     ACCEPTED
                 }
-                NextPlace::At(place) => {
+                Some(place) => {
                     *page = [p.written, p.dead, 1, place];
                     ACCEPTED
                 }

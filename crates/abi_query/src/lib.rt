@@ -3,14 +3,12 @@
 // a struct of three words, so a list of them is lent without a conversion. Each function decodes, queries and stores.
 #![tactic(auto)]
 
-ghost use Rattle.offsets.specs.Answers.{subset_of};
 ghost use Rattle.query_spec.specs.Queries.{match_view, page_view, Matched, PageRead, RefinedOne, RefinedList};
-ghost use Rattle.abi.specs.Encoding.{decode_header, decode_subset, encode_bool, subset_head_view, encode_subset, encode_page, Answers};
+ghost use Rattle.abi.specs.Encoding.{decode_header, subset_in, decode_subset, encode_bool, subset_head_view, encode_subset, encode_page, Answers};
 ghost use Rattle.constraints.specs.Encoding.{condition_in};
 
 use abi::{decode_condition, decode_header, decode_subset, store_match, store_page, store_subset};
 use constraints::Constraint;
-use query_borrowed::SubsetRef;
 
 // The condition is three words: kind, column, value. The answer is a subset.
 pub fn mouldgrey_refine_one(
@@ -22,17 +20,11 @@ pub fn mouldgrey_refine_one(
     output: &mut [u32],
     answer: &mut [u32; 3],
 ) -> u32
-    ensures { Answers (λ a. RefinedOne (decode_header header.now) rows.now (subset_of (decode_subset subset.now) ids.now) (condition_in condition.now 0) output.old a output.new) subset_head_view encode_subset answer.old result answer.new }
+    ensures { Answers (λ a. RefinedOne (decode_header header.now) rows.now (subset_in (decode_subset subset.now) ids.now) (condition_in condition.now 0) output.old a output.new) subset_head_view encode_subset answer.old result answer.new }
 {
     let h = decode_header(header);
-    let head = decode_subset(subset);
     let c = decode_condition(condition);
-    let lent = SubsetRef {
-        dense: head.dense,
-        start: head.start,
-        end: head.end,
-        ids,
-    };
+    let lent = decode_subset(subset, ids);
     let refined = query_borrowed::refine_one(h, rows, lent, c, output);
     store_subset(refined, answer)
 }
@@ -47,16 +39,10 @@ pub fn mouldgrey_refine_ref(
     output: &mut [u32],
     answer: &mut [u32; 3],
 ) -> u32
-    ensures { Answers (λ a. RefinedList (decode_header header.now) rows.now (subset_of (decode_subset subset.now) ids.now) conditions.now output.old a output.new) subset_head_view encode_subset answer.old result answer.new }
+    ensures { Answers (λ a. RefinedList (decode_header header.now) rows.now (subset_in (decode_subset subset.now) ids.now) conditions.now output.old a output.new) subset_head_view encode_subset answer.old result answer.new }
 {
     let h = decode_header(header);
-    let head = decode_subset(subset);
-    let lent = SubsetRef {
-        dense: head.dense,
-        start: head.start,
-        end: head.end,
-        ids,
-    };
+    let lent = decode_subset(subset, ids);
     let refined = query_borrowed::refine_ref(h, rows, lent, conditions, output);
     store_subset(refined, answer)
 }
@@ -70,16 +56,10 @@ pub fn mouldgrey_contains_match(
     conditions: &[Constraint],
     matched: &mut [u32; 1],
 ) -> u32
-    ensures { Answers (Matched (decode_header header.now) rows.now (subset_of (decode_subset subset.now) ids.now) conditions.now) match_view encode_bool matched.old result matched.new }
+    ensures { Answers (Matched (decode_header header.now) rows.now (subset_in (decode_subset subset.now) ids.now) conditions.now) match_view encode_bool matched.old result matched.new }
 {
     let h = decode_header(header);
-    let head = decode_subset(subset);
-    let lent = SubsetRef {
-        dense: head.dense,
-        start: head.start,
-        end: head.end,
-        ids,
-    };
+    let lent = decode_subset(subset, ids);
     let found = query_borrowed::contains_match(h, rows, lent, conditions);
     store_match(found, matched)
 }
@@ -96,16 +76,10 @@ pub fn mouldgrey_read_page(
     output: &mut [u32],
     page: &mut [u32; 4],
 ) -> u32
-    ensures { Answers (λ a. PageRead (decode_header header.now) rows.now (subset_of (decode_subset subset.now) ids.now) place n conditions.now output.old a output.new) page_view encode_page page.old result page.new }
+    ensures { Answers (λ a. PageRead (decode_header header.now) rows.now (subset_in (decode_subset subset.now) ids.now) place n conditions.now output.old a output.new) page_view encode_page page.old result page.new }
 {
     let h = decode_header(header);
-    let head = decode_subset(subset);
-    let lent = SubsetRef {
-        dense: head.dense,
-        start: head.start,
-        end: head.end,
-        ids,
-    };
+    let lent = decode_subset(subset, ids);
     let visited = query_borrowed::read_page(h, rows, lent, place, n, conditions, output);
     store_page(visited, page)
 }

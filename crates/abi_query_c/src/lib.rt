@@ -1,9 +1,8 @@
 // The functions of `abi_query`, exported to C. A slice is passed as a pointer and a length, a fixed array as a pointer alone.
 #![tactic(auto)]
 
-ghost use Rattle.offsets.specs.Answers.{subset_of};
 ghost use Rattle.query_spec.specs.Queries.{match_view, page_view, Matched, PageRead, RefinedOne, RefinedList};
-ghost use Rattle.abi.specs.Encoding.{decode_header, decode_subset, encode_bool, subset_head_view, encode_subset, encode_page, Answers};
+ghost use Rattle.abi.specs.Encoding.{decode_header, subset_in, decode_subset, encode_bool, subset_head_view, encode_subset, encode_page, Answers};
 ghost use Rattle.constraints.specs.Encoding.{condition_in};
 
 use constraints::Constraint;
@@ -19,7 +18,7 @@ pub extern "C" fn mouldgrey_refine_one(
     output: &mut [u32],
     answer: &mut [u32; 3],
 ) -> u32
-    ensures { Answers (λ a. RefinedOne (decode_header header.now) rows.now (subset_of (decode_subset subset.now) ids.now) (condition_in condition.now 0) output.old a output.new) subset_head_view encode_subset answer.old result answer.new }
+    ensures { Answers (λ a. RefinedOne (decode_header header.now) rows.now (subset_in (decode_subset subset.now) ids.now) (condition_in condition.now 0) output.old a output.new) subset_head_view encode_subset answer.old result answer.new }
 {
     abi_query::mouldgrey_refine_one(header, rows, subset, ids, condition, output, answer)
 }
@@ -35,7 +34,7 @@ pub extern "C" fn mouldgrey_refine_ref(
     output: &mut [u32],
     answer: &mut [u32; 3],
 ) -> u32
-    ensures { Answers (λ a. RefinedList (decode_header header.now) rows.now (subset_of (decode_subset subset.now) ids.now) conditions.now output.old a output.new) subset_head_view encode_subset answer.old result answer.new }
+    ensures { Answers (λ a. RefinedList (decode_header header.now) rows.now (subset_in (decode_subset subset.now) ids.now) conditions.now output.old a output.new) subset_head_view encode_subset answer.old result answer.new }
 {
     abi_query::mouldgrey_refine_ref(header, rows, subset, ids, conditions, output, answer)
 }
@@ -50,7 +49,7 @@ pub extern "C" fn mouldgrey_contains_match(
     conditions: &[Constraint],
     matched: &mut [u32; 1],
 ) -> u32
-    ensures { Answers (Matched (decode_header header.now) rows.now (subset_of (decode_subset subset.now) ids.now) conditions.now) match_view encode_bool matched.old result matched.new }
+    ensures { Answers (Matched (decode_header header.now) rows.now (subset_in (decode_subset subset.now) ids.now) conditions.now) match_view encode_bool matched.old result matched.new }
 {
     abi_query::mouldgrey_contains_match(header, rows, subset, ids, conditions, matched)
 }
@@ -68,7 +67,7 @@ pub extern "C" fn mouldgrey_read_page(
     output: &mut [u32],
     page: &mut [u32; 4],
 ) -> u32
-    ensures { Answers (λ a. PageRead (decode_header header.now) rows.now (subset_of (decode_subset subset.now) ids.now) place n conditions.now output.old a output.new) page_view encode_page page.old result page.new }
+    ensures { Answers (λ a. PageRead (decode_header header.now) rows.now (subset_in (decode_subset subset.now) ids.now) place n conditions.now output.old a output.new) page_view encode_page page.old result page.new }
 {
     abi_query::mouldgrey_read_page(
         header, rows, subset, ids, place, n, conditions, output, page,

@@ -4,15 +4,16 @@
 ghost use Rattle.std.specs.Prelude.{ℕ, List, length, get_or};
 ghost use Rattle.constraints.specs.Encoding.{condition_in};
 ghost use Rattle.offsets.specs.Subsets.{range};
-ghost use Rattle.offsets.specs.Answers.{subset_of, intersect_reply, Answered};
+ghost use Rattle.offsets.specs.Answers.{intersect_reply, Answered};
 ghost use Rattle.table.specs.Numbers.{cell_view, range_view, version_view};
 ghost use Rattle.table.specs.Outcomes.{CellRead, RangeRead, RowsSince, RowsSinceVersion, VersionRead};
-ghost use Rattle.abi.specs.Encoding.{decode_header, decode_subset, encode_option, encode_range, encode_version, subset_head_view, encode_subset, Answers};
+ghost use Rattle.abi.specs.Encoding.{decode_header, subset_in, decode_subset, encode_option, encode_range, encode_version, subset_head_view, encode_subset, Answers};
 
 use abi::{
     decode_condition, decode_header, decode_subset, store_cell, store_range, store_subset,
     store_version,
 };
+use offsets::Subset;
 
 // The answer is two words: found, cell.
 pub fn mouldgrey_get_row_column(
@@ -80,11 +81,11 @@ pub fn mouldgrey_intersect(
     output: &mut [u32],
     subset: &mut [u32; 3],
 ) -> u32
-    ensures { Answers (λ answer. Answered (intersect_reply (subset_of (decode_subset first.now) first_ids.now) (subset_of (decode_subset second.now) second_ids.now) (length output.old)) output.old answer output.new) subset_head_view encode_subset subset.old result subset.new }
+    ensures { Answers (λ answer. Answered (intersect_reply (subset_in (decode_subset first.now) first_ids.now) (subset_in (decode_subset second.now) second_ids.now) (length output.old)) output.old answer output.new) subset_head_view encode_subset subset.old result subset.new }
 {
-    let a = decode_subset(first);
-    let b = decode_subset(second);
-    let answer = offsets_intersect::intersect(a, first_ids, b, second_ids, output);
+    let a = decode_subset(first, first_ids);
+    let b = decode_subset(second, second_ids);
+    let answer = offsets_intersect::intersect(Subset::from(a), Subset::from(b), output);
     store_subset(answer, subset)
 }
 

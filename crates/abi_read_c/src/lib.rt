@@ -4,10 +4,10 @@
 ghost use Rattle.std.specs.Prelude.{ℕ, List, length, get_or};
 ghost use Rattle.constraints.specs.Encoding.{condition_in};
 ghost use Rattle.offsets.specs.Subsets.{range};
-ghost use Rattle.offsets.specs.Answers.{subset_of, intersect_reply, Answered};
+ghost use Rattle.offsets.specs.Answers.{intersect_reply, Answered};
 ghost use Rattle.table.specs.Numbers.{cell_view, range_view, version_view};
 ghost use Rattle.table.specs.Outcomes.{CellRead, RangeRead, RowsSince, RowsSinceVersion, VersionRead};
-ghost use Rattle.abi.specs.Encoding.{decode_header, decode_subset, encode_option, encode_range, encode_version, subset_head_view, encode_subset, Answers};
+ghost use Rattle.abi.specs.Encoding.{decode_header, subset_in, decode_subset, encode_option, encode_range, encode_version, subset_head_view, encode_subset, Answers};
 
 // The answer is two words: found, cell.
 #[unsafe(no_mangle)]
@@ -75,7 +75,7 @@ pub extern "C" fn mouldgrey_intersect(
     output: &mut [u32],
     subset: &mut [u32; 3],
 ) -> u32
-    ensures { Answers (λ answer. Answered (intersect_reply (subset_of (decode_subset first.now) first_ids.now) (subset_of (decode_subset second.now) second_ids.now) (length output.old)) output.old answer output.new) subset_head_view encode_subset subset.old result subset.new }
+    ensures { Answers (λ answer. Answered (intersect_reply (subset_in (decode_subset first.now) first_ids.now) (subset_in (decode_subset second.now) second_ids.now) (length output.old)) output.old answer output.new) subset_head_view encode_subset subset.old result subset.new }
 {
     abi_read::mouldgrey_intersect(first, first_ids, second, second_ids, output, subset)
 }

@@ -8,12 +8,11 @@ ghost use Rattle.replay_frames.specs.Frames.{framed};
 ghost use Rattle.replay.specs.Encoding.{request_of};
 ghost use Rattle.plain_table.specs.Staged.{opening_in};
 ghost use Rattle.refusals.specs.Refusals.{accepted};
-ghost use Rattle.offsets.specs.Answers.{subset_of};
 ghost use Rattle.table.specs.Numbers.{table_view};
 ghost use Rattle.table.specs.Outcomes.{body, compaction_words};
 ghost use Rattle.replay.specs.Replays.{Replayed};
 ghost use Rattle.replay_queries.specs.RunQueries.{RunMade};
-ghost use Rattle.abi.specs.Encoding.{decode_header, decode_subset, encode_header, Stored, Answers, encode_number, encode_option};
+ghost use Rattle.abi.specs.Encoding.{decode_header, subset_in, decode_subset, encode_header, Stored, Answers, encode_number, encode_option};
 ghost use Rattle.abi_replay.specs.Encoding.{encode_run, step_words};
 ghost use Rattle.short_histories.specs.Sequences.{position_view, sequence_view, StepAnswered, PositionAnswered, SequenceFound, NextFound};
 
@@ -98,11 +97,11 @@ pub fn mouldgrey_run_queries(
     second: &mut [u32],
     answer: &mut [u32; 7],
 ) -> u32
-    ensures { Answers (λ a. RunMade (decode_header header.now) rows.now sorts.now (subset_of (decode_subset subset.now) ids.now) ids.now (framed query_of queries.now) first.old second.old a first.new second.new) accepted encode_run answer.old result answer.new }
+    ensures { Answers (λ a. RunMade (decode_header header.now) rows.now sorts.now (subset_in (decode_subset subset.now) ids.now) ids.now (framed query_of queries.now) first.old second.old a first.new second.new) accepted encode_run answer.old result answer.new }
 {
     let h = decode_header(header);
-    let start = decode_subset(subset);
-    let run = replay_queries::run::run_queries(h, rows, sorts, start, ids, queries, first, second);
+    let start = decode_subset(subset, ids);
+    let run = replay_queries::run::run_queries(h, rows, sorts, start, queries, first, second);
     store_run(run, answer)
 }
 

@@ -7,12 +7,11 @@ ghost use Rattle.replay_frames.specs.Frames.{framed};
 ghost use Rattle.replay.specs.Encoding.{request_of};
 ghost use Rattle.plain_table.specs.Staged.{opening_in};
 ghost use Rattle.refusals.specs.Refusals.{accepted};
-ghost use Rattle.offsets.specs.Answers.{subset_of};
 ghost use Rattle.table.specs.Numbers.{table_view};
 ghost use Rattle.table.specs.Outcomes.{body, compaction_words};
 ghost use Rattle.replay.specs.Replays.{Replayed};
 ghost use Rattle.replay_queries.specs.RunQueries.{RunMade};
-ghost use Rattle.abi.specs.Encoding.{decode_header, decode_subset, encode_header, Answers, encode_number, encode_option};
+ghost use Rattle.abi.specs.Encoding.{decode_header, subset_in, decode_subset, encode_header, Answers, encode_number, encode_option};
 ghost use Rattle.abi_replay.specs.Encoding.{encode_run, step_words};
 ghost use Rattle.short_histories.specs.Sequences.{position_view, sequence_view, StepAnswered, PositionAnswered, SequenceFound, NextFound};
 
@@ -52,7 +51,7 @@ pub extern "C" fn mouldgrey_run_queries(
     second: &mut [u32],
     answer: &mut [u32; 7],
 ) -> u32
-    ensures { Answers (λ a. RunMade (decode_header header.now) rows.now sorts.now (subset_of (decode_subset subset.now) ids.now) ids.now (framed query_of queries.now) first.old second.old a first.new second.new) accepted encode_run answer.old result answer.new }
+    ensures { Answers (λ a. RunMade (decode_header header.now) rows.now sorts.now (subset_in (decode_subset subset.now) ids.now) ids.now (framed query_of queries.now) first.old second.old a first.new second.new) accepted encode_run answer.old result answer.new }
 {
     abi_replay::mouldgrey_run_queries(
         header, rows, sorts, subset, ids, queries, first, second, answer,

@@ -1,4 +1,3 @@
-pub mod Forms
 pub mod Grow
 pub mod Prelude
 pub mod Rising

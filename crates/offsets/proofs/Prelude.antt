@@ -12,6 +12,5 @@ pub use borrow.Author.Tests.{leb-true, lt-ltb, le-leb, lt-leb, not-true, not-fal
 pub use Rattle.lists.specs.Laws.Search.{elem_not_not_below, elem_not_below, not_below_at, not_below_le, not_below_past, not_below_upto}
 pub use Rattle.lists.specs.Lists.{elem, rising}
 pub use Rattle.lists.specs.inner.Searching.{first_not_below}
-pub use Rattle.offsets.specs.declared.BoundsAnswer.TheVariants.{None, Ends}
 pub use Rattle.offsets.specs.inner.Rising.{RisesUpTo}
-unfoldable pub use Rattle.offsets.specs.inner.Writing.{bounds, bounds_view}
+unfoldable pub use Rattle.offsets.specs.inner.Writing.{bounds}

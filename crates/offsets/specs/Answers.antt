@@ -2,14 +2,21 @@
 use Rattle.std.specs.Prelude.{◌≡◌, ℕ, ◌≤◌, cond, not, ◌||◌, List, [], ◌∷◌, length, take, nat_lt}
 use Rattle.lists.specs.Lists.{splice}
 use Rattle.refusals.specs.Refusals.{check, first_refusal, Reply, refused, accepted, reply}
-use Rattle.offsets.specs.declared.SubsetHead.{SubsetHead}
+use Rattle.offsets.specs.declared.Subset.{Subset as Borrowed}
+use Rattle.offsets.specs.declared.Subset.TheVariants as borrowed
+use Rattle.offsets.specs.declared.SubsetRef.{SubsetRef}
 use Rattle.offsets.specs.declared.SubsetAnswer.{SubsetAnswer}
 use Rattle.offsets.specs.declared.SubsetAnswer.TheVariants.{Refused, Range, List as Ids}
 use Rattle.offsets.specs.Subsets.{Subset, range, list, well_formed, intersect}
 
--- a borrowed subset: "its kind, its two ends and the caller's list of ids"
-unfoldable pub subset_of : SubsetHead → List ℕ → Subset
-subset_of head ids = cond head.dense (range head.start head.end) (list ids)
+-- a borrowed subset
+abbrev pub subset_of : Borrowed → Subset
+subset_of (borrowed.Range start end) = range start end
+subset_of (borrowed.List ids) = list ids.now
+
+-- a borrowed subset as C lends it: "its kind, its two ends and the caller's list of ids"
+abbrev pub lent_subset : SubsetRef → Subset
+lent_subset lent = cond lent.dense (range lent.start lent.end) (list lent.ids.now)
 
 -- an answer decoded by its caller: refused, a range, or the first ids of the output
 unfoldable pub subset_view : SubsetAnswer → List ℕ → Reply Subset

@@ -2,25 +2,53 @@
 // its size and its ends. `offsets_intersect` is the rest of the subset layer. Proofs above this layer use the set laws in specs/Laws.
 #![tactic(auto)]
 
-ghost use Rattle.std.specs.Prelude.{◌≡◌, ◌<◌, true, length};
+ghost use Rattle.std.specs.Prelude.{◌≡◌, ◌<◌, true, length, get_or};
 ghost use Rattle.lists.specs.Lists.{rising};
 ghost use Rattle.offsets.specs.Subsets as subsets;
-ghost use Rattle.offsets.specs.Subsets.{well_formed};
+ghost use Rattle.offsets.specs.Subsets.{well_formed, members};
 ghost use Rattle.offsets.specs.Answers.{subset_of};
 ghost use Rattle.offsets.specs.inner.Rising.{RisesUpTo};
 ghost use Rattle.offsets.specs.inner.Writing as ends;
-ghost use Rattle.offsets.specs.inner.Writing.{bounds_view};
 
 pub mod retain; // retain.rt: the answer of a refinement as it grows
 pub mod search; // search.rt: binary search, and search by doubling strides
 
-// A borrowed subset's kind and two ends. Its list of ids is passed beside it. A dense subset ignores the list, a sparse one the
+// A borrowed subset: a range from a start up to an end, or the caller's list of ids.
+#[derive(Clone, Copy)]
+pub enum Subset<'a> {
+    Range(u32, u32),
+    List(&'a [u32]),
+}
+
+// A borrowed subset as C lends it: whether it is a range, its ends, and the caller's list of ids. A range ignores the list, a list the
 // ends.
 #[derive(Clone, Copy)]
-pub struct SubsetHead {
+pub struct SubsetRef<'a> {
     pub dense: bool,
     pub start: u32,
     pub end: u32,
+    pub ids: &'a [u32],
+}
+
+impl<'a> From<SubsetRef<'a>> for Subset<'a> {
+    ghost use Rattle.std.specs.Prelude.{◌≡◌};
+    ghost use Rattle.offsets.specs.Answers.{subset_of, lent_subset};
+
+    ghost from_gives = { λ lent subset. subset_of subset ≡ lent_subset lent };
+
+    fn from(lent: SubsetRef<'a>) -> Subset<'a> {
+        if lent.dense {
+            return Subset::Range(lent.start, lent.end);
+        }
+        Subset::List(lent.ids)
+    }
+}
+
+// The ends of a subset. The last id plus one may be 4,294,967,296, so they have 64 bits.
+#[derive(Clone, Copy)]
+pub struct Ends {
+    pub start: u64,
+    pub end: u64,
 }
 
 // A subset as an answer: refused with a number, a range, or the length of the list at the start of the lent output.
@@ -124,56 +152,55 @@ fn is_rising(ids: &[u32]) -> bool
     rises_by_parts(&ids[at..])
 }
 
-pub fn is_well_formed(head: SubsetHead, ids: &[u32]) -> bool
-    ensures { result ≡ well_formed (subset_of head ids.now) }
-{
-    if head.dense {
-        return head.start <= head.end;
-    }
-    if LONGEST_LIST < ids.len() {
-        return false;
-    }
-    is_rising(ids)
-}
-
-// The number of ids of a subset; 0 for a malformed range.
-pub fn size(head: SubsetHead, ids: &[u32]) -> usize
-    ensures { result ≡ subsets.size (subset_of head ids.now) }
-{
-    if head.dense {
-        if head.end < head.start {
-            return 0;
+impl<'a> Subset<'a> {
+    pub fn is_well_formed(self) -> bool
+        ensures { result ≡ well_formed (subset_of self.entry) }
+    {
+        match self {
+            Subset::Range(start, end) => start <= end,
+            Subset::List(ids) => ids.len() <= LONGEST_LIST && is_rising(ids),
         }
-        return (head.end - head.start) as usize;
     }
-    ids.len()
-}
 
-// The ends of a subset. The last id plus one may be 4,294,967,296, so they have 64 bits.
-#[derive(Clone, Copy)]
-pub enum BoundsAnswer {
-    None,
-    Ends(u64, u64),
-}
-
-fn wide(id: u32) -> u64
-    ensures { (result ≡ id) × (result < 4294967296) }
-{
-    id as u64
-}
-
-// The ends of a subset; an empty list has none.
-pub fn bounds(head: SubsetHead, ids: &[u32]) -> BoundsAnswer
-    ensures { bounds_view result ≡ ends.bounds (subset_of head ids.now) }
-{
-    if head.dense {
-        return BoundsAnswer::Ends(wide(head.start), wide(head.end));
+    // The number of ids; 0 for a malformed range.
+    pub fn size(self) -> usize
+        ensures { result ≡ subsets.size (subset_of self.entry) }
+    {
+        match self {
+            Subset::Range(start, end) => end.saturating_sub(start) as usize,
+            Subset::List(ids) => ids.len(),
+        }
     }
-    let count = ids.len();
-    if count == 0 {
-        return BoundsAnswer::None;
+
+    // The id at a place.
+    pub fn id_at(self, place: u32) -> u32
+        requires { place < subsets.size (subset_of self) }
+        ensures { result ≡ get_or (members (subset_of self.entry)) place 0 }
+    {
+        match self {
+            Subset::Range(start, _) => start + place,
+            Subset::List(ids) => ids[place as usize],
+        }
     }
-    let first = wide(ids[0]);
-    let last = wide(ids[count - 1]);
-    BoundsAnswer::Ends(first, last + 1)
+
+    // The ends; an empty list has none.
+    pub fn bounds(self) -> Option<Ends>
+        ensures { result ≡ ends.bounds (subset_of self.entry) }
+    {
+        match self {
+            Subset::Range(start, end) => Some(Ends {
+                start: u64::from(start),
+                end: u64::from(end),
+            }),
+            Subset::List(ids) => {
+                if ids.is_empty() {
+                    return None;
+                }
+                Some(Ends {
+                    start: u64::from(ids[0]),
+                    end: u64::from(ids[ids.len() - 1]) + 1,
+                })
+            }
+        }
+    }
 }

@@ -1,7 +1,6 @@
 -- The reply that each answer encodes. Assumes nothing.
-use Rattle.offsets_intersect.proofs.Prelude.{ℕ, zero, suc, ◌≤◌, ◌<◌, min, max, ◌≡◌, refl, sym, ◌∙◌, Bool, true, false, ◌&&◌, List, [], ◌∷◌, arith, leb, length, lt-leb, le-leb, filter, within, splice_nil, and_left, and_right, length_filter, count_le, Refused, Range, subset_of, Answered, room_needed, intersect_refusal, intersect_reply, Wrote, Fitting, Searchable, common, answered_refused as refused-answered, refusal_first, refusal_second, refusal_none, Allowed, allowed, dense_is, sparse_is, range_writes_nothing, answered_list, formed_order, formed_rising, formed_short}
+use Rattle.offsets_intersect.proofs.Prelude.{ℕ, zero, suc, ◌≤◌, ◌<◌, min, max, ◌≡◌, refl, sym, ◌∙◌, Bool, true, false, ◌&&◌, List, [], ◌∷◌, arith, leb, length, lt-leb, le-leb, filter, within, splice_nil, and_left, and_right, length_filter, count_le, Refused, Range, Answered, room_needed, intersect_refusal, intersect_reply, Wrote, Fitting, Searchable, common, answered_refused as refused-answered, refusal_first, refusal_second, refusal_none, Allowed, allowed, range_writes_nothing, answered_list, formed_order, formed_rising, formed_short}
 use Rattle.refusals.specs.Refusals.{refused, accepted, reply}
-use Rattle.offsets.specs.declared.SubsetHead.{SubsetHead}
 use Rattle.offsets.specs.declared.SubsetAnswer.{SubsetAnswer}
 use Rattle.offsets.specs.declared.SubsetAnswer.TheVariants.{List as Ids}
 use Rattle.offsets.specs.Subsets.{Subset, range, list, well_formed, list_or_nothing, intersect}
@@ -70,71 +69,42 @@ module _ (a b c d : ℕ) (output : List ℕ) where
       let e = refusal_none (range a b) (range c d) (length output) (rw (← formed_answer a b) (le-leb a b h)) (rw (← formed_answer c d) (le-leb c d i)) (no_room a b c d (length output)) in
       rw (replied (range a b) (range c d) (length output) (sym e), intersect_answer a b c d) (range_writes_nothing _ _ output)
 
--- ---- by kind: the output length needed, the preconditions, and the reply
+-- ---- by kind: the preconditions, and the reply
 
--- not both are dense
-pub one_list : (f g : Bool) → f && g ≡ false → f ≡ true → g ≡ false
-one_list f g e p = rw p at e
+searchable_of : (ids : List ℕ) → well_formed (list ids) ≡ true → Searchable ids
+searchable_of ids w = record { up = formed_rising ids w; short = formed_short ids w }
 
-module _ (f g : SubsetHead) (ids others : List ℕ) where
-  -- both are ranges, or one of them is not
-  pub as_ranges : (output : List ℕ) (r : SubsetAnswer) → f.dense && g.dense ≡ true
-      → Answered (intersect_reply (range f.start f.end) (range g.start g.end) (length output)) output r output
-      → Answered (intersect_reply (subset_of f ids) (subset_of g others) (length output)) output r output
-  as_ranges output r e w =
-      let p = and_left f.dense g.dense e in
-      let q = and_right f.dense g.dense e in
-      rw (dense_is f ids p, dense_is g others q) w
-
-  pub room_ranges : f.dense ≡ true → g.dense ≡ true → 0 ≡ room_needed (subset_of f ids) (subset_of g others)
-  unfolding room_needed
-  room_ranges p q = rw (dense_is f ids p, dense_is g others q)
-
-  pub room_range_list : f.dense ≡ true → g.dense ≡ false → length others ≡ room_needed (subset_of f ids) (subset_of g others)
-  unfolding room_needed
-  room_range_list p q = rw (dense_is f ids p, sparse_is g others q)
-
-  pub room_list : f.dense ≡ false → length ids ≡ room_needed (subset_of f ids) (subset_of g others)
-  unfolding room_needed
-  room_list p = rw (sparse_is f ids p)
-
-pub order_of : (f : SubsetHead) (ids : List ℕ) → f.dense ≡ true → well_formed (subset_of f ids) ≡ true → f.start ≤ f.end
-order_of f ids p w = formed_order f.start f.end (rw (dense_is f ids p) at w)
-
-pub searchable_of : (f : SubsetHead) (ids : List ℕ) → f.dense ≡ false → well_formed (subset_of f ids) ≡ true → Searchable ids
-searchable_of f ids p w = let v = rw (sparse_is f ids p) at w in record { up = formed_rising ids v; short = formed_short ids v }
-
-pub fitting_of : (ids output : List ℕ) → Searchable ids → length ids ≤ length output → Fitting ids output
+fitting_of : (ids output : List ℕ) → Searchable ids → length ids ≤ length output → Fitting ids output
 fitting_of ids output s h = record { up = s.up; short = s.short; fits = h }
 
-module _ (f g : SubsetHead) (ids others output : List ℕ) (e : intersect_refusal (subset_of f ids) (subset_of g others) (length output) ≡ 0) where
-  can : Allowed (subset_of f ids) (subset_of g others) (length output)
-  can = allowed (subset_of f ids) (subset_of g others) (length output) e
+module _ (start end : ℕ) (ids output : List ℕ) where
+  pub can_range_list : intersect_refusal (range start end) (list ids) (length output) ≡ 0 → Fitting ids output × (start ≤ end)
+  unfolding room_needed
+  can_range_list e = let can = allowed _ _ _ e in (fitting_of ids output (searchable_of ids can.formed_other) can.fits, formed_order start end can.formed)
 
-  pub can_range_list : f.dense ≡ true → g.dense ≡ false → Fitting others output × (f.start ≤ f.end)
-  can_range_list p q =
-      (fitting_of others output (searchable_of g others q can.formed_other) (rw (room_range_list f g ids others p q) can.fits), order_of f ids p can.formed)
-
-  pub can_list_range : f.dense ≡ false → g.dense ≡ true → Fitting ids output × (g.start ≤ g.end)
-  can_list_range p q =
-      (fitting_of ids output (searchable_of f ids p can.formed) (rw (room_list f g ids others p) can.fits), order_of g others q can.formed_other)
-
-  pub can_lists : f.dense ≡ false → g.dense ≡ false → Fitting ids output × Searchable others
-  can_lists p q =
-      (fitting_of ids output (searchable_of f ids p can.formed) (rw (room_list f g ids others p) can.fits), searchable_of g others q can.formed_other)
+  pub can_list_range : intersect_refusal (list ids) (range start end) (length output) ≡ 0 → Fitting ids output × (start ≤ end)
+  unfolding room_needed
+  can_list_range e = let can = allowed _ _ _ e in (fitting_of ids output (searchable_of ids can.formed) can.fits, formed_order start end can.formed_other)
 
   module _ (r : SubsetAnswer) (output' : List ℕ) where
-    pub as_range_list : f.dense ≡ true → g.dense ≡ false → Answered (accepted (list_or_nothing (filter (within f.start f.end) others))) output r output'
-        → Answered (intersect_reply (subset_of f ids) (subset_of g others) (length output)) output r output'
+    pub as_range_list : intersect_refusal (range start end) (list ids) (length output) ≡ 0
+        → Answered (accepted (list_or_nothing (filter (within start end) ids))) output r output'
+        → Answered (intersect_reply (range start end) (list ids) (length output)) output r output'
     unfolding intersect
-    as_range_list p q w = rw (replied _ _ _ e, dense_is f ids p, sparse_is g others q) w
+    as_range_list e w = rw (replied _ _ _ e) w
 
-    pub as_list_range : f.dense ≡ false → g.dense ≡ true → Answered (accepted (list (filter (within g.start g.end) ids))) output r output'
-        → Answered (intersect_reply (subset_of f ids) (subset_of g others) (length output)) output r output'
+    pub as_list_range : intersect_refusal (list ids) (range start end) (length output) ≡ 0
+        → Answered (accepted (list (filter (within start end) ids))) output r output'
+        → Answered (intersect_reply (list ids) (range start end) (length output)) output r output'
     unfolding intersect
-    as_list_range p q w = rw (replied _ _ _ e, sparse_is f ids p, dense_is g others q) w
+    as_list_range e w = rw (replied _ _ _ e) w
 
-    pub as_lists : f.dense ≡ false → g.dense ≡ false → Answered (accepted (list (common ids others))) output r output'
-        → Answered (intersect_reply (subset_of f ids) (subset_of g others) (length output)) output r output'
-    unfolding intersect common
-    as_lists p q w = rw (replied _ _ _ e, sparse_is f ids p, sparse_is g others q) w
+module _ (ids others output : List ℕ) (e : intersect_refusal (list ids) (list others) (length output) ≡ 0) where
+  pub can_lists : Fitting ids output × Searchable others
+  unfolding room_needed
+  can_lists = let can = allowed _ _ _ e in (fitting_of ids output (searchable_of ids can.formed) can.fits, searchable_of others can.formed_other)
+
+  pub as_lists : (r : SubsetAnswer) (output' : List ℕ) → Answered (accepted (list (common ids others))) output r output'
+      → Answered (intersect_reply (list ids) (list others) (length output)) output r output'
+  unfolding intersect common
+  as_lists r output' w = rw (replied _ _ _ e) w

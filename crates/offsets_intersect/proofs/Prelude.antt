@@ -18,10 +18,10 @@ pub use Rattle.lists.specs.Laws.Rising.{rising_at, filter_elem_comm, rising_drop
 pub use Rattle.lists.specs.Laws.Search.{not_below_le, not_below_past, not_below_mono, elem_not_below, elem_in_not_below, filter_within_places, filter_all_fail, not_below_below}
 pub use Rattle.lists.specs.Lists.{splice, rising, within}
 unfoldable pub use Rattle.lists.specs.Lists.{filter, elem}
-pub use Rattle.offsets.specs.Answers.{subset_of, Answered, intersect_refusal}
+pub use Rattle.offsets.specs.Answers.{Answered, intersect_refusal}
 unfoldable pub use Rattle.offsets.specs.Answers.{room_needed, intersect_reply}
 pub use Rattle.offsets.specs.Laws.Answers.{answered_refused, refusal_first, refusal_second, refusal_none, Allowed, allowed, refusal_room}
-pub use Rattle.offsets.specs.Laws.Subsets.{dense_is, sparse_is, range_writes_nothing, answered_list, formed_order, formed_rising, formed_short}
+pub use Rattle.offsets.specs.Laws.Subsets.{range_writes_nothing, answered_list, formed_order, formed_rising, formed_short}
 pub use Rattle.offsets.specs.declared.SubsetAnswer.TheVariants.{Refused, Range}
 pub use Rattle.offsets.specs.inner.Writing.{Wrote}
 pub use Rattle.offsets_intersect.specs.inner.Blocks.{Lacks, Apart, ApartAt, SkippedTo, MergedTo}

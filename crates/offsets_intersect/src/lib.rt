@@ -11,7 +11,7 @@ ghost use Rattle.offsets.specs.inner.Writing.{Wrote};
 ghost use Rattle.offsets_intersect.specs.inner.Common.{Fitting, Searchable, common, similar, MuchLonger};
 
 use offsets::search::{binary_search_by_id, binary_search_from, scan_for_offset};
-use offsets::{SubsetAnswer, SubsetHead, is_well_formed};
+use offsets::{Subset, SubsetAnswer};
 use refusals::{ACCEPTED, MALFORMED_SUBSET, TOO_SHORT};
 
 mod blocks; // blocks.rt: lists of similar length
@@ -128,70 +128,62 @@ fn intersect_lists(ids: &[u32], others: &[u32], output: &mut [u32]) -> SubsetAns
 }
 
 // The output length that an intersection needs.
-fn room_needed(
-    first: SubsetHead,
-    first_ids: &[u32],
-    second: SubsetHead,
-    second_ids: &[u32],
-) -> usize
-    ensures { result ≡ room_needed (subset_of first first_ids.now) (subset_of second second_ids.now) }
+fn room_needed(first: Subset, second: Subset) -> usize
+    ensures { result ≡ room_needed (subset_of first.entry) (subset_of second.entry) }
 {
-    if first.dense {
-        if second.dense {
-            return 0;
-        }
-        return second_ids.len();
+    match first {
+        Subset::Range(..) => match second {
+            Subset::Range(..) => 0,
+            Subset::List(ids) => ids.len(),
+        },
+        Subset::List(ids) => ids.len(),
     }
-    first_ids.len()
 }
 
 // The number with which an intersection is refused, or `ACCEPTED`.
-fn intersect_refusal(
-    first: SubsetHead,
-    first_ids: &[u32],
-    second: SubsetHead,
-    second_ids: &[u32],
-    output: usize,
-) -> u32
-    ensures { result ≡ intersect_refusal (subset_of first first_ids.now) (subset_of second second_ids.now) output }
+fn intersect_refusal(first: Subset, second: Subset, output: usize) -> u32
+    ensures { result ≡ intersect_refusal (subset_of first.entry) (subset_of second.entry) output }
 {
-    if !is_well_formed(first, first_ids) {
+    if !first.is_well_formed() {
         return MALFORMED_SUBSET;
     }
-    if !is_well_formed(second, second_ids) {
+    if !second.is_well_formed() {
         return MALFORMED_SUBSET;
     }
-    let room = room_needed(first, first_ids, second, second_ids);
+    let room = room_needed(first, second);
     if output < room {
         return TOO_SHORT;
     }
     ACCEPTED
 }
 
-// The ids that two subsets have in common, with the Rust's forms. Writes a list to the start of the output. Handles two ranges
-// first: they need no check of a list, which is too long to be inlined and passes its arguments in memory.
-pub fn intersect(
-    first: SubsetHead,
-    first_ids: &[u32],
-    second: SubsetHead,
-    second_ids: &[u32],
-    output: &mut [u32],
-) -> SubsetAnswer
-    ensures { Answered (intersect_reply (subset_of first first_ids.now) (subset_of second second_ids.now) (length output.old)) output.old result output.new }
+// The ids that two subsets have in common, with the Rust's forms. Writes a list to the start of the output. Two ranges need no check
+// of a list, which is too long to be inlined and passes its arguments in memory.
+pub fn intersect(first: Subset, second: Subset, output: &mut [u32]) -> SubsetAnswer
+    ensures { Answered (intersect_reply (subset_of first.entry) (subset_of second.entry) (length output.old)) output.old result output.new }
 {
-    let ranges = first.dense & second.dense;
-    if ranges {
-        return intersect_ranges(first.start, first.end, second.start, second.end);
+    match first {
+        Subset::Range(start, end) => match second {
+            Subset::Range(other_start, other_end) => {
+                intersect_ranges(start, end, other_start, other_end)
+            }
+            Subset::List(others) => {
+                let number = intersect_refusal(first, second, output.len());
+                if number != ACCEPTED {
+                    return SubsetAnswer::Refused(number);
+                }
+                intersect_range_list(start, end, others, output)
+            }
+        },
+        Subset::List(ids) => {
+            let number = intersect_refusal(first, second, output.len());
+            if number != ACCEPTED {
+                return SubsetAnswer::Refused(number);
+            }
+            match second {
+                Subset::Range(start, end) => intersect_list_range(ids, start, end, output),
+                Subset::List(others) => intersect_lists(ids, others, output),
+            }
+        }
     }
-    let number = intersect_refusal(first, first_ids, second, second_ids, output.len());
-    if number != ACCEPTED {
-        return SubsetAnswer::Refused(number);
-    }
-    if first.dense {
-        return intersect_range_list(first.start, first.end, second_ids, output);
-    }
-    if second.dense {
-        return intersect_list_range(first_ids, second.start, second.end, output);
-    }
-    intersect_lists(first_ids, second_ids, output)
 }

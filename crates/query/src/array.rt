@@ -6,21 +6,20 @@ ghost use Rattle.query_spec.specs.Queries.{RefinedList};
 use super::refine_ref;
 use constraints::Constraint;
 use constraints::decode::MOST_CONDITIONS;
-use offsets::{SubsetAnswer, SubsetHead};
+use offsets::{Subset, SubsetAnswer};
 use table::Header;
 
 // Refines by the first `count` conditions of an array.
 pub fn refine_first(
     h: Header,
     rows: &[u32],
-    head: SubsetHead,
-    ids: &[u32],
+    subset: Subset,
     conditions: [Constraint; MOST_CONDITIONS],
     count: usize,
     out: &mut [u32],
 ) -> SubsetAnswer
     requires { count ≤ 16 }
-    ensures { RefinedList h rows.now (subset_of head ids.now) (take count conditions) out.old result out.new }
+    ensures { RefinedList h rows.now (subset_of subset.entry) (take count conditions) out.old result out.new }
 {
-    refine_ref(h, rows, head, ids, &conditions[..count], out)
+    refine_ref(h, rows, subset, &conditions[..count], out)
 }

@@ -6,7 +6,7 @@ ghost use Rattle.query_spec.specs.Queries.{RefinedOne, RefinedList, Matched, Pag
 
 use constraints::Constraint;
 use loops::scan;
-use offsets::{SubsetAnswer, SubsetHead};
+use offsets::{Subset, SubsetAnswer};
 use query_scan::{QueryKind, close_match, close_page, close_refine, scan_one, write_found};
 use query_spec::{MatchAnswer, PageAnswer};
 use refusals::ACCEPTED;
@@ -20,51 +20,47 @@ pub mod loops; // loops.rt: the loops over rows and conditions
 pub fn refine_one(
     h: Header,
     rows: &[u32],
-    head: SubsetHead,
-    ids: &[u32],
+    subset: Subset,
     c: Constraint,
     out: &mut [u32],
 ) -> SubsetAnswer
-    ensures { RefinedOne h rows.now (subset_of head ids.now) c out.old result out.new }
+    ensures { RefinedOne h rows.now (subset_of subset.entry) c out.old result out.new }
 {
-    let done = scan_one(h, rows, head, ids, c, out);
+    let done = scan_one(h, rows, subset, c, out);
     if done.refused != ACCEPTED {
         return SubsetAnswer::Refused(done.refused);
     }
-    if head.dense {
-        return done.found.finish();
+    match subset {
+        Subset::Range(..) => done.found.finish(),
+        Subset::List(_) => SubsetAnswer::List(write_found(done.found, out)),
     }
-    let count = write_found(done.found, out);
-    SubsetAnswer::List(count)
 }
 
 // Returns the rows of a subset that are live and meet all conditions: the range if all of it is kept, else a list.
 pub fn refine_ref(
     h: Header,
     rows: &[u32],
-    head: SubsetHead,
-    ids: &[u32],
+    subset: Subset,
     conditions: &[Constraint],
     out: &mut [u32],
 ) -> SubsetAnswer
-    ensures { RefinedList h rows.now (subset_of head ids.now) conditions.now out.old result out.new }
+    ensures { RefinedList h rows.now (subset_of subset.entry) conditions.now out.old result out.new }
 {
-    let done = scan(QueryKind::Refine, h, rows, head, ids, conditions, out);
-    close_refine(head, done, out)
+    let done = scan(QueryKind::Refine, h, rows, subset, conditions, out);
+    close_refine(subset, done, out)
 }
 
 // Whether a row of a subset is live and meets all conditions.
 pub fn contains_match(
     h: Header,
     rows: &[u32],
-    head: SubsetHead,
-    ids: &[u32],
+    subset: Subset,
     conditions: &[Constraint],
 ) -> MatchAnswer
-    ensures { Matched h rows.now (subset_of head ids.now) conditions.now result }
+    ensures { Matched h rows.now (subset_of subset.entry) conditions.now result }
 {
     let mut none = [0u32; 0];
-    let done = scan(QueryKind::Match, h, rows, head, ids, conditions, &mut none);
+    let done = scan(QueryKind::Match, h, rows, subset, conditions, &mut none);
     close_match(done)
 }
 
@@ -72,23 +68,14 @@ pub fn contains_match(
 pub fn read_page(
     h: Header,
     rows: &[u32],
-    head: SubsetHead,
-    ids: &[u32],
+    subset: Subset,
     start: u32,
     n: usize,
     conditions: &[Constraint],
     out: &mut [u32],
 ) -> PageAnswer
-    ensures { PageRead h rows.now (subset_of head ids.now) start n conditions.now out.old result out.new }
+    ensures { PageRead h rows.now (subset_of subset.entry) start n conditions.now out.old result out.new }
 {
-    let done = scan(
-        QueryKind::Page(start, n),
-        h,
-        rows,
-        head,
-        ids,
-        conditions,
-        out,
-    );
-    close_page(head, ids, done, out)
+    let done = scan(QueryKind::Page(start, n), h, rows, subset, conditions, out);
+    close_page(subset, done, out)
 }

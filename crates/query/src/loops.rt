@@ -5,7 +5,7 @@ ghost use Rattle.offsets.specs.Answers.{subset_of};
 ghost use Rattle.query_scan.specs.inner.Scanning.{RowNeeded, all_pass, ScanAnswered};
 
 use constraints::Constraint;
-use offsets::SubsetHead;
+use offsets::Subset;
 use query_scan::{QueryKind, Scan, Test, begin, can_pass, passes_test, step};
 use table::Header;
 
@@ -28,18 +28,17 @@ pub fn scan(
     query: QueryKind,
     h: Header,
     rows: &[u32],
-    head: SubsetHead,
-    ids: &[u32],
+    subset: Subset,
     conditions: &[Constraint],
     out: &mut [u32],
 ) -> Scan
-    ensures { ScanAnswered query h rows.now (subset_of head ids.now) conditions.now out.old result out.new }
+    ensures { ScanAnswered query h rows.now (subset_of subset.entry) conditions.now out.old result out.new }
 {
     let known = all_pass(Test::Known, h, rows, conditions);
-    let mut at = begin(query, h, rows.len(), head, ids, known, out.len());
+    let mut at = begin(query, h, rows.len(), subset, known, out.len());
     while at.next < at.end {
         let hit = all_pass(Test::Row(at.id), h, rows, conditions);
-        at = step(h, rows, head, ids, at, hit, out);
+        at = step(h, rows, subset, at, hit, out);
     }
     at
 }

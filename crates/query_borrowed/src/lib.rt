@@ -1,89 +1,59 @@
-// Queries over a borrowed subset. Each takes the subset apart and calls the function with plain parameters.
+// Queries over a borrowed subset as C lends it: a flag, two ends and a list. Each makes it a `Subset` and calls the query.
 #![tactic(auto)]
 
-ghost use Rattle.offsets.specs.Answers.{subset_of};
+ghost use Rattle.offsets.specs.Answers.{lent_subset};
 ghost use Rattle.query_spec.specs.Queries.{RefinedOne, RefinedList, Matched, PageRead};
-ghost use Rattle.query_borrowed.specs.Borrowed.{head_of};
 
 use constraints::Constraint;
-use offsets::{SubsetAnswer, SubsetHead};
+use offsets::{Subset, SubsetAnswer, SubsetRef};
 use query_spec::{MatchAnswer, PageAnswer};
 use table::Header;
 
-// The kind of a subset, its two ends and the caller's list of ids. A dense subset ignores the list, a sparse one the ends.
-#[derive(Clone, Copy)]
-pub struct SubsetRef<'a> {
-    pub dense: bool,
-    pub start: u32,
-    pub end: u32,
-    pub ids: &'a [u32],
-}
-
-pub fn refine_one<'a>(
+pub fn refine_one(
     h: Header,
     rows: &[u32],
-    subset: SubsetRef<'a>,
+    lent: SubsetRef,
     c: Constraint,
     out: &mut [u32],
 ) -> SubsetAnswer
-    ensures { RefinedOne h rows.now (subset_of (head_of subset.entry) subset.entry.ids.now) c out.old result out.new }
+    ensures { RefinedOne h rows.now (lent_subset lent.entry) c out.old result out.new }
 {
-    let head = SubsetHead {
-        dense: subset.dense,
-        start: subset.start,
-        end: subset.end,
-    };
-    query::refine_one(h, rows, head, subset.ids, c, out)
+    query::refine_one(h, rows, Subset::from(lent), c, out)
 }
 
-pub fn refine_ref<'a>(
+pub fn refine_ref(
     h: Header,
     rows: &[u32],
-    subset: SubsetRef<'a>,
+    lent: SubsetRef,
     conditions: &[Constraint],
     out: &mut [u32],
 ) -> SubsetAnswer
-    ensures { RefinedList h rows.now (subset_of (head_of subset.entry) subset.entry.ids.now) conditions.now out.old result out.new }
+    ensures { RefinedList h rows.now (lent_subset lent.entry) conditions.now out.old result out.new }
 {
-    let head = SubsetHead {
-        dense: subset.dense,
-        start: subset.start,
-        end: subset.end,
-    };
-    query::refine_ref(h, rows, head, subset.ids, conditions, out)
+    query::refine_ref(h, rows, Subset::from(lent), conditions, out)
 }
 
-pub fn contains_match<'a>(
+pub fn contains_match(
     h: Header,
     rows: &[u32],
-    subset: SubsetRef<'a>,
+    lent: SubsetRef,
     conditions: &[Constraint],
 ) -> MatchAnswer
-    ensures { Matched h rows.now (subset_of (head_of subset.entry) subset.entry.ids.now) conditions.now result }
+    ensures { Matched h rows.now (lent_subset lent.entry) conditions.now result }
 {
-    let head = SubsetHead {
-        dense: subset.dense,
-        start: subset.start,
-        end: subset.end,
-    };
-    query::contains_match(h, rows, head, subset.ids, conditions)
+    query::contains_match(h, rows, Subset::from(lent), conditions)
 }
 
-pub fn read_page<'a>(
+pub fn read_page(
     h: Header,
     rows: &[u32],
-    subset: SubsetRef<'a>,
+    lent: SubsetRef,
     start: u32,
     n: usize,
     conditions: &[Constraint],
     out: &mut [u32],
 ) -> PageAnswer
-    ensures { PageRead h rows.now (subset_of (head_of subset.entry) subset.entry.ids.now) start n conditions.now out.old result out.new }
+    ensures { PageRead h rows.now (lent_subset lent.entry) start n conditions.now out.old result out.new }
 {
-    let head = SubsetHead {
-        dense: subset.dense,
-        start: subset.start,
-        end: subset.end,
-    };
-    query::read_page(h, rows, head, subset.ids, start, n, conditions, out)
+    query::read_page(h, rows, Subset::from(lent), start, n, conditions, out)
 }

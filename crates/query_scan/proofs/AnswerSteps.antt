@@ -1,11 +1,10 @@
 -- The answers of the queries: refused, or by the ids that a scan has kept. Assumes nothing.
-use Rattle.query_scan.proofs.Prelude.{ℕ, ◌+◌, ◌-◌, ◌≤◌, ◌<◌, min, ◌≡◌, refl, sym, ap, ◌∙◌, Bool, true, false, and-true, false≢true, List, [], ◌∷◌, inl, inr, ℕ_discrete, arith, eqb, length, get_or, eqb-true, eq-eqb, filter, all, split, and_left, and_right, filter_all, filter_length_all, length_filter, count_le, refused, accepted, reply, reply_refused, reply_accepted, Constraint, known, Header, matches, refine_refusal, visited, refine_one_reply, refine_list_reply, RefinedOne, RefinedList, Queryable, RefineRefused, MatchRefused, PageRefused, Scan, Refine, Match, Page, up_to, places, first_place, room_required, refusal_of, BeginsAt, Finished, ScanStarts, ScanAnswered, CanWrite, Writes, whole, CanClose, RefineClosed, ids_visited, QueryKind}
-use Rattle.offsets.specs.declared.SubsetHead.{SubsetHead}
+use Rattle.query_scan.proofs.Prelude.{ℕ, ◌+◌, ◌-◌, ◌≤◌, ◌<◌, min, ◌≡◌, refl, sym, ap, ◌∙◌, Bool, true, false, and-true, false≢true, List, [], ◌∷◌, inl, inr, ℕ_discrete, arith, eqb, length, get_or, eqb-true, eq-eqb, filter, all, split, and_left, and_right, filter_all, filter_length_all, length_filter, count_le, refused, accepted, reply, reply_refused, reply_accepted, Constraint, known, Header, matches, refine_refusal, visited, refine_one_reply, refine_list_reply, RefinedOne, RefinedList, Queryable, RefineRefused, MatchRefused, PageRefused, Scan, Refine, Match, Page, up_to, places, first_place, room_required, refusal_of, BeginsAt, Finished, ScanStarts, ScanAnswered, CanWrite, Writes, RefineClosed, ids_visited, QueryKind}
 use Rattle.offsets.specs.declared.retain.RetainBuilder.{RetainBuilder}
 use Rattle.offsets.specs.Subsets.{Subset, range, list, members, size, retain, narrowed}
-use Rattle.offsets.specs.Answers.{subset_of, Answered}
+use Rattle.offsets.specs.Answers.{Answered}
 use Rattle.offsets.specs.inner.RetainBuilder.{Builds, BuilderEnds}
-use Rattle.offsets.specs.Laws.Subsets.{dense_is, sparse_is, formed_order, length_members, range_writes_nothing, answered_list}
+use Rattle.offsets.specs.Laws.Subsets.{length_members, range_writes_nothing, answered_list}
 use Rattle.offsets.specs.Laws.Forms.{length_range, get_d_range, narrowed_all, narrowed_some, narrowed_list}
 use Rattle.offsets.specs.declared.SubsetAnswer.{SubsetAnswer}
 use Rattle.offsets.specs.declared.SubsetAnswer.TheVariants.{Refused, Range, List as Ids}
@@ -168,13 +167,13 @@ module _ (h : Header) (rows : List ℕ) (subset : Subset) (conditions : List Con
 
 -- ---- refine by one
 
-module _ (head : SubsetHead) (ids : List ℕ) (test : ℕ → Bool) (output output' : List ℕ) where
-  pub retained_range : (g : RetainBuilder) (answer : SubsetAnswer) → head.dense ≡ true → Builds output output' g (filter test (members (subset_of head ids))) → BuilderEnds g answer
-      → Answered (accepted (retain test (subset_of head ids))) output answer output'
-  retained_range g answer e grows ends = rw (dense_is head ids e) (grown_retains test head.start head.end (rw (dense_is head ids e) at grows) ends)
+module _ (test : ℕ → Bool) (output output' : List ℕ) where
+  pub retained_range : (a b : ℕ) (g : RetainBuilder) (answer : SubsetAnswer) → Builds output output' g (filter test (members (range a b))) → BuilderEnds g answer
+      → Answered (accepted (retain test (range a b))) output answer output'
+  retained_range a b g answer grows ends = grown_retains test a b grows ends
 
-  pub retained_list : (n : ℕ) → head.dense ≡ false → Wrote output (filter test (members (subset_of head ids))) n output' → Answered (accepted (retain test (subset_of head ids))) output (Ids n) output'
-  retained_list n e w = rw (sparse_is head ids e) (listed_retains test ids (rw (sparse_is head ids e) at w))
+  pub retained_list : (ids : List ℕ) (n : ℕ) → Wrote output (filter test (members (list ids))) n output' → Answered (accepted (retain test (list ids))) output (Ids n) output'
+  retained_list ids n w = listed_retains test ids w
 
 module _ (h : Header) (rows : List ℕ) (subset : Subset) (c : Constraint) (knows : Bool) (output : List ℕ) (s : Scan)
     (k : knows ≡ known h.columns c) (o : ScanStarts Refine h (length rows) subset knows (length output) s) where
@@ -203,26 +202,6 @@ module _ (h : Header) (rows : List ℕ) (subset : Subset) (c : Constraint) (outp
 
 -- ---- refine by a list
 
-module _ (head : SubsetHead) (g : RetainBuilder) where
-  pub whole_list : head.dense ≡ false → false ≡ whole head g
-  unfolding whole
-  whole_list e = rw e
-
-  pub whole_size : head.dense ≡ true → eqb g.count (head.end - head.start) ≡ whole head g
-  unfolding whole
-  whole_size e = rw e
-
-  whole_range : whole head g ≡ true → head.dense ≡ true
-  unfolding whole
-  whole_range e = and_left head.dense _ e
-
-  whole_count : whole head g ≡ true → g.count ≡ head.end - head.start
-  unfolding whole
-  whole_count e = eqb-true _ _ (and_right head.dense _ e)
-
-  not_whole : head.dense ≡ true → whole head g ≡ false → g.count ≡ head.end - head.start → ⊥
-  not_whole d e q = false≢true (sym e ∙ sym (whole_size d) ∙ eq-eqb _ _ q)
-
 module _ (test : ℕ → Bool) (a b : ℕ) where
   abbrev ids_of : List ℕ
   ids_of = members (range a b)
@@ -250,57 +229,44 @@ module _ (test : ℕ → Bool) (a b : ℕ) where
               omega (arith, e))
         ]
 
-module _ (head : SubsetHead) (s : Scan) (output : List ℕ) where
-  pub closed_refused : (s.refused ≡ 0 → ⊥) → RefineClosed head s output (Refused s.refused) output
-  closed_refused n = record { refuses = λ _. (refl, refl); narrows = λ z. absurd (n z) }
+module _ (s : Scan) (output : List ℕ) where
+  pub closed_refused : (subset : Subset) → (s.refused ≡ 0 → ⊥) → RefineClosed subset s output (Refused s.refused) output
+  closed_refused subset n = record { refuses = λ _. (refl, refl); narrows = λ z. absurd (n z) }
 
-  pub closed_whole : s.refused ≡ 0 → whole head s.found ≡ true → RefineClosed head s output (Range head.start head.end) output
-  closed_whole z e =
+  pub closed_whole : (a b : ℕ) → s.refused ≡ 0 → s.found.count ≡ b - a → RefineClosed (range a b) s output (Range a b) output
+  closed_whole a b z e =
       record {
         refuses = λ n. absurd (n z);
-        narrows = λ _ ids test output₀ _ grows.
-            let d = dense_is head ids (whole_range head s.found e) in
-            let k = rw d at grows in
-            let all_hold = all_kept test head.start head.end output₀ output s.found k (whole_count head s.found e) in
-            rw (d, narrowed_all test head.start head.end all_hold, all_unwritten test head.start head.end output₀ output s.found k all_hold) (range_writes_nothing head.start head.end output₀);
+        narrows = λ _ test output₀ _ grows.
+            let all_hold = all_kept test a b output₀ output s.found grows e in
+            rw (narrowed_all test a b all_hold, all_unwritten test a b output₀ output s.found grows all_hold) (range_writes_nothing a b output₀);
       }
 
-  pub closed_list : (n : ℕ) (output' : List ℕ) → s.refused ≡ 0 → whole head s.found ≡ false → Writes output s.found n output' → RefineClosed head s output (Ids n) output'
-  closed_list n output' z e w =
+  pub closed_part : (a b n : ℕ) (output' : List ℕ) → s.refused ≡ 0 → (s.found.count ≡ b - a → ⊥) → Writes output s.found n output' → RefineClosed (range a b) s output (Ids n) output'
+  closed_part a b n output' z e w =
       record {
         refuses = λ n. absurd (n z);
-        narrows = λ _ ids test output₀ _ grows.
-            elim (split head.dense) [
-              | inl f ↦
-                  let d = dense_is head ids f in
-                  let k = rw d at grows in
-                  rw (d, narrowed_some test head.start head.end (not_all test head.start head.end output₀ output s.found k (not_whole head s.found f e)))
-                  (answered_list _ output₀ n output' (w.writes output₀ _ k))
-              | inr f ↦ rw (sparse_is head ids f) (listed ids test output₀ (rw (sparse_is head ids f) at grows))
-            ];
+        narrows = λ _ test output₀ _ grows.
+            rw (narrowed_some test a b (not_all test a b output₀ output s.found grows e)) (answered_list _ output₀ n output' (w.writes output₀ _ grows));
       }
-    where
-      listed : (ids : List ℕ) (test : ℕ → Bool) (output₀ : List ℕ) → Builds output₀ output s.found (filter test (members (list ids))) → Answered (accepted (narrowed test (list ids))) output₀ (Ids n) output'
-      listed ids test output₀ grows = rw (narrowed_list test ids) (answered_list _ output₀ n output' (w.writes output₀ _ grows))
 
-module _ (h : Header) (rows : List ℕ) (head : SubsetHead) (ids : List ℕ) (conditions : List Constraint) (output : List ℕ) (s : Scan) (output' : List ℕ)
-    (a : ScanAnswered Refine h rows (subset_of head ids) conditions output s output') where
-  -- what the end of a refine by a list requires
-  pub can_close : s.refused ≡ 0 → CanClose head s output'
-  can_close z =
+  pub closed_list : (ids : List ℕ) (n : ℕ) (output' : List ℕ) → s.refused ≡ 0 → Writes output s.found n output' → RefineClosed (list ids) s output (Ids n) output'
+  closed_list ids n output' z w =
       record {
-        order = λ d. formed_order head.start head.end (rw (dense_is head ids d) at (a.queryable z).formed);
-        can_write = can_write h rows (subset_of head ids) conditions output s output' a z;
+        refuses = λ n. absurd (n z);
+        narrows = λ _ test output₀ _ grows. rw (narrowed_list test ids) (answered_list _ output₀ n output' (w.writes output₀ _ grows));
       }
 
-  -- and answers
-  pub list_answered : (answer : SubsetAnswer) (output'' : List ℕ) → RefineClosed head s output' answer output'' → RefinedList h rows (subset_of head ids) conditions output answer output''
+-- what a refine by a list answers
+module _ (h : Header) (rows : List ℕ) (subset : Subset) (conditions : List Constraint) (output : List ℕ) (s : Scan) (output' : List ℕ)
+    (a : ScanAnswered Refine h rows subset conditions output s output') where
+  pub list_answered : (answer : SubsetAnswer) (output'' : List ℕ) → RefineClosed subset s output' answer output'' → RefinedList h rows subset conditions output answer output''
   unfolding refine_list_reply refusal_of
   list_answered answer output'' c =
       record {
         answered =
             elim (ℕ_discrete s.refused 0) [
-              | yes z ↦ answered_accepted _ _ output answer output'' (sym a.number_is ∙ z) (c.narrows z ids (matches h rows conditions) output (a.queryable z).formed (kept_all h rows (subset_of head ids) conditions output s output' a z))
+              | yes z ↦ answered_accepted _ _ output answer output'' (sym a.number_is ∙ z) (c.narrows z (matches h rows conditions) output (a.queryable z).formed (kept_all h rows subset conditions output s output' a z))
               | no n ↦ let r = c.refuses n in rw (r.0, r.1, a.unwritten n) (answered_refused _ _ output s.refused a.number_is n)
             ];
       }

@@ -1,5 +1,5 @@
 -- A page: what its end requires, and its answer. Assumes nothing.
-use Rattle.query_scan.proofs.Prelude.{ℕ, ◌+◌, ◌-◌, ◌≤◌, ◌<◌, min, ◌≡◌, refl, sym, ap, ap₂, ◌∙◌, Bool, false, Option, List, dec_lt, ℕ_discrete, arith, ltb, length, lt-ltb, le-ltb, splice, filter, refused, accepted, reply_refused, reply_accepted, Constraint, Header, Scan, Page, matches, dead_among, page_refusal, visited, next_place, page_ids, PageResult, next_view, page_view, page_of, PageRead, first_place, room_required, refusal_of, ScanAnswered, CanWrite, Writes, next_at, PageClosed, ids_visited, NextPlace, None, At, PageAnswer}
+use Rattle.query_scan.proofs.Prelude.{ℕ, ◌+◌, ◌-◌, ◌≤◌, ◌<◌, min, ◌≡◌, refl, sym, ap, ap₂, ◌∙◌, Bool, false, Option, List, dec_lt, ℕ_discrete, arith, ltb, length, lt-ltb, le-ltb, splice, filter, refused, accepted, reply_refused, reply_accepted, Constraint, Header, Scan, Page, matches, dead_among, page_refusal, visited, next_place, page_ids, PageResult, next_view, page_view, page_of, PageRead, first_place, room_required, refusal_of, ScanAnswered, CanWrite, Writes, next_at, PageClosed, ids_visited, Maybe, None, Some, PageAnswer}
 use Rattle.offsets.specs.Subsets.{Subset, size}
 use Rattle.offsets.specs.inner.RetainBuilder.{Builds}
 use Rattle.query_spec.specs.declared.PageAnswer.TheVariants.{Refused as PageIsRefused, Page as Paged}
@@ -8,7 +8,7 @@ use Rattle.query_scan.proofs.Visits.{length_visited, visited_end, kept_few}
 -- ---- the end
 
 module _ (subset : Subset) (next : ℕ) where
-  pub next_some : next < size subset → At next ≡ next_at subset next
+  pub next_some : next < size subset → Some next ≡ next_at subset next
   unfolding next_at
   next_some l = rw (lt-ltb next (size subset) l)
 
@@ -20,13 +20,13 @@ module _ (subset : Subset) (s : Scan) (output : List ℕ) where
   pub page_refused : (s.refused ≡ 0 → ⊥) → PageClosed subset s output (PageIsRefused s.refused) output
   page_refused m = record { refuses = λ _. (refl, refl); pages = λ z. absurd (m z) }
 
-  pub page_written : (next : NextPlace) (count : ℕ) (output' : List ℕ) → s.refused ≡ 0 → next ≡ next_at subset s.next → Writes output s.found count output'
+  pub page_written : (next : Maybe ℕ) (count : ℕ) (output' : List ℕ) → s.refused ≡ 0 → next ≡ next_at subset s.next → Writes output s.found count output'
       → PageClosed subset s output (Paged (record { written = count; dead = s.dead; next = next })) output'
   page_written next count output' z e w =
       record {
         refuses = λ m. absurd (m z);
         pages = λ _ output₀ kept grows. let u = w.writes output₀ kept grows in
-            (ap₂ (λ (c : ℕ) (p : NextPlace). Paged (record { written = c; dead = s.dead; next = p })) u.number e, u.cells);
+            (ap₂ (λ (c : ℕ) (p : Maybe ℕ). Paged (record { written = c; dead = s.dead; next = p })) u.number e, u.cells);
       }
 
 -- ---- the answer

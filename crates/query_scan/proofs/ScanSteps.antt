@@ -1,41 +1,33 @@
--- A scan, place by place: ids and rows by the subset's kind, and what each step keeps. Assumes nothing.
+-- A scan, place by place: ids and rows, and what each step keeps. Assumes nothing.
 use Rattle.query_scan.proofs.Prelude.{ℕ, ◌+◌, ◌-◌, ◌*◌, ◌≤◌, ◌<◌, ◌≡◌, refl, sym, ap, ap₂, subst, ◌∙◌, inl, inr, Bool, true, false, and-true, and-false, false≢true, List, [], ◌∷◌, ◌++◌, append_assoc, append-nil, ℕ_discrete, arith, length, take, drop, get_or, ltb-false, splice, filter, count, all, iota, rising, row_at, split, filter_append, Constraint, is_live, met, meets, Header, Scan, matches, past_rows, dead_among, visited, RowInStore, up_to, places, scanned_ids, CanStart, ScanInvariant, Keeps, CanMove, Moves, CanStep, ScanSteps, Finished, CanWrite, Writes, Queryable, part_width, rising_filter, rising_take, rising_drop, row_in, rows_long_of, outside_inside}
-use Rattle.offsets.specs.declared.SubsetHead.{SubsetHead}
 use Rattle.offsets.specs.declared.retain.RetainBuilder.{RetainBuilder}
 use Rattle.offsets.specs.Subsets.{Subset, range, list, members, size, end_of}
-use Rattle.offsets.specs.Answers.{subset_of}
 use Rattle.offsets.specs.inner.RetainBuilder.{NextId}
-use Rattle.offsets.specs.Laws.Subsets.{dense_is, sparse_is, rising_members, members_below, formed_short}
+use Rattle.offsets.specs.Laws.Subsets.{rising_members, members_below, formed_short}
 use Rattle.offsets.specs.Laws.Forms.{size_range, end_range, get_d_range, size_list, members_list}
 use Rattle.query_scan.proofs.Visits.{up_to_nil, up_to_hit, up_to_miss, visited_none, length_visited, visited_more, visited_first, kept_few, dead_more, dead_few}
 
--- ---- a place's id, by the subset's kind
+-- ---- the id at the next place
 
-module _ (head : SubsetHead) (ids : List ℕ) where
-  pub size_dense : head.dense ≡ true → size (subset_of head ids) ≡ head.end - head.start
-  size_dense e = rw (dense_is head ids e) (size_range head.start head.end)
+-- in a range it is one more, and no more than its end
+module _ (start end : ℕ) (s : Scan) (m : CanMove (range start end) s) where
+  here : s.id ≡ start + s.next
+  here = m.id_is ∙ get_d_range start end s.next 0 (omega (arith, m.more, m.within, size_range start end))
 
-  pub size_sparse : head.dense ≡ false → size (subset_of head ids) ≡ length ids
-  size_sparse e = rw (sparse_is head ids e) (size_list ids)
+  pub next_below : s.id + 1 ≤ end
+  next_below = omega (arith, here, m.more, m.within, size_range start end)
 
-  pub id_dense : (place : ℕ) → head.dense ≡ true → place < size (subset_of head ids) → head.start + place ≡ get_or (members (subset_of head ids)) place 0
-  id_dense place e h = rw (dense_is head ids e) (sym (get_d_range head.start head.end place 0 (rw (size_dense e) at h)))
+  pub next_in_range : s.next + 1 < s.end → s.id + 1 ≡ get_or (members (range start end)) (s.next + 1) 0
+  next_in_range l =
+      let k : s.id + 1 ≡ start + (s.next + 1) = omega (arith, here) in
+      k ∙ sym (get_d_range start end (s.next + 1) 0 (omega (arith, l, m.within, size_range start end)))
 
-  pub id_sparse : (place : ℕ) → head.dense ≡ false → get_or ids place 0 ≡ get_or (members (subset_of head ids)) place 0
-  id_sparse place e = rw (sparse_is head ids e, members_list ids)
+module _ (ids : List ℕ) (s : Scan) (m : CanMove (list ids) s) where
+  pub place_in_list : s.next + 1 < s.end → s.next + 1 < length ids
+  place_in_list l = omega (arith, m.within, size_list ids)
 
-  -- in a range the id at the next place is one more, and no more than its end
-  module _ (s : Scan) (e : head.dense ≡ true) (m : CanMove (subset_of head ids) s) where
-    pub here_dense : s.id ≡ head.start + s.next
-    here_dense = m.id_is ∙ sym (id_dense s.next e (omega (arith, m.more, m.within)))
-
-    pub next_below : s.id + 1 ≤ head.end
-    next_below = omega (arith, here_dense, size_dense e, m.more, m.within)
-
-    pub next_dense : s.next + 1 < s.end → s.id + 1 ≡ get_or (members (subset_of head ids)) (s.next + 1) 0
-    next_dense l =
-        let k : s.id + 1 ≡ head.start + (s.next + 1) = omega (arith, here_dense) in
-        k ∙ id_dense (s.next + 1) e (omega (arith, l, m.within))
+  pub next_in_list : get_or ids (s.next + 1) 0 ≡ get_or (members (list ids)) (s.next + 1) 0
+  next_in_list = rw (members_list ids)
 
 -- ---- a row's cells
 

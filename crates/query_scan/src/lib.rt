@@ -11,13 +11,13 @@ ghost use Rattle.offsets.specs.Subsets as subsets;
 ghost use Rattle.offsets.specs.Subsets.{members};
 ghost use Rattle.offsets.specs.inner.RetainBuilder.{CanAdd};
 ghost use Rattle.query_spec.specs.Queries.{matches, dead_among};
-ghost use Rattle.query_scan.specs.inner.Scanning.{RowInStore, RowNeeded, starts, passes, BeginsAt, CanMove, Moves, Keeps, CanStep, ScanSteps, CanStart, Finished, ScanStarts, ScanAnswered, CanWrite, Writes, whole, CanClose, RefineClosed, next_at, PageClosed, MatchClosed};
+ghost use Rattle.query_scan.specs.inner.Scanning.{RowInStore, RowNeeded, starts, passes, BeginsAt, CanMove, Moves, Keeps, CanStep, ScanSteps, CanStart, Finished, ScanStarts, ScanAnswered, CanWrite, Writes, RefineClosed, next_at, PageClosed, MatchClosed};
 
 use constraints::Constraint;
 use offsets::retain::RetainBuilder;
-use offsets::{SubsetAnswer, SubsetHead};
-use query_spec::refusing::{match_refusal, page_refusal, refine_refusal, smaller};
-use query_spec::{MatchAnswer, NextPlace, Page, PageAnswer};
+use offsets::{Subset, SubsetAnswer};
+use query_spec::refusing::{match_refusal, page_refusal, refine_refusal};
+use query_spec::{MatchAnswer, Page, PageAnswer};
 use refusals::ACCEPTED;
 use row_buffer::row_start;
 use table::Header;
@@ -121,22 +121,10 @@ pub fn passes_test(test: Test, h: Header, rows: &[u32], c: Constraint) -> bool
 
 // ---- places
 
-// The id at a place.
-fn id_at(head: SubsetHead, ids: &[u32], place: u32) -> u32
-    requires { place < subsets.size (subset_of head ids.now) }
-    ensures { result ≡ get_or (members (subset_of head ids.now)) place 0 }
-{
-    if head.dense {
-        return head.start + place;
-    }
-    let at = place as usize;
-    ids[at]
-}
-
 // The state at the start of a scan. Without places it has no id.
-fn at_place(head: SubsetHead, ids: &[u32], refused: u32, next: u32, end: u32, most: u32) -> Scan
-    requires { end ≤ subsets.size (subset_of head ids.now) }
-    ensures { BeginsAt (subset_of head ids.now) refused next end most result }
+fn at_place(subset: Subset, refused: u32, next: u32, end: u32, most: u32) -> Scan
+    requires { end ≤ subsets.size (subset_of subset) }
+    ensures { BeginsAt (subset_of subset.entry) refused next end most result }
 {
     let mut s = Scan {
         refused: refused,
@@ -148,7 +136,7 @@ fn at_place(head: SubsetHead, ids: &[u32], refused: u32, next: u32, end: u32, mo
         found: RetainBuilder::new(),
     };
     if next < end {
-        s.id = id_at(head, ids, next);
+        s.id = subset.id_at(next);
     }
     s
 }
@@ -168,61 +156,53 @@ fn keep_id(s: Scan, out: &mut [u32]) -> Scan
 }
 
 // Moves to the next place. In a range the id increases by one, whether or not that place exists.
-fn move_on(head: SubsetHead, ids: &[u32], s: Scan) -> Scan
-    requires { CanMove (subset_of head ids.now) s }
-    ensures { Moves (subset_of head ids.now) s result }
+fn move_on(subset: Subset, s: Scan) -> Scan
+    requires { CanMove (subset_of subset) s }
+    ensures { Moves (subset_of subset.entry) s result }
 {
-    let mut n = s;
-    n.next = s.next + 1;
-    if head.dense {
-        n.id = s.id + 1;
-        return n;
+    let next = s.next + 1;
+    match subset {
+        Subset::Range(..) => Scan {
+            next,
+            id: s.id + 1,
+            ..s
+        },
+        Subset::List(ids) => {
+            if next < s.end {
+                return Scan {
+                    next,
+                    id: ids[next as usize],
+                    ..s
+                };
+            }
+            Scan { next, ..s }
+        }
     }
-    if n.next < n.end {
-        n.id = id_at(head, ids, n.next);
-    }
-    n
 }
 
 // Visits the row at the next place. `hit` is whether it matches.
-pub fn step(
-    h: Header,
-    rows: &[u32],
-    head: SubsetHead,
-    ids: &[u32],
-    s: Scan,
-    hit: bool,
-    out: &mut [u32],
-) -> Scan
-    requires { CanStep h (length rows.now) (subset_of head ids.now) s hit out.old }
-    ensures { ScanSteps h rows.now (subset_of head ids.now) s hit out.old result out.new }
+pub fn step(h: Header, rows: &[u32], subset: Subset, s: Scan, hit: bool, out: &mut [u32]) -> Scan
+    requires { CanStep h (length rows.now) (subset_of subset) s hit out.old }
+    ensures { ScanSteps h rows.now (subset_of subset.entry) s hit out.old result out.new }
 {
     let mut n = s;
     n.dead = s.dead + dead_at(h, rows, s.id);
     if !hit {
-        return move_on(head, ids, n);
+        return move_on(subset, n);
     }
     let kept = keep_id(n, out);
-    move_on(head, ids, kept)
+    move_on(subset, kept)
 }
 
 // Scans all places by one condition.
-fn retain(
-    h: Header,
-    rows: &[u32],
-    head: SubsetHead,
-    ids: &[u32],
-    c: Constraint,
-    s: Scan,
-    out: &mut [u32],
-) -> Scan
-    requires { CanStart h (length rows.now) (subset_of head ids.now) s out.old }
-    ensures { Finished h rows.now (subset_of head ids.now) (matches h rows.now (c ∷ [])) s out.old result out.new }
+fn retain(h: Header, rows: &[u32], subset: Subset, c: Constraint, s: Scan, out: &mut [u32]) -> Scan
+    requires { CanStart h (length rows.now) (subset_of subset) s out.old }
+    ensures { Finished h rows.now (subset_of subset.entry) (matches h rows.now (c ∷ [])) s out.old result out.new }
 {
     let mut at = s;
     while at.next < at.end {
         let hit = is_match(h, rows, at.id, c);
-        at = step(h, rows, head, ids, at, hit, out);
+        at = step(h, rows, subset, at, hit, out);
     }
     at
 }
@@ -230,56 +210,48 @@ fn retain(
 // ---- the start
 
 // Starts a refine: refused, or over all places.
-fn open_refine(
-    h: Header,
-    rows: usize,
-    head: SubsetHead,
-    ids: &[u32],
-    known: bool,
-    output: usize,
-) -> Scan
-    ensures { ScanStarts QueryKind.Refine h rows (subset_of head ids.now) known output result }
+fn open_refine(h: Header, rows: usize, subset: Subset, known: bool, output: usize) -> Scan
+    ensures { ScanStarts QueryKind.Refine h rows (subset_of subset.entry) known output result }
 {
-    let number = refine_refusal(h, rows, head, ids, known, output);
+    let number = refine_refusal(h, rows, subset, known, output);
     if number != ACCEPTED {
-        return at_place(head, ids, number, 0, 0, 0);
+        return at_place(subset, number, 0, 0, 0);
     }
-    let size = offsets::size(head, ids) as u32;
-    at_place(head, ids, ACCEPTED, 0, size, size)
+    let size = subset.size() as u32;
+    at_place(subset, ACCEPTED, 0, size, size)
 }
 
 // Starts a search for a match: refused, or over all places up to the first match.
-fn open_match(h: Header, rows: usize, head: SubsetHead, ids: &[u32], known: bool) -> Scan
-    ensures { (output : ℕ) → ScanStarts QueryKind.Match h rows (subset_of head ids.now) known output result }
+fn open_match(h: Header, rows: usize, subset: Subset, known: bool) -> Scan
+    ensures { (output : ℕ) → ScanStarts QueryKind.Match h rows (subset_of subset.entry) known output result }
 {
-    let number = match_refusal(h, rows, head, ids, known);
+    let number = match_refusal(h, rows, subset, known);
     if number != ACCEPTED {
-        return at_place(head, ids, number, 0, 0, 0);
+        return at_place(subset, number, 0, 0, 0);
     }
-    let size = offsets::size(head, ids) as u32;
-    at_place(head, ids, ACCEPTED, 0, size, 1)
+    let size = subset.size() as u32;
+    at_place(subset, ACCEPTED, 0, size, 1)
 }
 
 // Starts a page: refused, or over n places from the start place on, as far as they exist.
 fn open_page(
     h: Header,
     rows: usize,
-    head: SubsetHead,
-    ids: &[u32],
+    subset: Subset,
     start: u32,
     n: usize,
     known: bool,
     output: usize,
 ) -> Scan
-    ensures { ScanStarts (QueryKind.Page start n) h rows (subset_of head ids.now) known output result }
+    ensures { ScanStarts (QueryKind.Page start n) h rows (subset_of subset.entry) known output result }
 {
-    let number = page_refusal(h, rows, head, ids, start, n, known, output);
+    let number = page_refusal(h, rows, subset, start, n, known, output);
     if number != ACCEPTED {
-        return at_place(head, ids, number, 0, 0, 0);
+        return at_place(subset, number, 0, 0, 0);
     }
-    let left = offsets::size(head, ids) - start as usize;
-    let places = smaller(n, left) as u32;
-    at_place(head, ids, ACCEPTED, start, start + places, places)
+    let left = subset.size() - start as usize;
+    let places = n.min(left) as u32;
+    at_place(subset, ACCEPTED, start, start + places, places)
 }
 
 // Starts a query: refused, or over its places.
@@ -287,34 +259,26 @@ pub fn begin(
     query: QueryKind,
     h: Header,
     rows: usize,
-    head: SubsetHead,
-    ids: &[u32],
+    subset: Subset,
     known: bool,
     output: usize,
 ) -> Scan
-    ensures { ScanStarts query h rows (subset_of head ids.now) known output result }
+    ensures { ScanStarts query h rows (subset_of subset.entry) known output result }
 {
     match query {
-        QueryKind::Refine => open_refine(h, rows, head, ids, known, output),
-        QueryKind::Match => open_match(h, rows, head, ids, known),
-        QueryKind::Page(start, n) => open_page(h, rows, head, ids, start, n, known, output),
+        QueryKind::Refine => open_refine(h, rows, subset, known, output),
+        QueryKind::Match => open_match(h, rows, subset, known),
+        QueryKind::Page(start, n) => open_page(h, rows, subset, start, n, known, output),
     }
 }
 
 // Refine by one: refused, or all places scanned by the condition.
-pub fn scan_one(
-    h: Header,
-    rows: &[u32],
-    head: SubsetHead,
-    ids: &[u32],
-    c: Constraint,
-    out: &mut [u32],
-) -> Scan
-    ensures { ScanAnswered QueryKind.Refine h rows.now (subset_of head ids.now) (c ∷ []) out.old result out.new }
+pub fn scan_one(h: Header, rows: &[u32], subset: Subset, c: Constraint, out: &mut [u32]) -> Scan
+    ensures { ScanAnswered QueryKind.Refine h rows.now (subset_of subset.entry) (c ∷ []) out.old result out.new }
 {
     let known = constraints::known(c, h.columns);
-    let begun = open_refine(h, rows.len(), head, ids, known, out.len());
-    retain(h, rows, head, ids, c, begun, out)
+    let begun = open_refine(h, rows.len(), subset, known, out.len());
+    retain(h, rows, subset, c, begun, out)
 }
 
 // ---- the end
@@ -330,50 +294,44 @@ pub fn write_found(g: RetainBuilder, out: &mut [u32]) -> u32
     g.count
 }
 
-// Whether the ids kept are all ids of a range.
-fn is_whole(head: SubsetHead, g: RetainBuilder) -> bool
-    requires { head.dense ≡ true → head.start ≤ head.end }
-    ensures { result ≡ whole head g }
-{
-    if !head.dense {
-        return false;
-    }
-    g.count == head.end - head.start
-}
-
 // Ends a refine by a list: refused, the unchanged range, or a list.
-pub fn close_refine(head: SubsetHead, s: Scan, out: &mut [u32]) -> SubsetAnswer
-    requires { s.refused ≡ 0 → CanClose head s out.old }
-    ensures { RefineClosed head s out.old result out.new }
+pub fn close_refine(subset: Subset, s: Scan, out: &mut [u32]) -> SubsetAnswer
+    requires { s.refused ≡ 0 → CanWrite out.old s.found }
+    ensures { RefineClosed (subset_of subset.entry) s out.old result out.new }
 {
     if s.refused != ACCEPTED {
         return SubsetAnswer::Refused(s.refused);
     }
-    if is_whole(head, s.found) {
-        return SubsetAnswer::Range(head.start, head.end);
+    match subset {
+        Subset::Range(start, end) => {
+            if s.found.count == end.saturating_sub(start) {
+                return SubsetAnswer::Range(start, end);
+            }
+            SubsetAnswer::List(write_found(s.found, out))
+        }
+        Subset::List(_) => SubsetAnswer::List(write_found(s.found, out)),
     }
-    SubsetAnswer::List(write_found(s.found, out))
 }
 
 // The place to continue from.
-fn next_place(head: SubsetHead, ids: &[u32], next: u32) -> NextPlace
-    ensures { result ≡ next_at (subset_of head ids.now) next }
+fn next_place(subset: Subset, next: u32) -> Option<u32>
+    ensures { result ≡ next_at (subset_of subset.entry) next }
 {
-    if (next as usize) < offsets::size(head, ids) {
-        return NextPlace::At(next);
+    if (next as usize) < subset.size() {
+        return Some(next);
     }
-    NextPlace::None
+    None
 }
 
 // Ends a page: writes its ids.
-pub fn close_page(head: SubsetHead, ids: &[u32], s: Scan, out: &mut [u32]) -> PageAnswer
+pub fn close_page(subset: Subset, s: Scan, out: &mut [u32]) -> PageAnswer
     requires { s.refused ≡ 0 → CanWrite out.old s.found }
-    ensures { PageClosed (subset_of head ids.now) s out.old result out.new }
+    ensures { PageClosed (subset_of subset.entry) s out.old result out.new }
 {
     if s.refused != ACCEPTED {
         return PageAnswer::Refused(s.refused);
     }
-    let next = next_place(head, ids, s.next);
+    let next = next_place(subset, s.next);
     let written = write_found(s.found, out);
     PageAnswer::Page(Page {
         written: written,

@@ -1,24 +1,24 @@
 -- The tests of the queries one by one: what each exit of a function proves of its refusal. Assumes nothing.
 use Rattle.query_spec.proofs.Prelude.{ℕ, ◌-◌, ◌≤◌, ◌<◌, min, ◌≡◌, sym, ap, ◌∙◌, inl, inr, Bool, true, false, not, ◌||◌, List, [], ◌∷◌, arith, ltb, lt-ltb, le-ltb, all, split, Constraint, known, Header, outside, rows_short}
 use Rattle.refusals.specs.Refusals.{Check, check, first_refusal}
-use Rattle.offsets.specs.declared.BoundsAnswer.{BoundsAnswer}
-use Rattle.offsets.specs.declared.BoundsAnswer.TheVariants.{None, Ends}
+use Rattle.std.specs.Prelude.{Some, None}
+use Rattle.offsets.specs.declared.Ends.{Ends}
 use Rattle.offsets.specs.Subsets.{Subset, well_formed, size}
 use Rattle.offsets.specs.Laws.Forms.{end_none, end_some}
-use Rattle.offsets.specs.inner.Writing.{bounds, bounds_view}
+use Rattle.offsets.specs.inner.Writing.{bounds}
 use Rattle.query_spec.specs.Queries.{past_rows, query_checks, refine_refusal, match_refusal, page_refusal}
 use Rattle.query_spec.specs.inner.Tests.{Queryable, subset_refusal, RefineRefused, MatchRefused, PageRefused}
 
 -- ---- test 5
 
-module _ (h : Header) (subset : Subset) (r : BoundsAnswer) (e : bounds_view r ≡ bounds subset) where
-  pub past_none : r ≡ None → false ≡ past_rows h subset
+module _ (h : Header) (subset : Subset) where
+  pub past_none : None ≡ bounds subset → false ≡ past_rows h subset
   unfolding past_rows
-  past_none q = sym (le-ltb h.rows 0 (omega arith)) ∙ ap (ltb h.rows) (sym (end_none subset r e q))
+  past_none e = sym (le-ltb h.rows 0 (omega arith)) ∙ ap (ltb h.rows) (sym (end_none subset e))
 
-  pub past_ends : (start end : ℕ) → r ≡ Ends start end → ltb h.rows end ≡ past_rows h subset
+  pub past_some : (ends : Ends) → Some ends ≡ bounds subset → ltb h.rows ends.end ≡ past_rows h subset
   unfolding past_rows
-  past_ends start end q = ap (ltb h.rows) (sym (end_some subset r e start end q))
+  past_some ends e = ap (ltb h.rows) (sym (end_some subset ends e))
 
 -- ---- the tests that all queries share
 

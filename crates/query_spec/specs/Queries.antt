@@ -1,6 +1,6 @@
 -- Queries on rows (document 01, "Operations": refine by one and by a list, any match, page). They use only the header and the row
 -- store, so their contracts hold for any table. A store without a primed name is lent shared and does not change. Assumes nothing.
-use Rattle.std.specs.Prelude.{ℕ, ◌+◌, ◌-◌, min, ◌≡◌, Bool, cond, not, ◌||◌, List, [], ◌∷◌, ◌++◌, length, take, drop, ltb}
+use Rattle.std.specs.Prelude.{ℕ, ◌+◌, ◌-◌, min, ◌≡◌, Bool, cond, not, ◌||◌, List, [], ◌∷◌, ◌++◌, length, take, drop, ltb, Option as Maybe, Some, None}
 use Rattle.std.proofs.Math.Option.{Option, none, some}
 use Rattle.lists.specs.Lists.{splice, filter, count, all, any, row_at}
 use Rattle.refusals.specs.Refusals.{Check, check, first_refusal, Reply, refused, accepted, reply, Effect}
@@ -13,8 +13,6 @@ use Rattle.table.specs.declared.Header.{Header}
 use Rattle.table.specs.Refusing.{outside, rows_short}
 use Rattle.query_spec.specs.declared.MatchAnswer.{MatchAnswer}
 use Rattle.query_spec.specs.declared.MatchAnswer.TheVariants.{Refused as MatchRefused, Match}
-use Rattle.query_spec.specs.declared.NextPlace.{NextPlace}
-use Rattle.query_spec.specs.declared.NextPlace.TheVariants.{None, At}
 use Rattle.query_spec.specs.declared.PageAnswer.{PageAnswer}
 use Rattle.query_spec.specs.declared.PageAnswer.TheVariants.{Refused as PageRefused, Page as Paged}
 
@@ -92,9 +90,9 @@ unfoldable pub match_view : MatchAnswer → Reply Bool
 match_view (MatchRefused n) = refused n
 match_view (Match answer) = accepted answer
 
-unfoldable pub next_view : NextPlace → Option ℕ
+unfoldable pub next_view : Maybe ℕ → Option ℕ
 next_view None = none
-next_view (At place) = some place
+next_view (Some place) = some place
 
 unfoldable pub page_view : PageAnswer → Reply PageResult
 page_view (PageRefused n) = refused n

@@ -11,19 +11,12 @@ pub enum MatchAnswer {
     Match(bool),
 }
 
-// The next place of a page, if any.
-#[derive(Clone, Copy)]
-pub enum NextPlace {
-    None,
-    At(u32),
-}
-
-// A page: how many ids were written, how many of those visited have a dead row, and the next place.
+// A page: how many ids were written, how many of those visited have a dead row, and the next place, if any.
 #[derive(Clone, Copy)]
 pub struct Page {
     pub written: u32,
     pub dead: u32,
-    pub next: NextPlace,
+    pub next: Option<u32>,
 }
 
 #[derive(Clone, Copy)]

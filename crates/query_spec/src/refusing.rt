@@ -1,29 +1,29 @@
 // The refusals of the queries: the checks of specs/Queries.antt, over the header, lengths, the subset and whether the conditions
 // are known. Each function returns `ACCEPTED` if nothing is refused.
-ghost use Rattle.std.specs.Prelude.{◌≡◌, min};
+ghost use Rattle.std.specs.Prelude.{◌≡◌};
 ghost use Rattle.offsets.specs.Answers.{subset_of};
 ghost use Rattle.query_spec.specs.Queries.{past_rows};
 ghost use Rattle.query_spec.specs.inner.Tests.{subset_refusal, RefineRefused, MatchRefused, PageRefused};
 
-use offsets::{BoundsAnswer, SubsetHead};
+use offsets::Subset;
 use refusals::{
     ACCEPTED, MALFORMED_SUBSET, NO_SUCH_COLUMN, OUT_OF_BOUNDS, PAST_THE_ROWS, TOO_SHORT,
 };
 use table::Header;
 
 // Test 5: the range's end or the last id plus one is above the row count.
-fn is_past_rows(h: Header, head: SubsetHead, ids: &[u32]) -> bool
-    ensures { result ≡ past_rows h (subset_of head ids.now) }
+fn is_past_rows(h: Header, subset: Subset) -> bool
+    ensures { result ≡ past_rows h (subset_of subset.entry) }
 {
-    match offsets::bounds(head, ids) {
-        BoundsAnswer::None => false,
-        BoundsAnswer::Ends(_, end) => (h.rows as u64) < end,
+    match subset.bounds() {
+        None => false,
+        Some(ends) => u64::from(h.rows) < ends.end,
     }
 }
 
 // The tests that all queries share.
-fn subset_refusal(h: Header, rows: usize, head: SubsetHead, ids: &[u32]) -> u32
-    ensures { result ≡ subset_refusal h rows (subset_of head ids.now) }
+fn subset_refusal(h: Header, rows: usize, subset: Subset) -> u32
+    ensures { result ≡ subset_refusal h rows (subset_of subset.entry) }
 {
     if table::refusing::is_outside(h) {
         return OUT_OF_BOUNDS;
@@ -31,44 +31,37 @@ fn subset_refusal(h: Header, rows: usize, head: SubsetHead, ids: &[u32]) -> u32
     if table::refusing::is_rows_short(h, rows) {
         return TOO_SHORT;
     }
-    if !offsets::is_well_formed(head, ids) {
+    if !subset.is_well_formed() {
         return MALFORMED_SUBSET;
     }
-    if is_past_rows(h, head, ids) {
+    if is_past_rows(h, subset) {
         return PAST_THE_ROWS;
     }
     ACCEPTED
 }
 
 // *Refine by one, by a list*
-pub fn refine_refusal(
-    h: Header,
-    rows: usize,
-    head: SubsetHead,
-    ids: &[u32],
-    known: bool,
-    output: usize,
-) -> u32
-    ensures { RefineRefused h rows (subset_of head ids.now) known output result }
+pub fn refine_refusal(h: Header, rows: usize, subset: Subset, known: bool, output: usize) -> u32
+    ensures { RefineRefused h rows (subset_of subset.entry) known output result }
 {
-    let number = subset_refusal(h, rows, head, ids);
+    let number = subset_refusal(h, rows, subset);
     if number != ACCEPTED {
         return number;
     }
     if !known {
         return NO_SUCH_COLUMN;
     }
-    if output < offsets::size(head, ids) {
+    if output < subset.size() {
         return TOO_SHORT;
     }
     ACCEPTED
 }
 
 // *Any match*
-pub fn match_refusal(h: Header, rows: usize, head: SubsetHead, ids: &[u32], known: bool) -> u32
-    ensures { MatchRefused h rows (subset_of head ids.now) known result }
+pub fn match_refusal(h: Header, rows: usize, subset: Subset, known: bool) -> u32
+    ensures { MatchRefused h rows (subset_of subset.entry) known result }
 {
-    let number = subset_refusal(h, rows, head, ids);
+    let number = subset_refusal(h, rows, subset);
     if number != ACCEPTED {
         return number;
     }
@@ -78,38 +71,31 @@ pub fn match_refusal(h: Header, rows: usize, head: SubsetHead, ids: &[u32], know
     ACCEPTED
 }
 
-pub fn smaller(a: usize, b: usize) -> usize
-    ensures { result ≡ min a b }
-{
-    if a < b { a } else { b }
-}
-
 // *Page*
 pub fn page_refusal(
     h: Header,
     rows: usize,
-    head: SubsetHead,
-    ids: &[u32],
+    subset: Subset,
     start: u32,
     n: usize,
     known: bool,
     output: usize,
 ) -> u32
-    ensures { PageRefused h rows (subset_of head ids.now) start n known output result }
+    ensures { PageRefused h rows (subset_of subset.entry) start n known output result }
 {
-    let number = subset_refusal(h, rows, head, ids);
+    let number = subset_refusal(h, rows, subset);
     if number != ACCEPTED {
         return number;
     }
     let first = start as usize;
-    let size = offsets::size(head, ids);
+    let size = subset.size();
     if size < first {
         return PAST_THE_ROWS;
     }
     if !known {
         return NO_SUCH_COLUMN;
     }
-    if output < smaller(n, size - first) {
+    if output < n.min(size - first) {
         return TOO_SHORT;
     }
     ACCEPTED

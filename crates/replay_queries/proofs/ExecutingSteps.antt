@@ -9,8 +9,7 @@ use Rattle.refusals.specs.Refusals.{if_accepted}
 use Rattle.offsets.specs.declared.SubsetAnswer.{SubsetAnswer}
 use Rattle.offsets.specs.declared.SubsetAnswer.TheVariants.{Refused, Range, List as Ids}
 use Rattle.offsets.specs.Subsets.{Subset, range, list}
-use Rattle.offsets.specs.Answers.{subset_of, Answered, intersect_reply}
-use Rattle.offsets.specs.Laws.Subsets.{dense_is, sparse_is}
+use Rattle.offsets.specs.Answers.{Answered, intersect_reply}
 use Rattle.constraints.specs.declared.Constraint.{Constraint}
 use Rattle.constraints.specs.Encoding.{condition_in, conditions_in}
 use Rattle.table.specs.declared.Header.{Header}
@@ -54,13 +53,11 @@ module _ {h : Header} {sorts : List ℕ} {c : Constraint} {found : RangeAnswer} 
   unfolding range_view queried Option-elim if_accepted
   range_none e same = record { execute = λ rows. execute_no_range refl read (rw e) same }
 
-  pub range_found : (start end : ℕ) (ids : List ℕ) {answer : SubsetAnswer} {output' : List ℕ} → found ≡ Found start end
-      → Answered (intersect_reply a (subset_of (record { dense = true; start = start; end = end }) ids) (length output)) output answer output'
+  pub range_found : (start end : ℕ) {answer : SubsetAnswer} {output' : List ℕ} → found ≡ Found start end
+      → Answered (intersect_reply a (range start end) (length output)) output answer output'
       → l' ≡ apply_answer l place false answer → RangeExecuted h sorts a c l place output l' output'
   unfolding range_view
-  range_found from to ids e m same =
-      let is = dense_is (record { dense = true; start = from; end = to }) ids refl in
-      record { execute = λ rows. put_ranged (range from to) refl read (rw e) (rw is at m) same }
+  range_found from to e m same = record { execute = λ rows. put_ranged (range from to) refl read (rw e) m same }
 
 -- ---- `execute_list`
 
@@ -99,16 +96,13 @@ module _ {h : Header} {rows sorts : List ℕ} {a : Subset} (kind : ℕ) (cells :
   execute_fast e n same m = rw (query_range kind cells e n, ← same) (m.execute rows)
 
   module _ {l' : RunAnswer} {answer : SubsetAnswer} {output' : List ℕ} where
-    pub put_ids : (start end : ℕ) → kind ≡ 2 → Answered (intersect_reply a (subset_of (record { dense = false; start = start; end = end }) cells) (length output)) output answer output'
+    pub put_ids : kind ≡ 2 → Answered (intersect_reply a (list cells) (length output)) output answer output'
         → l' ≡ apply_answer l place false answer → Executed h rows sorts a (query_of kind cells) l place output l' output'
-    put_ids from to e m =
-        put_intersected (list cells) (query_ids kind cells e) (rw (sparse_is (record { dense = false; start = from; end = to }) cells refl) at m)
+    put_ids e m = put_intersected (list cells) (query_ids kind cells e) m
 
-    pub put_ends : (ids : List ℕ) → kind ≡ 3 → length cells ≡ 2
-        → Answered (intersect_reply a (subset_of (record { dense = true; start = get_or cells 0 0; end = get_or cells 1 0 }) ids) (length output)) output answer output'
+    pub put_ends : kind ≡ 3 → length cells ≡ 2 → Answered (intersect_reply a (range (get_or cells 0 0) (get_or cells 1 0)) (length output)) output answer output'
         → l' ≡ apply_answer l place false answer → Executed h rows sorts a (query_of kind cells) l place output l' output'
-    put_ends ids e n m =
-        put_intersected (range (get_or cells 0 0) (get_or cells 1 0)) (query_ends kind cells e n) (rw (dense_is (record { dense = true; start = get_or cells 0 0; end = get_or cells 1 0 }) ids refl) at m)
+    put_ends e n m = put_intersected (range (get_or cells 0 0) (get_or cells 1 0)) (query_ends kind cells e n) m
 
     pub put_one : kind ≡ 0 → length cells ≡ 3 → {c : Constraint} → c ≡ condition_in cells 0 → RefinedOne h rows a c output answer output'
         → l' ≡ apply_answer l place true answer → Executed h rows sorts a (query_of kind cells) l place output l' output'

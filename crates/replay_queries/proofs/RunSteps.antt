@@ -4,8 +4,8 @@ use mathlib.Core.Bool.{cond}
 use lib.Dec.{eqb}
 use borrow.Author.Tests.{ne_eqb}
 use Rattle.lists.specs.Lists.{any}
-use Rattle.offsets.specs.declared.SubsetHead.{SubsetHead}
-use Rattle.offsets.specs.Answers.{subset_of}
+use Rattle.offsets.specs.declared.SubsetRef.{SubsetRef}
+use Rattle.offsets.specs.Answers.{lent_subset}
 use Rattle.replay_queries.specs.Outcomes.{ids_at, subset_left, QueriedAll, end}
 use Rattle.replay_queries.specs.inner.Executing.{Inside}
 use Rattle.replay_queries.specs.Laws.Executing.{behind}
@@ -126,23 +126,23 @@ part_left : (l : RunAnswer) (ids first second more more' : List ℕ) → l.count
 unfolding subset_left
 part_left l ids first second more more' a b = rw (ids_at_part l.place l.count ids first second more more' a b)
 
-abbrev before : SubsetHead → RunAnswer
-before head = record { dense = head.dense; start = head.start; end = head.end; count = 0; place = 0; refined = false; taken = 0 }
+abbrev before : SubsetRef → RunAnswer
+before lent = record { dense = lent.dense; start = lent.start; end = lent.end; count = 0; place = 0; refined = false; taken = 0 }
 
-starting : (head : SubsetHead) (ids first second : List ℕ) → subset_left (before head) ids first second ≡ subset_of head ids
+starting : (lent : SubsetRef) (first second : List ℕ) → subset_left (before lent) lent.ids.now first second ≡ lent_subset lent
 unfolding subset_left ids_at
-starting head ids first second = refl
+starting lent first second = refl
 
-module _ {h : Header} {rows sorts ids : List ℕ} {queries : List Query} (head : SubsetHead) (n : ℕ) (first second : List ℕ) {r : RunAnswer} {part part' : List ℕ} where
-  pub made_within : n ≡ min (length first) (length second) → QueriesExecuted h rows sorts ids queries (before head) (take n first) (take n second) r part part'
+module _ {h : Header} {rows sorts : List ℕ} {queries : List Query} (lent : SubsetRef) (n : ℕ) (first second : List ℕ) {r : RunAnswer} {part part' : List ℕ} where
+  pub made_within : n ≡ min (length first) (length second) → QueriesExecuted h rows sorts lent.ids.now queries (before lent) (take n first) (take n second) r part part'
       → length part ≡ length (take n first) → length part' ≡ length (take n second)
-      → RunMade h rows sorts (subset_of head ids) ids queries first second r (part ++ drop n first) (part' ++ drop n second)
+      → RunMade h rows sorts (lent_subset lent) lent.ids.now queries first second r (part ++ drop n first) (part' ++ drop n second)
   made_within e t a b =
       let room : length (take n first) ≡ shorter first second = sym (room_first n first second e) ∙ e in
       let held : r.count ≤ length (take n first) = inside_count r.place t.fits.1 in
-      let left : subset_left r ids (part ++ drop n first) (part' ++ drop n second) ≡ subset_left r ids part part' =
-      part_left r ids part part' (drop n first) (drop n second) (omega arith) (omega (arith, room_alike n first second e)) in
-      let start = starting head ids (take n first) (take n second) in
+      let left : subset_left r lent.ids.now (part ++ drop n first) (part' ++ drop n second) ≡ subset_left r lent.ids.now part part' =
+      part_left r lent.ids.now part part' (drop n first) (drop n second) (omega arith) (omega (arith, room_alike n first second e)) in
+      let start = starting lent (take n first) (take n second) in
       record {
         taken = t.taken ∙ (let z : 0 + length queries ≡ length queries = omega arith in z);
         accepted = t.accepted;

@@ -3,8 +3,8 @@
 use Rattle.std.specs.Prelude.{ℕ, ◌≡◌, cond, List, [], ◌∷◌, ◌++◌, take, eqb}
 use Rattle.std.proofs.Math.Option.{Option, none, Option-elim}
 use Rattle.refusals.specs.Refusals.{Reply, if_accepted}
-use Rattle.offsets.specs.Subsets.{Subset}
-use Rattle.offsets.specs.Answers.{subset_of, intersect_reply}
+use Rattle.offsets.specs.Subsets.{Subset, range, list}
+use Rattle.offsets.specs.Answers.{intersect_reply}
 use Rattle.constraints.specs.declared.Constraint.{Constraint}
 use Rattle.table.specs.declared.Header.{Header}
 use Rattle.table.specs.declared.RangeAnswer.{RangeAnswer}
@@ -19,10 +19,12 @@ use Rattle.replay_queries.specs.declared.RunAnswer.{RunAnswer}
 unfoldable pub ids_at : ℕ → ℕ → List ℕ → List ℕ → List ℕ → List ℕ
 ids_at place count ids first second = cond (eqb place 1) (take count first) (cond (eqb place 2) (take count second) ids)
 
--- the ids left: a range, or a list
+-- the ids left: a range, or else these
+abbrev pub left_in : RunAnswer → List ℕ → Subset
+left_in l ids = cond l.dense (range l.start l.end) (list ids)
+
 unfoldable pub subset_left : RunAnswer → List ℕ → List ℕ → List ℕ → Subset
-subset_left l ids first second =
-    subset_of (record { dense = l.dense; start = l.start; end = l.end }) (ids_at l.place l.count ids first second)
+subset_left l ids first second = left_in l (ids_at l.place l.count ids first second)
 
 -- One query, with a fast range that only a range step uses: without one, the step has no effect. The ids left are the first argument
 -- of `intersect`.

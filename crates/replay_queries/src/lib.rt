@@ -8,7 +8,7 @@ ghost use Rattle.replay_queries.specs.inner.Executing.{counted, apply_answer, Ex
 
 use constraints::Constraint;
 use constraints::decode::{CONDITION_WORDS, MOST_CONDITIONS, read_condition, read_conditions};
-use offsets::{SubsetAnswer, SubsetHead};
+use offsets::{Subset, SubsetAnswer};
 use offsets_intersect::intersect;
 use query::array::refine_first;
 use query::refine_one;
@@ -98,25 +98,20 @@ fn execute_range(
     sorts: &[u32],
     c: Constraint,
     l: RunAnswer,
-    head: SubsetHead,
-    ids: &[u32],
+    subset: Subset,
     place: u32,
     out: &mut [u32],
 ) -> RunAnswer
     requires { l.taken < 18446744073709551615 }
-    ensures { RangeExecuted h sorts.now (subset_of head ids.now) c l place out.old result out.new }
+    ensures { RangeExecuted h sorts.now (subset_of subset.entry) c l place out.old result out.new }
 {
     let found = fast_subset(h, sorts, c);
     match found {
         RangeAnswer::Refused(_) => count_one(l),
         RangeAnswer::None => count_one(l),
         RangeAnswer::Range(start, end) => {
-            let range = SubsetHead {
-                dense: true,
-                start: start,
-                end: end,
-            };
-            apply_answer(l, place, false, intersect(head, ids, range, ids, out))
+            let range = Subset::Range(start, end);
+            apply_answer(l, place, false, intersect(subset, range, out))
         }
     }
 }
@@ -127,13 +122,12 @@ fn execute_list(
     rows: &[u32],
     cells: &[u32],
     l: RunAnswer,
-    head: SubsetHead,
-    ids: &[u32],
+    subset: Subset,
     place: u32,
     out: &mut [u32],
 ) -> RunAnswer
     requires { l.taken < 18446744073709551615 }
-    ensures { ListExecuted h rows.now (subset_of head ids.now) cells.now l place out.old result out.new }
+    ensures { ListExecuted h rows.now (subset_of subset.entry) cells.now l place out.old result out.new }
 {
     let count = cells.len() / CONDITION_WORDS;
     if count * CONDITION_WORDS != cells.len() {
@@ -147,7 +141,7 @@ fn execute_list(
         l,
         place,
         true,
-        refine_first(h, rows, head, ids, conditions, count, out),
+        refine_first(h, rows, subset, conditions, count, out),
     )
 }
 
@@ -158,40 +152,31 @@ pub fn execute(
     sorts: &[u32],
     frame: Frame<'_>,
     l: RunAnswer,
-    head: SubsetHead,
-    ids: &[u32],
+    subset: Subset,
     place: u32,
     out: &mut [u32],
 ) -> RunAnswer
     requires { l.taken < 18446744073709551615 }
-    ensures { Executed h rows.now sorts.now (subset_of head ids.now) (query_of frame.entry.kind frame.entry.words.now) l place out.old result out.new }
+    ensures { Executed h rows.now sorts.now (subset_of subset.entry) (query_of frame.entry.kind frame.entry.words.now) l place out.old result out.new }
 {
     let cells = frame.words;
     match frame.kind {
         REFINE_ONE if cells.len() == CONDITION_WORDS => {
             let c = read_condition(cells, 0);
-            apply_answer(l, place, true, refine_one(h, rows, head, ids, c, out))
+            apply_answer(l, place, true, refine_one(h, rows, subset, c, out))
         }
-        REFINE_LIST => execute_list(h, rows, cells, l, head, ids, place, out),
+        REFINE_LIST => execute_list(h, rows, cells, l, subset, place, out),
         INTERSECT_LIST => {
-            let listed = SubsetHead {
-                dense: false,
-                start: 0,
-                end: 0,
-            };
-            apply_answer(l, place, false, intersect(head, ids, listed, cells, out))
+            let listed = Subset::List(cells);
+            apply_answer(l, place, false, intersect(subset, listed, out))
         }
         INTERSECT_RANGE if cells.len() == RANGE_WORDS => {
-            let range = SubsetHead {
-                dense: true,
-                start: cells[0],
-                end: cells[1],
-            };
-            apply_answer(l, place, false, intersect(head, ids, range, ids, out))
+            let range = Subset::Range(cells[0], cells[1]);
+            apply_answer(l, place, false, intersect(subset, range, out))
         }
         INTERSECT_SORT_RANGE if cells.len() == CONDITION_WORDS => {
             let c = read_condition(cells, 0);
-            execute_range(h, sorts, c, l, head, ids, place, out)
+            execute_range(h, sorts, c, l, subset, place, out)
         }
         _ => l,
     }

@@ -1,17 +1,27 @@
 // Lists of queries, decoded from words and run one after another on the ids left: the claim about runs holds for running code.
 ghost use Rattle.std.specs.Prelude.{◌≡◌, ◌<◌, length};
 ghost use Rattle.replay_frames.specs.Frames.{framed};
-ghost use Rattle.offsets.specs.Answers.{subset_of};
+ghost use Rattle.offsets.specs.Answers.{subset_of, lent_subset};
 ghost use Rattle.replay_queries.specs.Encoding.{query_of};
+ghost use Rattle.replay_queries.specs.Outcomes.{left_in};
 ghost use Rattle.replay_queries.specs.RunQueries.{RunMade};
 ghost use Rattle.replay_queries.specs.inner.Executing.{Inside};
 ghost use Rattle.replay_queries.specs.inner.Running.{QueriesExecuted, QueryExecuted};
 
 use super::{FIRST_LIST, RunAnswer, SECOND_LIST, STARTING_LIST, execute};
-use offsets::SubsetHead;
-use query_spec::refusing::smaller;
+use offsets::{Subset, SubsetRef};
 use replay_frames::{Frame, Frames};
 use table::Header;
+
+// The ids left, if they are a list these.
+fn subset_left<'a>(l: RunAnswer, ids: &'a [u32]) -> Subset<'a>
+    ensures { subset_of result ≡ left_in l ids.now }
+{
+    if l.dense {
+        return Subset::Range(l.start, l.end);
+    }
+    Subset::List(ids)
+}
 
 // Runs one query on the ids left. Its output goes to the lent list that does not have them.
 fn execute_query(
@@ -27,11 +37,6 @@ fn execute_query(
     requires { Inside l (length first.old) × (length second.old ≡ length first.old) × (l.taken < 18446744073709551615) }
     ensures { QueryExecuted h rows.now sorts.now ids.now (query_of frame.entry.kind frame.entry.words.now) l first.old second.old result first.new second.new }
 {
-    let head = SubsetHead {
-        dense: l.dense,
-        start: l.start,
-        end: l.end,
-    };
     let count = l.count as usize;
     if l.place == FIRST_LIST {
         return execute(
@@ -40,8 +45,7 @@ fn execute_query(
             sorts,
             frame,
             l,
-            head,
-            &first[..count],
+            subset_left(l, &first[..count]),
             SECOND_LIST,
             second,
         );
@@ -53,13 +57,21 @@ fn execute_query(
             sorts,
             frame,
             l,
-            head,
-            &second[..count],
+            subset_left(l, &second[..count]),
             FIRST_LIST,
             first,
         );
     }
-    execute(h, rows, sorts, frame, l, head, ids, FIRST_LIST, first)
+    execute(
+        h,
+        rows,
+        sorts,
+        frame,
+        l,
+        subset_left(l, ids),
+        FIRST_LIST,
+        first,
+    )
 }
 
 // Runs all queries, in order, each on the ids that the last accepted one left, in two lists of one length.
@@ -88,30 +100,29 @@ pub fn run_queries(
     h: Header,
     rows: &[u32],
     sorts: &[u32],
-    head: SubsetHead,
-    ids: &[u32],
+    lent: SubsetRef,
     queries: &[u32],
     first: &mut [u32],
     second: &mut [u32],
 ) -> RunAnswer
-    ensures { RunMade h rows.now sorts.now (subset_of head ids.now) ids.now (framed query_of queries.now) first.old second.old result first.new second.new }
+    ensures { RunMade h rows.now sorts.now (lent_subset lent.entry) lent.entry.ids.now (framed query_of queries.now) first.old second.old result first.new second.new }
 {
     let l = RunAnswer {
-        dense: head.dense,
-        start: head.start,
-        end: head.end,
+        dense: lent.dense,
+        start: lent.start,
+        end: lent.end,
         count: 0,
         place: STARTING_LIST,
         refined: false,
         taken: 0,
     };
-    let room = smaller(first.len(), second.len());
+    let room = first.len().min(second.len());
     run_queries_within(
         h,
         rows,
         sorts,
         l,
-        ids,
+        lent.ids,
         queries,
         &mut first[..room],
         &mut second[..room],

@@ -5,7 +5,7 @@ use super::lines::{
 };
 use super::lookups::{answer_range, look_up, one_cell, version};
 use constraints::Constraint;
-use offsets::{SubsetAnswer, SubsetHead};
+use offsets::{Subset, SubsetAnswer};
 use table::Header;
 
 // Reads the condition that begins at `place`.
@@ -17,35 +17,27 @@ fn constraint(numbers: &[u32], place: usize) -> Constraint {
     }
 }
 
-// A subset in a line: its head, the offsets of its ids, and the offset after it.
+// A subset in a line, and the offset after it.
 #[derive(Clone, Copy)]
-struct LineSubset {
-    head: SubsetHead,
-    from: usize,
+struct LineSubset<'a> {
+    subset: Subset<'a>,
     to: usize,
 }
 
-fn subset(numbers: &[u32], place: usize) -> LineSubset {
+fn subset<'a>(numbers: &'a [u32], place: usize) -> LineSubset<'a> {
     let first = number_at(numbers, add_offset(place, 1));
     if number_at(numbers, place) == 0 {
-        let head = SubsetHead {
-            dense: true,
-            start: first,
-            end: number_at(numbers, add_offset(place, 2)),
+        let end = number_at(numbers, add_offset(place, 2));
+        return LineSubset {
+            subset: Subset::Range(first, end),
+            to: add_offset(place, 3),
         };
-        let to = add_offset(place, 3);
-        return LineSubset { head, from: to, to };
     }
-    let head = SubsetHead {
-        dense: false,
-        start: 0,
-        end: 0,
-    };
     let from = add_offset(place, 2);
+    let to = add_offset(from, first);
     LineSubset {
-        head,
-        from,
-        to: add_offset(from, first),
+        subset: Subset::List(part(numbers, from, to)),
+        to,
     }
 }
 
@@ -65,9 +57,8 @@ fn answer_subset(h: Header, answer: SubsetAnswer) -> Answer {
 // N: refine.
 fn refine(h: Header, numbers: &[u32], rows: &[u32], out: &mut [u32]) -> Answer {
     let passed = subset(numbers, 0);
-    let ids = part(numbers, passed.from, passed.to);
     let c = constraint(numbers, passed.to);
-    let answer = query::refine_one(h, rows, passed.head, ids, c, out);
+    let answer = query::refine_one(h, rows, passed.subset, c, out);
     answer_subset(h, answer)
 }
 
@@ -75,9 +66,7 @@ fn refine(h: Header, numbers: &[u32], rows: &[u32], out: &mut [u32]) -> Answer {
 fn intersect(h: Header, numbers: &[u32], out: &mut [u32]) -> Answer {
     let first = subset(numbers, 0);
     let second = subset(numbers, first.to);
-    let ids = part(numbers, first.from, first.to);
-    let others = part(numbers, second.from, second.to);
-    let answer = offsets_intersect::intersect(first.head, ids, second.head, others, out);
+    let answer = offsets_intersect::intersect(first.subset, second.subset, out);
     answer_subset(h, answer)
 }
 

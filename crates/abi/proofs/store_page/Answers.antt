@@ -14,6 +14,6 @@ pub returns-in-None : goal.returns-in-None
 unfolding page_view next_view encode_option Option-elim encode_page returned if_accepted
 returns-in-None c = stored_as c.in-Page.is refl (rw c.in-None.is refl)
 
-pub returns-in-At : goal.returns-in-At
+pub returns-in-Some : goal.returns-in-Some
 unfolding page_view next_view encode_option Option-elim encode_page returned if_accepted
-returns-in-At c = stored_as c.in-Page.is refl (rw c.in-At.is refl)
+returns-in-Some c = stored_as c.in-Page.is refl (rw c.in-Some.is refl)

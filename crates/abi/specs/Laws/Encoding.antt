@@ -4,12 +4,11 @@ use Rattle.std.specs.Prelude.{ℕ, ◌<◌, ◌≡◌, refl, Bool, true, false, 
 use Rattle.std.proofs.Math.Option.{Option-elim}
 use Rattle.std.proofs.lemmas.Bool.{lt-leb}
 use Rattle.refusals.specs.Refusals.{Reply, if_accepted}
-use Rattle.offsets.specs.declared.SubsetHead.{SubsetHead}
 use Rattle.plain_table.specs.Staged.{Opening, openable}
 use Rattle.table.specs.declared.Header.{Header}
 use Rattle.table.specs.Numbers.{opening_of, largest_view, header}
 use Rattle.table.specs.Refusing.{outside}
-use Rattle.abi.specs.Encoding.{decode_largest, decode_columns, decode_header, decode_subset, encode_option, encode_header, encode_subset, returned, Stored, Answers}
+use Rattle.abi.specs.Encoding.{SubsetHead, decode_largest, decode_columns, decode_header, decode_subset, encode_option, encode_header, encode_subset, returned, Stored, Answers}
 
 -- by cases of the largest sort value
 numbers_decoded : (o : Opening) (rows dead entries pending generation : ℕ) (l : Option ℕ)

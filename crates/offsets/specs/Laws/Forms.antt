@@ -1,11 +1,10 @@
 -- Subsets by their two forms, as code distinguishes them: size, ends and members of each, and the results of `retain` and
 -- `narrowed`. Crates above use only these laws and the set laws of a subset. Assumes nothing.
-use Rattle.std.specs.Prelude.{◌+◌, ◌-◌, ◌≤◌, ◌<◌, ◌≡◌, ◌∷◌}
-use Rattle.offsets.specs.Laws.Prelude.{ℕ, refl, sym, ap, ◌∙◌, Bool, true, false, List, [], Option, none, some, length, get_or, le-leb, filter, all, elem, within, length_iota, get_d_iota, elem_iota}
+use Rattle.std.specs.Prelude.{◌+◌, ◌-◌, ◌≤◌, ◌<◌, ◌≡◌, ◌∷◌, Option, None, Some}
+use Rattle.offsets.specs.Laws.Prelude.{ℕ, refl, sym, ap, ◌∙◌, Bool, true, false, List, [], length, get_or, le-leb, filter, all, elem, within, length_iota, get_d_iota, elem_iota}
 use Rattle.offsets.specs.Subsets.{Subset, range, list, well_formed, members, size, end_of, shaped, retain, narrowed}
-use Rattle.offsets.specs.declared.BoundsAnswer.{BoundsAnswer}
-use Rattle.offsets.specs.declared.BoundsAnswer.TheVariants.{None as NoEnds, Ends as BothEnds}
-use Rattle.offsets.specs.inner.Writing.{Ends, bounds, bounds_view}
+use Rattle.offsets.specs.declared.Ends.{Ends}
+use Rattle.offsets.specs.inner.Writing.{bounds}
 use Rattle.offsets.specs.Laws.Subsets.{length_members, narrowed_list as narrowed-ids}
 
 -- ---- a range
@@ -49,8 +48,8 @@ module _ (ids : List ℕ) where
 
 -- 0 if there are no bounds
 abbrev upper : Option Ends → ℕ
-upper none = 0
-upper (some ends) = ends.end
+upper None = 0
+upper (Some ends) = ends.end
 
 end_is : (a : Subset) → end_of a ≡ upper (bounds a)
 unfolding end_of bounds
@@ -58,14 +57,11 @@ end_is (range start end) = refl
 end_is (list []) = refl
 end_is (list (x ∷ xs)) = refl
 
-module _ (a : Subset) (r : BoundsAnswer) (e : bounds_view r ≡ bounds a) where
-  pub end_none : r ≡ NoEnds → end_of a ≡ 0
-  unfolding bounds_view
-  end_none q = end_is a ∙ ap upper (sym e ∙ ap bounds_view q)
+pub end_none : (a : Subset) → None ≡ bounds a → end_of a ≡ 0
+end_none a e = end_is a ∙ ap upper (sym e)
 
-  pub end_some : (start end : ℕ) → r ≡ BothEnds start end → end_of a ≡ end
-  unfolding bounds_view
-  end_some start end q = end_is a ∙ ap upper (sym e ∙ ap bounds_view q)
+pub end_some : (a : Subset) (ends : Ends) → Some ends ≡ bounds a → end_of a ≡ ends.end
+end_some a ends e = end_is a ∙ ap upper (sym e)
 
 -- ---- `retain` and `narrowed`
 

@@ -3,23 +3,11 @@
 use Rattle.std.specs.Prelude.{◌≢◌, ◌+◌, ◌-◌, ◌≤◌, ◌<◌, ◌≡◌, ◌⊎◌, ◌∷◌}
 use Rattle.offsets.specs.Laws.Prelude.{ℕ, zero, suc, min, max, refl, sym, ap, ◌∙◌, inl, inr, Bool, true, false, List, [], dec_lt, arith, length, take, get_or, length-take, length-append, leb-true, le-leb, splice_nil, split, and_left, and_right, filter_same, filter_all, length_filter, count_le, same_refl, same_eq, same_ne, length_iota, get_d_iota, rising_filter, rising_iota, rising_at, elem_iota, filter_elem_comm, filter_within_iota, take_put, Reply, accepted, Same}
 use Rattle.lists.specs.Lists.{splice, filter, all, iota, rising, elem, within, same}
-use Rattle.offsets.specs.declared.SubsetHead.{SubsetHead}
 use Rattle.offsets.specs.declared.SubsetAnswer.{SubsetAnswer}
 use Rattle.offsets.specs.declared.SubsetAnswer.TheVariants.{Refused, Range, List as Ids}
 use Rattle.offsets.specs.Subsets.{Subset, range, list, well_formed, members, size, end_of, list_or_nothing, intersect, shaped, retain, narrowed}
-use Rattle.offsets.specs.Answers.{subset_of, subset_view, written, Answered}
+use Rattle.offsets.specs.Answers.{subset_view, written, Answered}
 use Rattle.offsets.specs.inner.Writing.{Wrote}
-
--- ---- a borrowed subset, by its kind
-
-module _ (head : SubsetHead) (ids : List ℕ) where
-  pub dense_is : head.dense ≡ true → subset_of head ids ≡ range head.start head.end
-  unfolding subset_of
-  dense_is e = rw e
-
-  pub sparse_is : head.dense ≡ false → subset_of head ids ≡ list ids
-  unfolding subset_of
-  sparse_is e = rw e
 
 -- ---- well-formed subsets
 

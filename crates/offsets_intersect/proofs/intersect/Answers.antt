@@ -1,38 +1,42 @@
 -- `offsets_intersect::intersect` meets its contract. Assumes nothing.
-use Rattle.offsets_intersect.proofs.Prelude.{◌≡◌, sym, ◌∙◌, ◌&&◌, false, length, subset_of, intersect_refusal}
-use Rattle.offsets_intersect.proofs.Answers.{answered_refused, one_list, can_range_list, can_list_range, can_lists, as_ranges, as_range_list, as_list_range, as_lists}
-use Rattle.offsets_intersect.proofs.intersect.Goals.{Else-number-ne-ACCEPTED}
+use Rattle.offsets_intersect.proofs.Prelude.{sym, ◌∙◌}
+use Rattle.offsets_intersect.proofs.Answers.{answered_refused, can_range_list, can_list_range, can_lists, as_range_list, as_list_range, as_lists}
 use Rattle.offsets_intersect.proofs.intersect.Goals as goal
 
--- past the tests, of which one is that not both are ranges
-none : (c : Else-number-ne-ACCEPTED) → let a = c.args in intersect_refusal (subset_of a.first a.first_ids.now) (subset_of a.second a.second_ids.now) (length a.output.now) ≡ 0
-none c = sym c.intersect_refusal-number.ensures ∙ c.if-number-ne-ACCEPTED.false
-
-listed : (c : Else-number-ne-ACCEPTED) → let a = c.args in a.first.dense && a.second.dense ≡ false
-listed c = c.if-ranges.false
-
-pub returns-then-ranges : goal.returns-then-ranges
-returns-then-ranges c = as_ranges _ _ _ _ _ _ c.if-ranges.true (c.intersect_ranges.ensures _)
-
+-- a range and a list
 pub returns-then-number-ne-ACCEPTED : goal.returns-then-number-ne-ACCEPTED
 returns-then-number-ne-ACCEPTED c = answered_refused _ _ _ _ _ c.intersect_refusal-number.ensures c.if-number-ne-ACCEPTED.true
 
 pub intersect_range_list-requires : goal.intersect_range_list-requires
 intersect_range_list-requires c =
-    can_range_list _ _ _ _ _ (none (goal.at.intersect_range_list-requires c).Else-number-ne-ACCEPTED) c.if-first.true (one_list _ _ (listed (goal.at.intersect_range_list-requires c).Else-number-ne-ACCEPTED) c.if-first.true)
+    let n = rw (c.in-Range.is, c.in-List-second.is) at (sym c.intersect_refusal-number.ensures ∙ c.if-number-ne-ACCEPTED.false) in
+    can_range_list _ _ _ _ n
 
-pub returns-then-first : goal.returns-then-first
-returns-then-first c =
-    as_range_list _ _ _ _ _ (none (goal.at.returns-then-first c).Else-number-ne-ACCEPTED) _ _ c.if-first.true (one_list _ _ (listed (goal.at.returns-then-first c).Else-number-ne-ACCEPTED) c.if-first.true) c.intersect_range_list.ensures
+pub returns-else-number-ne-ACCEPTED : goal.returns-else-number-ne-ACCEPTED
+returns-else-number-ne-ACCEPTED c =
+    let n = rw (c.in-Range.is, c.in-List-second.is) at (sym c.intersect_refusal-number.ensures ∙ c.if-number-ne-ACCEPTED.false) in
+    rw (c.in-Range.is, c.in-List-second.is) (as_range_list _ _ _ _ _ _ n c.intersect_range_list.ensures)
+
+-- a list and a range, or two lists
+pub returns-then-number-ne-ACCEPTED-2 : goal.returns-then-number-ne-ACCEPTED-2
+returns-then-number-ne-ACCEPTED-2 c = answered_refused _ _ _ _ _ c.intersect_refusal-number-in-List.ensures c.if-number-ne-ACCEPTED-2.true
 
 pub intersect_list_range-requires : goal.intersect_list_range-requires
-intersect_list_range-requires c = can_list_range _ _ _ _ _ (none (goal.at.intersect_list_range-requires c).Else-number-ne-ACCEPTED) c.if-first.false c.if-second.true
+intersect_list_range-requires c =
+    let n = rw (c.in-List.is, c.in-Range-second-2.is) at (sym c.intersect_refusal-number-in-List.ensures ∙ c.if-number-ne-ACCEPTED-2.false) in
+    can_list_range _ _ _ _ n
 
-pub returns-then-second : goal.returns-then-second
-returns-then-second c = as_list_range _ _ _ _ _ (none (goal.at.returns-then-second c).Else-number-ne-ACCEPTED) _ _ c.if-first.false c.if-second.true c.intersect_list_range.ensures
+pub returns-in-Range-second-2 : goal.returns-in-Range-second-2
+returns-in-Range-second-2 c =
+    let n = rw (c.in-List.is, c.in-Range-second-2.is) at (sym c.intersect_refusal-number-in-List.ensures ∙ c.if-number-ne-ACCEPTED-2.false) in
+    rw (c.in-List.is, c.in-Range-second-2.is) (as_list_range _ _ _ _ _ _ n c.intersect_list_range.ensures)
 
 pub intersect_lists-requires : goal.intersect_lists-requires
-intersect_lists-requires c = can_lists _ _ _ _ _ (none (goal.at.intersect_lists-requires c).Else-number-ne-ACCEPTED) c.if-first.false c.if-second.false
+intersect_lists-requires c =
+    let n = rw (c.in-List.is, c.in-List-second-2.is) at (sym c.intersect_refusal-number-in-List.ensures ∙ c.if-number-ne-ACCEPTED-2.false) in
+    can_lists _ _ _ n
 
-pub returns : goal.returns
-returns c = as_lists _ _ _ _ _ (none (goal.at.returns c).Else-number-ne-ACCEPTED) _ _ c.if-first.false c.if-second.false c.intersect_lists.ensures
+pub returns-in-List-second-2 : goal.returns-in-List-second-2
+returns-in-List-second-2 c =
+    let n = rw (c.in-List.is, c.in-List-second-2.is) at (sym c.intersect_refusal-number-in-List.ensures ∙ c.if-number-ne-ACCEPTED-2.false) in
+    rw (c.in-List.is, c.in-List-second-2.is) (as_lists _ _ _ n _ _ c.intersect_lists.ensures)

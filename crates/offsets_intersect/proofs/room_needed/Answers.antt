@@ -1,12 +1,15 @@
 -- `offsets_intersect::room_needed` meets its contract. Assumes nothing.
-use Rattle.offsets_intersect.proofs.Answers.{room_ranges, room_range_list, room_list}
+use Rattle.offsets.specs.Answers.{room_needed}
 use Rattle.offsets_intersect.proofs.room_needed.Goals as goal
 
-pub returns-then-second : goal.returns-then-second
-returns-then-second c = room_ranges _ _ _ _ c.if-first.true c.if-second.true
+pub returns-in-Range-second : goal.returns-in-Range-second
+unfolding room_needed
+returns-in-Range-second c = rw (c.in-Range.is, c.in-Range-second.is)
 
-pub returns-then-first : goal.returns-then-first
-returns-then-first c = room_range_list _ _ _ _ c.if-first.true c.if-second.false
+pub returns-in-List-second : goal.returns-in-List-second
+unfolding room_needed
+returns-in-List-second c = rw (c.in-Range.is, c.in-List-second.is)
 
-pub returns : goal.returns
-returns c = room_list _ _ _ _ c.if-first.false
+pub returns-in-List : goal.returns-in-List
+unfolding room_needed
+returns-in-List c = rw c.in-List.is

@@ -1,9 +1,9 @@
 -- `query::refine_ref` meets its contract. Assumes nothing.
-use Rattle.query_scan.proofs.AnswerSteps.{can_close, list_answered}
+use Rattle.query_scan.proofs.AnswerSteps.{can_write, list_answered}
 use Rattle.query.proofs.refine_ref.Goals as goal
 
 pub close_refine-requires : goal.close_refine-requires
-close_refine-requires c = can_close _ _ _ _ _ _ _ _ c.scan-done.ensures
+close_refine-requires c = can_write _ _ _ _ _ _ _ c.scan-done.ensures
 
 pub returns : goal.returns
-returns c = list_answered _ _ _ _ _ _ _ _ c.scan-done.ensures _ _ c.close_refine.ensures
+returns c = list_answered _ _ _ _ _ _ _ c.scan-done.ensures _ _ c.close_refine.ensures

@@ -1,19 +1,37 @@
 -- `query_scan::move_on` meets its contract. Assumes nothing.
-use Rattle.query_scan.proofs.Prelude.{refl, arith}
-use Rattle.query_scan.proofs.ScanSteps.{next_below, next_dense}
+use Rattle.std.proofs.Common.{rules, ◌≤◌, ◌+◌}
+use Rattle.query_scan.proofs.Prelude.{refl}
+use Rattle.query_scan.proofs.ScanSteps.{next_below, next_in_range, place_in_list, next_in_list}
 use Rattle.query_scan.proofs.move_on.Goals as goal
 
-pub overflow_add-n-then-head : goal.overflow_add-n-then-head
-overflow_add-n-then-head c = omega (arith, next_below c.args.head c.args.ids.now c.args.s c.if-head.true c.requires)
+pub overflow_add-result : goal.overflow_add-result
+overflow_add-result c = let below : c.args.s.id + 1 ≤ c.in-Range.field-1 = next_below c.in-Range.field-0 _ _ (rw c.in-Range.is at c.requires) in search rules
 
-pub returns-then-head : goal.returns-then-head
-returns-then-head c =
-    record {
+pub returns-in-Range : goal.returns-in-Range
+returns-in-Range c =
+    rw c.in-Range.is
+    (record {
       refused_is = refl;
       next_is = refl;
       end_is = refl;
       most_is = refl;
       dead_is = refl;
       found_is = refl;
-      id_is = next_dense c.args.head c.args.ids.now c.args.s c.if-head.true c.requires;
-    }
+      id_is = next_in_range _ _ _ (rw c.in-Range.is at c.requires);
+    })
+
+pub bounds-ids-next : goal.bounds-ids-next
+bounds-ids-next c = place_in_list _ _ (rw c.in-List.is at c.requires) c.if-next-s.true
+
+pub returns-then-next-s : goal.returns-then-next-s
+returns-then-next-s c =
+    rw c.in-List.is
+    (record {
+      refused_is = refl;
+      next_is = refl;
+      end_is = refl;
+      most_is = refl;
+      dead_is = refl;
+      found_is = refl;
+      id_is = λ _. next_in_list _ _ (rw c.in-List.is at c.requires);
+    })

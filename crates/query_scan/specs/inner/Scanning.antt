@@ -1,13 +1,12 @@
 -- A scan over places of a subset, row by row: what it tests, visits, keeps and counts, and how the queries use it. Assumes nothing.
-use Rattle.std.specs.Prelude.{ℕ, zero, suc, ◌+◌, ◌-◌, ◌*◌, ◌≤◌, ◌<◌, min, ◌≡◌, Bool, true, false, cond, not, ◌&&◌, List, [], ◌∷◌, ◌++◌, ltb, eqb, length, get_or}
+use Rattle.std.specs.Prelude.{ℕ, zero, suc, ◌+◌, ◌-◌, ◌*◌, ◌≤◌, ◌<◌, min, ◌≡◌, Bool, true, false, cond, not, ◌&&◌, List, [], ◌∷◌, ◌++◌, ltb, eqb, length, get_or, Option, Some, None}
 use Rattle.lists.specs.Lists.{splice, filter, all, row_at}
 use Rattle.refusals.specs.Refusals.{accepted}
 use Rattle.offsets.specs.declared.retain.RetainBuilder.{RetainBuilder}
 use Rattle.offsets.specs.declared.SubsetAnswer.{SubsetAnswer}
 use Rattle.offsets.specs.declared.SubsetAnswer.TheVariants.{Refused}
-use Rattle.offsets.specs.declared.SubsetHead.{SubsetHead}
 use Rattle.offsets.specs.Subsets.{Subset, well_formed, members, size, narrowed}
-use Rattle.offsets.specs.Answers.{subset_of, Answered}
+use Rattle.offsets.specs.Answers.{Answered}
 use Rattle.offsets.specs.inner.Writing.{Wrote}
 use Rattle.offsets.specs.inner.RetainBuilder.{Builds, CanAdd, Adds, BuilderBegins}
 use Rattle.constraints.specs.declared.Constraint.{Constraint}
@@ -16,8 +15,6 @@ use Rattle.table.specs.declared.Header.{Header}
 use Rattle.query_spec.specs.declared.MatchAnswer.{MatchAnswer}
 use Rattle.query_spec.specs.declared.MatchAnswer.TheVariants.{Refused as MatchIsRefused, Match as Matches}
 use Rattle.query_spec.specs.declared.PageAnswer.{PageAnswer}
-use Rattle.query_spec.specs.declared.NextPlace.{NextPlace}
-use Rattle.query_spec.specs.declared.NextPlace.TheVariants.{None as NoPlace, At}
 use Rattle.query_spec.specs.declared.PageAnswer.TheVariants.{Refused as PageIsRefused, Page as Paged}
 use Rattle.query_scan.specs.declared.Scan.{Scan}
 use Rattle.query_scan.specs.declared.Test.{Test}
@@ -205,25 +202,16 @@ pub record CanWrite (output : List ℕ) (g : RetainBuilder) : Type 0 where
 pub record Writes (output : List ℕ) (g : RetainBuilder) (count : ℕ) (output' : List ℕ) : Type 0 where
   pub writes : (output₀ kept : List ℕ) → Builds output₀ output g kept → Wrote output₀ kept count output'
 
--- the ids kept are all ids of a range
-unfoldable pub whole : SubsetHead → RetainBuilder → Bool
-whole head g = head.dense && eqb g.count (head.end - head.start)
-
--- what the end of a refine requires, if it was not refused
-pub record CanClose (head : SubsetHead) (s : Scan) (output : List ℕ) : Type 0 where
-  pub order : head.dense ≡ true → head.start ≤ head.end
-  pub can_write : CanWrite output s.found
-
 -- the end of a refine by a list: "a range stays only if all of it is kept, else a list"
-pub record RefineClosed (head : SubsetHead) (s : Scan) (output : List ℕ) (answer : SubsetAnswer) (output' : List ℕ) : Type 0 where
+pub record RefineClosed (subset : Subset) (s : Scan) (output : List ℕ) (answer : SubsetAnswer) (output' : List ℕ) : Type 0 where
   pub refuses : (s.refused ≡ 0 → ⊥) → (answer ≡ Refused s.refused) × (output' ≡ output)
-  pub narrows : s.refused ≡ 0 → (ids : List ℕ) (test : ℕ → Bool) (output₀ : List ℕ) → well_formed (subset_of head ids) ≡ true
-      → Builds output₀ output s.found (filter test (members (subset_of head ids)))
-      → Answered (accepted (narrowed test (subset_of head ids))) output₀ answer output'
+  pub narrows : s.refused ≡ 0 → (test : ℕ → Bool) (output₀ : List ℕ) → well_formed subset ≡ true
+      → Builds output₀ output s.found (filter test (members subset))
+      → Answered (accepted (narrowed test subset)) output₀ answer output'
 
 -- the place to continue from after a page
-unfoldable pub next_at : Subset → ℕ → NextPlace
-next_at subset next = cond (ltb next (size subset)) (At next) NoPlace
+unfoldable pub next_at : Subset → ℕ → Option ℕ
+next_at subset next = cond (ltb next (size subset)) (Some next) None
 
 -- the end of a page
 pub record PageClosed (subset : Subset) (s : Scan) (output : List ℕ) (answer : PageAnswer) (output' : List ℕ) : Type 0 where

@@ -1,7 +1,7 @@
 -- Each query's contract determines the outcome: two outcomes that both meet it, on the same input, have the same answer and the
 -- same output. So it excludes every program with another outcome. A query uses only the header and the row store, so no choice is
 -- left on any stores. Assumes nothing.
-use Rattle.query_spec.proofs.Laws.Prelude.{ℕ, ◌≡◌, sym, ap, ◌∙◌, ⊎_elim, List, some_number, Same, Constraint, Header, MatchAnswer, Refused, Match, NextPlace, None, At, PageAnswer}
+use Rattle.query_spec.proofs.Laws.Prelude.{ℕ, ◌≡◌, sym, ap, ◌∙◌, ⊎_elim, List, some_number, Same, Constraint, Header, MatchAnswer, Refused, Match, Option, Some, None, PageAnswer}
 use Rattle.offsets.specs.declared.SubsetAnswer.{SubsetAnswer}
 use Rattle.offsets.specs.Subsets.{Subset}
 use Rattle.offsets.specs.Laws.Subsets.{answered_determined}
@@ -9,12 +9,12 @@ use Rattle.query_spec.specs.declared.PageAnswer.TheVariants.{Refused as PageRefu
 use Rattle.query_spec.specs.Queries.{next_view, PageResult, page_view, match_view, RefinedOne, RefinedList, Matched, PageRead}
 
 -- answers with the same view are equal
-next_view_injective : (a b : NextPlace) → next_view a ≡ next_view b → a ≡ b
+next_view_injective : (a b : Option ℕ) → next_view a ≡ next_view b → a ≡ b
 unfolding next_view
 next_view_injective None None e = cc
-next_view_injective None (At b) e = cc
-next_view_injective (At a) None e = cc
-next_view_injective (At a) (At b) e = cc
+next_view_injective None (Some b) e = cc
+next_view_injective (Some a) None e = cc
+next_view_injective (Some a) (Some b) e = cc
 
 page_view_injective : (a b : PageAnswer) → page_view a ≡ page_view b → a ≡ b
 unfolding page_view

@@ -1,13 +1,11 @@
 -- The names that the laws of this crate take from elsewhere, re-exported. It defines nothing of its own.
-pub use Rattle.std.specs.Prelude.{◌+◌, ℕ, ◌&&◌, not, List, [], ◌∷◌, ◌≡◌, refl, length}
+pub use Rattle.std.specs.Prelude.{◌+◌, ℕ, ◌&&◌, not, List, [], ◌∷◌, ◌≡◌, refl, length, Option, Some, None}
 pub use Rattle.std.proofs.Common.{inl, inr, ⊎_elim, ◌∙◌, ap, sym, arith}
 pub use Rattle.std.proofs.Math.Decide.{ℕ_discrete}
 pub use Rattle.constraints.specs.declared.Constraint.{Constraint}
 pub use Rattle.lists.specs.Laws.Filter.{split}
 pub use Rattle.query_spec.specs.declared.MatchAnswer.{MatchAnswer}
 pub use Rattle.query_spec.specs.declared.MatchAnswer.TheVariants.{Match, Refused}
-pub use Rattle.query_spec.specs.declared.NextPlace.{NextPlace}
-pub use Rattle.query_spec.specs.declared.NextPlace.TheVariants.{At, None}
 pub use Rattle.query_spec.specs.declared.Page.{Page}
 pub use Rattle.query_spec.specs.declared.PageAnswer.{PageAnswer}
 pub use Rattle.refusals.specs.Laws.Determined.{Same}

@@ -9,4 +9,4 @@ pub returns-in-None : goal.returns-in-None
 returns-in-None c = range_none c.fast_subset-found.ensures c.in-None.is c.count_one-in-None.ensures
 
 pub returns-in-Range : goal.returns-in-Range
-returns-in-Range c = range_found c.fast_subset-found.ensures _ _ _ c.in-Range.is c.intersect.ensures c.apply_answer.ensures
+returns-in-Range c = range_found c.fast_subset-found.ensures _ _ c.in-Range.is c.intersect.ensures c.apply_answer.ensures

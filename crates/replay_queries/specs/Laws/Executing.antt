@@ -10,7 +10,7 @@ use Rattle.offsets.specs.declared.SubsetAnswer.TheVariants.{Refused, Range, List
 use Rattle.offsets.specs.Subsets.{Subset, list, retain, narrowed}
 use Rattle.offsets.specs.Answers.{Answered, subset_view, written, intersect_reply}
 use Rattle.offsets.specs.Laws.Answers.{read_refused, read_range, read_list, answered_fits, intersect_fits}
-use Rattle.offsets.specs.Laws.Subsets.{dense_is, sparse_is, members_retain, members_narrowed}
+use Rattle.offsets.specs.Laws.Subsets.{members_retain, members_narrowed}
 use Rattle.constraints.specs.declared.Constraint.{Constraint}
 use Rattle.table.specs.declared.Header.{Header}
 use Rattle.table.specs.declared.RangeAnswer.{RangeAnswer}
@@ -63,8 +63,8 @@ left_there : (l : RunAnswer) (a : Subset) (q : Query) (place : ℕ) (refines : B
     → subset_left (apply_answer l place refines answer) given first second ≡ (by_reply a q (subset_view answer output)).ids
 unfolding subset_left apply_answer by_reply if_accepted
 left_there l a q place refines (Refused n) output given first second there e = rw (read_refused output n) e
-left_there l a q place refines (Range from to) output given first second there e = rw (read_range output from to) (dense_is _ _ refl)
-left_there l a q place refines (Ids n) output given first second there e = rw (read_list output n) (sparse_is _ _ refl ∙ ap list (there n))
+left_there l a q place refines (Range from to) output given first second there e = rw (read_range output from to)
+left_there l a q place refines (Ids n) output given first second there e = rw (read_list output n) (ap list (there n))
 
 -- ---- a query that is answered
 

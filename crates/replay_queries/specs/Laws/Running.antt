@@ -1,10 +1,8 @@
 -- One query run on the ids left, and one after another. Assumes nothing.
 use Rattle.std.specs.Prelude.{◌≤◌, ◌<◌, ◌≡◌, ◌++◌}
 use Rattle.replay_queries.specs.Laws.Prelude.{ℕ, refl, List, append_assoc, arith, length, take, ne_eqb, Header, Query, Outcome, RunAnswer, Executed, QueryExecuted}
-use Rattle.offsets.specs.declared.SubsetHead.{SubsetHead}
 use Rattle.offsets.specs.Subsets.{Subset}
-use Rattle.offsets.specs.Answers.{subset_of}
-use Rattle.replay_queries.specs.Outcomes.{ids_at, subset_left, QueriedAll, end, next}
+use Rattle.replay_queries.specs.Outcomes.{ids_at, left_in, subset_left, QueriedAll, end, next}
 use Rattle.replay_queries.specs.inner.Executing.{Inside}
 use Rattle.replay_queries.specs.Laws.Executing.{behind}
 
@@ -30,18 +28,15 @@ module _ {h : Header} {rows sorts ids : List ℕ} {queries : List Query} {l l' :
 
 -- the ids left as they are lent to a query
 module _ (l : RunAnswer) (ids first second : List ℕ) where
-  abbrev pub head_of : SubsetHead
-  head_of = record { dense = l.dense; start = l.start; end = l.end }
-
-  lent_first : l.place ≡ 1 → subset_left l ids first second ≡ subset_of head_of (take l.count first)
+  lent_first : l.place ≡ 1 → subset_left l ids first second ≡ left_in l (take l.count first)
   unfolding subset_left ids_at
   lent_first e = rw e
 
-  lent_second : l.place ≡ 2 → subset_left l ids first second ≡ subset_of head_of (take l.count second)
+  lent_second : l.place ≡ 2 → subset_left l ids first second ≡ left_in l (take l.count second)
   unfolding subset_left ids_at
   lent_second e = rw e
 
-  lent_neither : (l.place ≡ 1 → ⊥) → (l.place ≡ 2 → ⊥) → subset_left l ids first second ≡ subset_of head_of ids
+  lent_neither : (l.place ≡ 1 → ⊥) → (l.place ≡ 2 → ⊥) → subset_left l ids first second ≡ left_in l ids
   unfolding subset_left ids_at
   lent_neither a b = rw (ne_eqb l.place 1 a, ne_eqb l.place 2 b)
 
@@ -55,15 +50,15 @@ into_second n ids first second = refl
 
 -- the three cases: the ids left are in the first list, in the second, or in neither
 module _ {h : Header} {rows sorts : List ℕ} (ids : List ℕ) {queries : List Query} {l l' : RunAnswer} {first second : List ℕ} (held : Inside l (length first)) (long : length second ≡ length first) where
-  pub execute_first : {second' : List ℕ} → l.place ≡ 1 → Executed h rows sorts (subset_of (head_of l ids first second) (take l.count first)) queries l 2 second l' second'
+  pub execute_first : {second' : List ℕ} → l.place ≡ 1 → Executed h rows sorts (left_in l (take l.count first)) queries l 2 second l' second'
       → QueryExecuted h rows sorts ids queries l first second l' first second'
   execute_first {second'} e p = execute_in 2 p long (omega arith) (omega arith) held (lent_first l ids first second e) (lent_first l ids first second' e) (λ n. into_second n ids first second')
 
-  pub execute_second : {first' : List ℕ} → l.place ≡ 2 → Executed h rows sorts (subset_of (head_of l ids first second) (take l.count second)) queries l 1 first l' first'
+  pub execute_second : {first' : List ℕ} → l.place ≡ 2 → Executed h rows sorts (left_in l (take l.count second)) queries l 1 first l' first'
       → QueryExecuted h rows sorts ids queries l first second l' first' second
   execute_second {first'} e p = execute_in 1 p refl (omega arith) (omega arith) held (lent_second l ids first second e) (lent_second l ids first' second e) (λ n. into_first n ids first' second)
 
-  pub execute_neither : {first' : List ℕ} → (l.place ≡ 1 → ⊥) → (l.place ≡ 2 → ⊥) → Executed h rows sorts (subset_of (head_of l ids first second) ids) queries l 1 first l' first'
+  pub execute_neither : {first' : List ℕ} → (l.place ≡ 1 → ⊥) → (l.place ≡ 2 → ⊥) → Executed h rows sorts (left_in l ids) queries l 1 first l' first'
       → QueryExecuted h rows sorts ids queries l first second l' first' second
   execute_neither {first'} a b p = execute_in 1 p refl (omega arith) (omega arith) held (lent_neither l ids first second a b) (lent_neither l ids first' second a b) (λ n. into_first n ids first' second)
 

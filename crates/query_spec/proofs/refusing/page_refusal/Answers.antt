@@ -12,8 +12,8 @@ returns-then-size-first c = page_beyond _ _ _ _ _ _ _ (sym c.subset_refusal-numb
 pub returns-then-not-known : goal.returns-then-not-known
 returns-then-not-known c = page_unknown _ _ _ _ _ _ _ (sym c.subset_refusal-number.ensures ∙ c.if-number-ne-ACCEPTED.false) (omega (arith, c.size-size.ensures, c.if-size-first.false)) c.if-not-known.true
 
-pub returns-then-output-smaller : goal.returns-then-output-smaller
-returns-then-output-smaller c = page_narrow _ _ _ _ _ _ _ (sym c.subset_refusal-number.ensures ∙ c.if-number-ne-ACCEPTED.false) (omega (arith, c.size-size.ensures, c.if-size-first.false)) c.if-not-known.false (omega (arith, c.size-size.ensures, c.smaller.ensures, c.if-output-smaller.true))
+pub returns-then-output-min : goal.returns-then-output-min
+returns-then-output-min c = page_narrow _ _ _ _ _ _ _ (sym c.subset_refusal-number.ensures ∙ c.if-number-ne-ACCEPTED.false) (omega (arith, c.size-size.ensures, c.if-size-first.false)) c.if-not-known.false (omega (arith, c.size-size.ensures, c.min.ensures, c.if-output-min.true))
 
 pub returns : goal.returns
-returns c = page_allowed _ _ _ _ _ _ _ (sym c.subset_refusal-number.ensures ∙ c.if-number-ne-ACCEPTED.false) (omega (arith, c.size-size.ensures, c.if-size-first.false)) c.if-not-known.false (omega (arith, c.size-size.ensures, c.smaller.ensures, c.if-output-smaller.false))
+returns c = page_allowed _ _ _ _ _ _ _ (sym c.subset_refusal-number.ensures ∙ c.if-number-ne-ACCEPTED.false) (omega (arith, c.size-size.ensures, c.if-size-first.false)) c.if-not-known.false (omega (arith, c.size-size.ensures, c.min.ensures, c.if-output-min.false))
