@@ -18,7 +18,6 @@ pub use Rattle.listing_check.specs.declared.CheckAnswer.TheVariants.{Checked, Re
 pub use Rattle.constraints.specs.declared.Constraint.{Constraint}
 pub use Rattle.listing_parse.specs.inner.Lines.{Found}
 pub use Rattle.table.specs.declared.Header.{Header}
-pub use Rattle.query_scan.specs.declared.Test.TheVariants.{Row}
 pub use Rattle.listing_check.specs.declared.Verdict.TheVariants.{Misplaced, Right, Wrong}
 pub use mathlib.Core.Option.{Option, none, some}
 pub use Rattle.listing_parse.specs.declared.Survey.{Survey}

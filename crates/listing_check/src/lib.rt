@@ -9,8 +9,7 @@ ghost use Rattle.listing_check.specs.inner.Scanning.{misplaced_place, Due, RowRe
 
 use constraints::Constraint;
 use listing_parse::{MOST_FIELDS, Survey, reread_line, scan_text};
-use query::loops::all_pass;
-use query_scan::Test;
+use query::loops::{are_known, is_match};
 use refusals::{NO_LISTING, NO_SUCH_COLUMN};
 use table::Header;
 
@@ -195,7 +194,7 @@ fn meets_all(h: Header, cells: [u32; 8], conditions: &[Constraint]) -> bool
     requires { (1 ≤ h.columns) × (h.columns ≤ 8) }
     ensures { result ≡ meets (take h.columns cells) conditions.now }
 {
-    all_pass(Test::Row(0), h, &cells, conditions)
+    is_match(h, &cells, 0, conditions)
 }
 
 // Scans the whole text first, then row by row together with the numbers given. Tests whether the conditions are known without a
@@ -205,7 +204,7 @@ pub fn check_answers(text: &[u8], conditions: &[Constraint], given: &[u32]) -> C
 {
     let s = scan_text(true, text);
     let h = header_of(s);
-    let known = all_pass(Test::Known, h, given, conditions);
+    let known = are_known(h.columns, conditions);
     let mut at = begin(s, known, text, given);
     while at.start < at.end {
         let row = row_at(h.columns, text, at.start);

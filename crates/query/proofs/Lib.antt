@@ -1,2 +1,2 @@
-pub mod LoopSteps
+pub mod Every
 pub mod Prelude

@@ -5,9 +5,9 @@ ghost use Rattle.offsets.specs.Answers.{subset_of};
 ghost use Rattle.query_spec.specs.Queries.{RefinedOne, RefinedList, Matched, PageRead};
 
 use constraints::Constraint;
-use loops::scan;
+use loops::{scan_match, scan_page, scan_refine};
 use offsets::{Subset, SubsetAnswer};
-use query_scan::{QueryKind, close_match, close_page, close_refine, scan_one, write_found};
+use query_scan::{close_match, close_page, close_refine, scan_one, write_found};
 use query_spec::{MatchAnswer, PageAnswer};
 use refusals::ACCEPTED;
 use table::Header;
@@ -46,7 +46,7 @@ pub fn refine_ref(
 ) -> SubsetAnswer
     ensures { RefinedList h rows.now (subset_of subset.entry) conditions.now out.old result out.new }
 {
-    let done = scan(QueryKind::Refine, h, rows, subset, conditions, out);
+    let done = scan_refine(h, rows, subset, conditions, out);
     close_refine(subset, done, out)
 }
 
@@ -60,7 +60,7 @@ pub fn contains_match(
     ensures { Matched h rows.now (subset_of subset.entry) conditions.now result }
 {
     let mut none = [0u32; 0];
-    let done = scan(QueryKind::Match, h, rows, subset, conditions, &mut none);
+    let done = scan_match(h, rows, subset, conditions, &mut none);
     close_match(done)
 }
 
@@ -76,6 +76,6 @@ pub fn read_page(
 ) -> PageAnswer
     ensures { PageRead h rows.now (subset_of subset.entry) start n conditions.now out.old result out.new }
 {
-    let done = scan(QueryKind::Page(start, n), h, rows, subset, conditions, out);
+    let done = scan_page(h, rows, subset, start, n, conditions, out);
     close_page(subset, done, out)
 }

@@ -1,44 +1,95 @@
-// The loops of every query: over the rows and, for each row, over the conditions. Each condition and each row is passed by value to
-// a step of `query_scan`.
+// The loops of every query: over the rows and, for each row, over the conditions.
 ghost use Rattle.std.specs.Prelude.{◌≡◌, length};
+ghost use Rattle.lists.specs.Lists.{all};
 ghost use Rattle.offsets.specs.Answers.{subset_of};
-ghost use Rattle.query_scan.specs.inner.Scanning.{RowNeeded, all_pass, ScanAnswered};
+ghost use Rattle.constraints.specs.Constraints.{known};
+ghost use Rattle.query_spec.specs.Queries.{matches};
+ghost use Rattle.query_scan.specs.Visits as visits;
+ghost use Rattle.query_scan.specs.inner.Scanning.{RowInStore, CanStart, Finished, ScanAnswered};
 
 use constraints::Constraint;
 use offsets::Subset;
-use query_scan::{QueryKind, Scan, Test, begin, can_pass, passes_test, step};
+use query_scan::{Scan, is_live_at, is_met_at, open_match, open_page, open_refine, step};
 use table::Header;
 
-// Whether all conditions pass. Stops at the first that does not; for a dead row tests none.
-pub fn all_pass(test: Test, h: Header, rows: &[u32], conditions: &[Constraint]) -> bool
-    requires { RowNeeded test h (length rows.now) }
-    ensures { result ≡ all_pass test h rows.now conditions.now }
+// Whether all conditions are known.
+pub fn are_known(columns: u32, conditions: &[Constraint]) -> bool
+    ensures { result ≡ all (known columns) conditions.now }
 {
-    let mut ok = can_pass(test, h, rows);
-    let mut i = 0;
-    while ok & (i < conditions.len()) {
-        ok = passes_test(test, h, rows, conditions[i]);
-        i += 1;
-    }
-    ok
+    conditions.iter().all(|c| constraints::known(*c, columns))
 }
 
-// Runs a query: refused, or its places scanned, each by all conditions.
-pub fn scan(
-    query: QueryKind,
+// Whether a row is live and meets all conditions. Stops at the first that it does not meet; for a dead row tests none.
+pub fn is_match(h: Header, rows: &[u32], id: u32, conditions: &[Constraint]) -> bool
+    requires { RowInStore h (length rows.now) id }
+    ensures { result ≡ matches h rows.now conditions.now id }
+{
+    is_live_at(h, rows, id) && conditions.iter().all(|c| is_met_at(h, rows, id, *c))
+}
+
+// Scans the places of a query that has begun, each by all conditions.
+fn scan(
+    h: Header,
+    rows: &[u32],
+    subset: Subset,
+    conditions: &[Constraint],
+    begun: Scan,
+    out: &mut [u32],
+) -> Scan
+    requires { CanStart h (length rows.now) (subset_of subset) begun out.old }
+    ensures { Finished h rows.now (subset_of subset.entry) (matches h rows.now conditions.now) begun out.old result out.new }
+{
+    let mut at = begun;
+    while at.next < at.end {
+        let hit = is_match(h, rows, at.id, conditions);
+        at = step(h, rows, subset, at, hit, out);
+    }
+    at
+}
+
+// A refinement: refused, or all places scanned.
+pub fn scan_refine(
     h: Header,
     rows: &[u32],
     subset: Subset,
     conditions: &[Constraint],
     out: &mut [u32],
 ) -> Scan
-    ensures { ScanAnswered query h rows.now (subset_of subset.entry) conditions.now out.old result out.new }
+    ensures { ScanAnswered visits.Refine h rows.now (subset_of subset.entry) conditions.now out.old result out.new }
 {
-    let known = all_pass(Test::Known, h, rows, conditions);
-    let mut at = begin(query, h, rows.len(), subset, known, out.len());
-    while at.next < at.end {
-        let hit = all_pass(Test::Row(at.id), h, rows, conditions);
-        at = step(h, rows, subset, at, hit, out);
-    }
-    at
+    let known = are_known(h.columns, conditions);
+    let begun = open_refine(h, rows.len(), subset, known, out.len());
+    scan(h, rows, subset, conditions, begun, out)
+}
+
+// A search for a match: refused, or the places up to the first match scanned.
+pub fn scan_match(
+    h: Header,
+    rows: &[u32],
+    subset: Subset,
+    conditions: &[Constraint],
+    out: &mut [u32],
+) -> Scan
+    ensures { ScanAnswered visits.Match h rows.now (subset_of subset.entry) conditions.now out.old result out.new }
+{
+    let known = are_known(h.columns, conditions);
+    let begun = open_match(h, rows.len(), subset, known);
+    scan(h, rows, subset, conditions, begun, out)
+}
+
+// A page: refused, or n places from the start place on scanned.
+pub fn scan_page(
+    h: Header,
+    rows: &[u32],
+    subset: Subset,
+    start: u32,
+    n: usize,
+    conditions: &[Constraint],
+    out: &mut [u32],
+) -> Scan
+    ensures { ScanAnswered (visits.Page start n) h rows.now (subset_of subset.entry) conditions.now out.old result out.new }
+{
+    let known = are_known(h.columns, conditions);
+    let begun = open_page(h, rows.len(), subset, start, n, known, out.len());
+    scan(h, rows, subset, conditions, begun, out)
 }

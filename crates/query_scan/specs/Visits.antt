@@ -6,8 +6,12 @@ use Rattle.offsets.specs.Subsets.{Subset, members}
 use Rattle.table.specs.declared.Header.{Header}
 use Rattle.query_spec.specs.Queries.{dead_among, visited}
 use Rattle.query_scan.specs.declared.Scan.{Scan}
-use Rattle.query_scan.specs.declared.QueryKind.{QueryKind}
-use Rattle.query_scan.specs.declared.QueryKind.TheVariants.{Refine, Match, Page}
+
+-- A query over a subset: a refinement, any match, or a page, which has its start place and the number of ids that it visits.
+pub data QueryKind : Type 0 where
+  Refine : QueryKind
+  Match : QueryKind
+  Page : ℕ → ℕ → QueryKind
 
 -- the ids up to and including the first that passes the test; all if none does
 unfoldable pub up_to_first : (ℕ → Bool) → List ℕ → List ℕ

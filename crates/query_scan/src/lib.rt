@@ -11,7 +11,8 @@ ghost use Rattle.offsets.specs.Subsets as subsets;
 ghost use Rattle.offsets.specs.Subsets.{members};
 ghost use Rattle.offsets.specs.inner.RetainBuilder.{CanAdd};
 ghost use Rattle.query_spec.specs.Queries.{matches, dead_among};
-ghost use Rattle.query_scan.specs.inner.Scanning.{RowInStore, RowNeeded, starts, passes, BeginsAt, CanMove, Moves, Keeps, CanStep, ScanSteps, CanStart, Finished, ScanStarts, ScanAnswered, CanWrite, Writes, RefineClosed, next_at, PageClosed, MatchClosed};
+ghost use Rattle.query_scan.specs.Visits as visits;
+ghost use Rattle.query_scan.specs.inner.Scanning.{RowInStore, BeginsAt, CanMove, Moves, Keeps, CanStep, ScanSteps, CanStart, Finished, ScanStarts, ScanAnswered, CanWrite, Writes, RefineClosed, next_at, PageClosed, MatchClosed};
 
 use constraints::Constraint;
 use offsets::retain::RetainBuilder;
@@ -36,25 +37,10 @@ pub struct Scan {
     pub found: RetainBuilder,
 }
 
-// What conditions are tested for: that they are known, or that a row is live and meets them.
-#[derive(Clone, Copy)]
-pub enum Test {
-    Known,
-    Row(u32),
-}
-
-// A query over a subset. A page has its start place and the number of ids that it visits.
-#[derive(Clone, Copy)]
-pub enum QueryKind {
-    Refine,
-    Match,
-    Page(u32, usize),
-}
-
 // ---- a row
 
 // Whether the row is live, by its first cell.
-fn is_live_at(h: Header, rows: &[u32], id: u32) -> bool
+pub fn is_live_at(h: Header, rows: &[u32], id: u32) -> bool
     requires { RowInStore h (length rows.now) id }
     ensures { result ≡ rules.is_live (row_at h.columns id rows.now) }
 {
@@ -63,7 +49,7 @@ fn is_live_at(h: Header, rows: &[u32], id: u32) -> bool
 }
 
 // Whether the cells of the row meet the condition.
-fn is_met_at(h: Header, rows: &[u32], id: u32, c: Constraint) -> bool
+pub fn is_met_at(h: Header, rows: &[u32], id: u32, c: Constraint) -> bool
     requires { RowInStore h (length rows.now) id }
     ensures { result ≡ rules.met (row_at h.columns id rows.now) c }
 {
@@ -93,30 +79,6 @@ fn dead_at(h: Header, rows: &[u32], id: u32) -> u32
         return 0;
     }
     1
-}
-
-// ---- conditions
-
-// The test before any condition: a row must be live.
-pub fn can_pass(test: Test, h: Header, rows: &[u32]) -> bool
-    requires { RowNeeded test h (length rows.now) }
-    ensures { result ≡ starts test h rows.now }
-{
-    match test {
-        Test::Known => true,
-        Test::Row(id) => is_live_at(h, rows, id),
-    }
-}
-
-// Tests one condition: it is known, or the row's cells meet it.
-pub fn passes_test(test: Test, h: Header, rows: &[u32], c: Constraint) -> bool
-    requires { RowNeeded test h (length rows.now) }
-    ensures { result ≡ passes test h rows.now c }
-{
-    match test {
-        Test::Known => constraints::known(c, h.columns),
-        Test::Row(id) => is_met_at(h, rows, id, c),
-    }
 }
 
 // ---- places
@@ -210,8 +172,8 @@ fn retain(h: Header, rows: &[u32], subset: Subset, c: Constraint, s: Scan, out: 
 // ---- the start
 
 // Starts a refine: refused, or over all places.
-fn open_refine(h: Header, rows: usize, subset: Subset, known: bool, output: usize) -> Scan
-    ensures { ScanStarts QueryKind.Refine h rows (subset_of subset.entry) known output result }
+pub fn open_refine(h: Header, rows: usize, subset: Subset, known: bool, output: usize) -> Scan
+    ensures { ScanStarts visits.Refine h rows (subset_of subset.entry) known output result }
 {
     let number = refine_refusal(h, rows, subset, known, output);
     if number != ACCEPTED {
@@ -222,8 +184,8 @@ fn open_refine(h: Header, rows: usize, subset: Subset, known: bool, output: usiz
 }
 
 // Starts a search for a match: refused, or over all places up to the first match.
-fn open_match(h: Header, rows: usize, subset: Subset, known: bool) -> Scan
-    ensures { (output : ℕ) → ScanStarts QueryKind.Match h rows (subset_of subset.entry) known output result }
+pub fn open_match(h: Header, rows: usize, subset: Subset, known: bool) -> Scan
+    ensures { (output : ℕ) → ScanStarts visits.Match h rows (subset_of subset.entry) known output result }
 {
     let number = match_refusal(h, rows, subset, known);
     if number != ACCEPTED {
@@ -234,7 +196,7 @@ fn open_match(h: Header, rows: usize, subset: Subset, known: bool) -> Scan
 }
 
 // Starts a page: refused, or over n places from the start place on, as far as they exist.
-fn open_page(
+pub fn open_page(
     h: Header,
     rows: usize,
     subset: Subset,
@@ -243,7 +205,7 @@ fn open_page(
     known: bool,
     output: usize,
 ) -> Scan
-    ensures { ScanStarts (QueryKind.Page start n) h rows (subset_of subset.entry) known output result }
+    ensures { ScanStarts (visits.Page start n) h rows (subset_of subset.entry) known output result }
 {
     let number = page_refusal(h, rows, subset, start, n, known, output);
     if number != ACCEPTED {
@@ -254,27 +216,9 @@ fn open_page(
     at_place(subset, ACCEPTED, start, start + places, places)
 }
 
-// Starts a query: refused, or over its places.
-pub fn begin(
-    query: QueryKind,
-    h: Header,
-    rows: usize,
-    subset: Subset,
-    known: bool,
-    output: usize,
-) -> Scan
-    ensures { ScanStarts query h rows (subset_of subset.entry) known output result }
-{
-    match query {
-        QueryKind::Refine => open_refine(h, rows, subset, known, output),
-        QueryKind::Match => open_match(h, rows, subset, known),
-        QueryKind::Page(start, n) => open_page(h, rows, subset, start, n, known, output),
-    }
-}
-
 // Refine by one: refused, or all places scanned by the condition.
 pub fn scan_one(h: Header, rows: &[u32], subset: Subset, c: Constraint, out: &mut [u32]) -> Scan
-    ensures { ScanAnswered QueryKind.Refine h rows.now (subset_of subset.entry) (c ∷ []) out.old result out.new }
+    ensures { ScanAnswered visits.Refine h rows.now (subset_of subset.entry) (c ∷ []) out.old result out.new }
 {
     let known = constraints::known(c, h.columns);
     let begun = open_refine(h, rows.len(), subset, known, out.len());

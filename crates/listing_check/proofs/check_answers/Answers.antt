@@ -1,5 +1,4 @@
 use Rattle.listing_check.proofs.Prelude.{ℕ, ap, ◌∙◌, all, known}
-use Rattle.query.proofs.LoopSteps.{all_known}
 use Rattle.listing_check.proofs.Steps.{finish}
 use Rattle.listing_check.proofs.check_answers.Goals as goal
 
@@ -8,7 +7,7 @@ loop-at-init c =
     let same = c.header_of-h.ensures in
     rw same
     (c.begin-at.ensures.begins c.args.conditions.now
-    (c.all_pass-known.ensures ∙ all_known _ _ _ ∙ ap (λ (columns : ℕ). all (known columns) c.args.conditions.now) same))
+    (c.are_known-known.ensures ∙ ap (λ (columns : ℕ). all (known columns) c.args.conditions.now) same))
 
 pub row_at-row-requires : goal.row_at-row-requires
 row_at-row-requires c = c.loop-at.invariant.due c.loop-at-test.true

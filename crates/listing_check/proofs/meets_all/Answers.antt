@@ -4,4 +4,4 @@ use Rattle.listing_check.proofs.Conditions.{row_meets}
 use Rattle.listing_check.proofs.meets_all.Goals as goal
 
 pub returns : goal.returns
-returns c = c.all_pass.ensures ∙ row_meets c.args.h c.args.cells c.args.conditions.now
+returns c = c.is_match.ensures ∙ row_meets c.args.h c.args.cells c.args.conditions.now

@@ -7,8 +7,7 @@ use Rattle.constraints.specs.declared.Constraint.{Constraint}
 use Rattle.table.specs.declared.Header.{Header}
 use Rattle.query_spec.specs.Queries.{matches, visited}
 use Rattle.query_scan.specs.declared.Scan.{Scan}
-use Rattle.query_scan.specs.declared.QueryKind.TheVariants.{Refine, Match, Page}
-use Rattle.query_scan.specs.Visits.{up_to_first, ids_visited, Counted}
+use Rattle.query_scan.specs.Visits.{Refine, Match, Page, up_to_first, ids_visited, Counted}
 use Rattle.query_scan.specs.inner.Scanning.{first_place, ScanAnswered}
 
 -- for any stores and any subset, if the query is not refused

@@ -17,37 +17,13 @@ use Rattle.query_spec.specs.declared.MatchAnswer.TheVariants.{Refused as MatchIs
 use Rattle.query_spec.specs.declared.PageAnswer.{PageAnswer}
 use Rattle.query_spec.specs.declared.PageAnswer.TheVariants.{Refused as PageIsRefused, Page as Paged}
 use Rattle.query_scan.specs.declared.Scan.{Scan}
-use Rattle.query_scan.specs.declared.Test.{Test}
-use Rattle.query_scan.specs.declared.Test.TheVariants.{Known, Row}
-use Rattle.query_scan.specs.declared.QueryKind.{QueryKind}
-use Rattle.query_scan.specs.declared.QueryKind.TheVariants.{Refine, Match, Page}
 use Rattle.query_spec.specs.Queries.{refine_refusal, match_refusal, page_refusal, matches, dead_among, visited}
 use Rattle.query_spec.specs.inner.Tests.{Queryable}
-use Rattle.query_scan.specs.Visits.{ids_visited, Counted}
-
--- ---- tests of a list of conditions
+use Rattle.query_scan.specs.Visits.{QueryKind, Refine, Match, Page, ids_visited, Counted}
 
 -- a row is within the store, and has a first cell
 abbrev pub RowInStore : Header → ℕ → ℕ → Type 0
 RowInStore h rows id = (0 < h.columns) × (id * h.columns + h.columns ≤ rows)
-
-abbrev pub RowNeeded : Test → Header → ℕ → Type 0
-RowNeeded Known h rows = Unit {0}
-RowNeeded (Row id) h rows = RowInStore h rows id
-
--- the test before any condition: a row must be live
-unfoldable pub starts : Test → Header → List ℕ → Bool
-starts Known h rows = true
-starts (Row id) h rows = is_live (row_at h.columns id rows)
-
--- a condition is known, or the row's cells meet it
-unfoldable pub passes : Test → Header → List ℕ → Constraint → Bool
-passes Known h rows c = known h.columns c
-passes (Row id) h rows c = met (row_at h.columns id rows) c
-
--- all conditions are known, or the row is live and meets them
-unfoldable pub all_pass : Test → Header → List ℕ → List Constraint → Bool
-all_pass test h rows conditions = starts test h rows && all (passes test h rows) conditions
 
 -- ---- what is visited
 
