@@ -1,13 +1,15 @@
 -- The encoding of headers, arguments and answers as fixed numbers of words, and the contract of a C function: the library's own
 -- contract, for an answer whose refusal number is returned and whose encoding is stored. Assumes nothing.
-use Rattle.std.specs.Prelude.{ℕ, ◌≡◌, Bool, true, false, cond, not, List, [], ◌∷◌, drop, get_or, leb, eqb, Option as StdOption}
+use Rattle.refusals.specs.declared.Refusal.{Refusal}
+use Rattle.std.specs.Prelude.{ℕ, ◌≡◌, Bool, true, false, cond, not, List, [], ◌∷◌, drop, get_or, leb, eqb, Option as Optional, Some, None, Result, Ok, Err}
 use Rattle.std.specs.Bool.{then_some}
 use Rattle.std.proofs.Math.Option
 use Rattle.std.proofs.Math.Option.{Option, none, some, Option-elim}
-use Rattle.refusals.specs.Refusals.{Reply, refused, accepted, if_accepted}
+use Rattle.refusals.specs.Refusals.{Reply, refused, accepted, if_accepted, number}
 use Rattle.offsets.specs.Subsets.{Subset, range, list}
-use Rattle.offsets.specs.declared.SubsetAnswer.{SubsetAnswer}
-use Rattle.offsets.specs.declared.SubsetAnswer.TheVariants.{Refused as SubsetRefused, Range as SubsetRange, List as SubsetList}
+use Rattle.offsets.specs.declared.SubsetForm.{SubsetForm}
+use Rattle.offsets.specs.declared.SubsetForm.TheVariants.{Range as SubsetRange, List as SubsetList}
+use Rattle.sort_entries.specs.declared.Range.{Range}
 use Rattle.plain_table.specs.Staged.{opening_in}
 use Rattle.table.specs.declared.Header.{Header}
 use Rattle.table.specs.declared.Merge.{Merge}
@@ -21,7 +23,7 @@ use Rattle.query_spec.specs.Queries.{PageResult}
 -- (`condition_in`).
 
 -- The largest sort value is two words: a flag, 0 or 1, and the value, which is not read if the flag is 0.
-unfoldable pub decode_largest : ℕ → ℕ → StdOption ℕ
+unfoldable pub decode_largest : ℕ → ℕ → Optional ℕ
 decode_largest flag value = then_some (eqb flag 1) value
 
 -- "header numbers outside their bounds": a flag that is neither 0 nor 1 makes a header without columns, which is refused with 1
@@ -74,6 +76,11 @@ encode_bool b = bit b ∷ []
 unfoldable pub encode_number : ℕ → List ℕ
 encode_number n = n ∷ []
 
+-- a range that may be absent, as a subset
+unfoldable pub range_of : Optional Range → Option Subset
+range_of None = none
+range_of (Some r) = some (range r.start r.end)
+
 -- 1 and a range's start and end, or all 0 if there is none. Answers with this encoding are never lists.
 unfoldable pub encode_range : Option Subset → List ℕ
 encode_range none = 0 ∷ 0 ∷ 0 ∷ []
@@ -85,10 +92,10 @@ encode_version v = v.generation ∷ v.rows ∷ []
 
 -- A subset as an answer has the same layout as an argument: a range, or the list of the first ids of the output, whose end is their
 -- number.
-unfoldable pub subset_head_view : SubsetAnswer → Reply SubsetHead
-subset_head_view (SubsetRefused n) = refused n
-subset_head_view (SubsetRange start end) = accepted (record { dense = true; start = start; end = end })
-subset_head_view (SubsetList count) = accepted (record { dense = false; start = 0; end = count })
+unfoldable pub subset_head_view : Result SubsetForm Refusal → Reply SubsetHead
+subset_head_view (Err refusal) = refused (number refusal)
+subset_head_view (Ok (SubsetRange start end)) = accepted (record { dense = true; start = start; end = end })
+subset_head_view (Ok (SubsetList count)) = accepted (record { dense = false; start = 0; end = count })
 
 unfoldable pub encode_subset : SubsetHead → List ℕ
 encode_subset s = bit s.dense ∷ s.start ∷ s.end ∷ []

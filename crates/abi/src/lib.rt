@@ -4,21 +4,20 @@
 // no plainer.
 #![tactic(auto)]
 
-ghost use Rattle.std.specs.Prelude.{◌≡◌};
+ghost use Rattle.std.specs.Prelude.{◌≡◌, IfOk, IfErr};
 ghost use Rattle.constraints.specs.Encoding.{condition_in};
-ghost use Rattle.table.specs.Numbers.{largest_view, table_view, merge_view, row_view, cell_view, range_view, version_view, sound_view};
+ghost use Rattle.refusals.specs.Refusals.{number, answer_view};
+ghost use Rattle.table.specs.Numbers.{largest_view};
 ghost use Rattle.offsets.specs.Answers.{lent_subset};
-ghost use Rattle.query_spec.specs.Queries.{match_view, page_view};
-ghost use Rattle.abi.specs.Encoding.{decode_largest, decode_columns, decode_header, subset_in, decode_subset, bit, encode_header, encode_merge, encode_bool, encode_option, encode_range, encode_version, subset_head_view, encode_subset, encode_page, Stored};
+ghost use Rattle.query_spec.specs.Queries.{page_view};
+ghost use Rattle.abi.specs.Encoding.{decode_largest, decode_columns, decode_header, subset_in, decode_subset, encode_header, encode_merge, encode_bool, encode_option, range_of, encode_range, encode_version, subset_head_view, encode_subset, encode_page, Stored};
 
 use constraints::Constraint;
-use offsets::{SubsetAnswer, SubsetRef};
-use query_spec::{MatchAnswer, PageAnswer};
-use refusals::ACCEPTED;
-use table::{
-    CellAnswer, Header, MergeAnswer, RangeAnswer, RowAnswer, SoundAnswer, TableAnswer,
-    VersionAnswer,
-};
+use offsets::{SubsetForm, SubsetRef};
+use query_spec::Page;
+use refusals::{ACCEPTED, Refusal};
+use sort_entries::Range;
+use table::{Header, Merge, Version};
 
 pub mod places; // places.rt: the places of a header's and of an opening's words
 
@@ -81,26 +80,41 @@ pub fn decode_subset<'a>(words: &[u32; 3], ids: &'a [u32]) -> SubsetRef<'a>
 
 // ---- answers
 
-pub fn encode_bool(answer: bool) -> u32
-    ensures { result ≡ bit answer }
+pub fn encode_bool(answer: bool) -> [u32; 1]
+    ensures { result ≡ encode_bool answer }
 {
-    u32::from(answer)
+    [u32::from(answer)]
 }
 
-fn encode_largest(largest: Option<u32>) -> [u32; 2]
-    ensures { result ≡ encode_option (largest_view largest) }
+// 1 and the number, or 0 and 0 if there is none.
+pub fn encode_option(found: Option<u32>) -> [u32; 2]
+    ensures { result ≡ encode_option (largest_view found) }
 {
-    match largest {
+    match found {
         None => [0, 0],
-        Some(value) => [1, value],
+        Some(number) => [1, number],
     }
+}
+
+pub fn encode_range(range: Option<Range>) -> [u32; 3]
+    ensures { result ≡ encode_range (range_of range) }
+{
+    match range {
+        None => [0, 0, 0],
+        Some(Range { start, end }) => [1, start, end],
+    }
+}
+
+pub fn encode_version(version: Version) -> [u32; 2]
+    ensures { result ≡ encode_version version }
+{
+    [version.generation, version.rows]
 }
 
 pub fn encode_header(h: Header) -> [u32; 12]
     ensures { result ≡ encode_header h }
 {
-    let largest = h.largest;
-    let words = encode_largest(largest);
+    let words = encode_option(h.largest);
     [
         h.columns,
         h.keys,
@@ -117,137 +131,59 @@ pub fn encode_header(h: Header) -> [u32; 12]
     ]
 }
 
-pub fn store_table(answer: TableAnswer, header: &mut [u32; 12]) -> u32
-    ensures { Stored table_view encode_header answer header.old result header.new }
+pub fn encode_merge(m: Merge) -> [u32; 5]
+    ensures { result ≡ encode_merge m }
+{
+    [m.status, m.place, u32::from(m.added), m.kept, m.dropped]
+}
+
+// Stores the encoding of an answer and returns 0. If the answer is refused, returns the refusal's number and stores nothing.
+pub fn store<T, W: Copy, F: FnOnce(T) -> W>(
+    answer: Result<T, Refusal>,
+    words: &mut W,
+    encode: F,
+) -> u32
+    requires { F.IsAlwaysCallable encode }
+    ensures refused { IfErr answer (λ refusal. (result ≡ number refusal) × (words.new ≡ words.old)) }
+    ensures accepted { IfOk answer (λ value. (result ≡ 0) × F.post encode value words.new) }
 {
     match answer {
-        TableAnswer::Refused(number) => number,
-        TableAnswer::Table(h) => {
-            *header = encode_header(h);
+        Err(refusal) => refusal.into(),
+        Ok(value) => {
+            *words = encode(value);
             ACCEPTED
         }
     }
 }
 
-pub fn store_merge(answer: MergeAnswer, header: &mut [u32; 12], merged: &mut [u32; 5]) -> u32
-    ensures { Stored merge_view (λ m. encode_header m.header) answer header.old result header.new × Stored merge_view encode_merge answer merged.old result merged.new }
-{
-    match answer {
-        MergeAnswer::Refused(number) => number,
-        MergeAnswer::Merged(m) => {
-            *header = encode_header(m.header);
-            *merged = [m.status, m.place, encode_bool(m.added), m.kept, m.dropped];
-            ACCEPTED
-        }
-    }
-}
-
-pub fn store_row(answer: RowAnswer, row: &mut [u32; 2]) -> u32
-    ensures { Stored row_view encode_option answer row.old result row.new }
-{
-    match answer {
-        RowAnswer::Refused(number) => number,
-        RowAnswer::None => {
-            *row = [0, 0];
-            ACCEPTED
-        }
-        RowAnswer::Row(number) => {
-            *row = [1, number];
-            ACCEPTED
-        }
-    }
-}
-
-pub fn store_cell(answer: CellAnswer, cell: &mut [u32; 2]) -> u32
-    ensures { Stored cell_view encode_option answer cell.old result cell.new }
-{
-    match answer {
-        CellAnswer::Refused(number) => number,
-        CellAnswer::None => {
-            *cell = [0, 0];
-            ACCEPTED
-        }
-        CellAnswer::Cell(value) => {
-            *cell = [1, value];
-            ACCEPTED
-        }
-    }
-}
-
-pub fn store_range(answer: RangeAnswer, range: &mut [u32; 3]) -> u32
-    ensures { Stored range_view encode_range answer range.old result range.new }
-{
-    match answer {
-        RangeAnswer::Refused(number) => number,
-        RangeAnswer::None => {
-            *range = [0, 0, 0];
-            ACCEPTED
-        }
-        RangeAnswer::Range(start, end) => {
-            *range = [1, start, end];
-            ACCEPTED
-        }
-    }
-}
-
-pub fn store_version(answer: VersionAnswer, version: &mut [u32; 2]) -> u32
-    ensures { Stored version_view encode_version answer version.old result version.new }
-{
-    match answer {
-        VersionAnswer::Refused(number) => number,
-        VersionAnswer::Version(v) => {
-            *version = [v.generation, v.rows];
-            ACCEPTED
-        }
-    }
-}
-
-pub fn store_sound(answer: SoundAnswer, sound: &mut [u32; 1]) -> u32
-    ensures { Stored sound_view encode_bool answer sound.old result sound.new }
-{
-    match answer {
-        SoundAnswer::Refused(number) => number,
-        SoundAnswer::Sound(yes) => {
-            *sound = [encode_bool(yes)];
-            ACCEPTED
-        }
-    }
-}
-
-pub fn store_subset(answer: SubsetAnswer, subset: &mut [u32; 3]) -> u32
+pub fn store_subset(answer: Result<SubsetForm, Refusal>, subset: &mut [u32; 3]) -> u32
     ensures { Stored subset_head_view encode_subset answer subset.old result subset.new }
 {
     match answer {
-        SubsetAnswer::Refused(number) => number,
-        SubsetAnswer::Range(start, end) => {
+        Err(refusal) => refusal.into(),
+        Ok(SubsetForm::Range(start, end)) => {
             *subset = [1, start, end];
             ACCEPTED
         }
-        SubsetAnswer::List(count) => {
+        Ok(SubsetForm::List(count)) => {
             *subset = [0, 0, count];
             ACCEPTED
         }
     }
 }
 
-pub fn store_match(answer: MatchAnswer, matched: &mut [u32; 1]) -> u32
-    ensures { Stored match_view encode_bool answer matched.old result matched.new }
+pub fn store_match(answer: Result<bool, Refusal>, matched: &mut [u32; 1]) -> u32
+    ensures { Stored answer_view encode_bool answer matched.old result matched.new }
 {
-    match answer {
-        MatchAnswer::Refused(number) => number,
-        MatchAnswer::Match(yes) => {
-            *matched = [encode_bool(yes)];
-            ACCEPTED
-        }
-    }
+    store(answer, matched, encode_bool)
 }
 
-pub fn store_page(answer: PageAnswer, page: &mut [u32; 4]) -> u32
+pub fn store_page(answer: Result<Page, Refusal>, page: &mut [u32; 4]) -> u32
     ensures { Stored page_view encode_page answer page.old result page.new }
 {
     match answer {
-        PageAnswer::Refused(number) => number,
-        PageAnswer::Page(p) => {
+        Err(refusal) => refusal.into(),
+        Ok(p) => {
             let next = p.next;
             match next {
                 None => {

@@ -1,15 +1,15 @@
 // The functions of `abi_image`, exported to C. A slice is passed as a pointer and a length, a fixed array as a pointer alone.
 #![tactic(auto)]
 
-ghost use Rattle.table.specs.Numbers.{table_view};
+ghost use Rattle.refusals.specs.Refusals.{answer_view};
 ghost use Rattle.table.specs.Outcomes.{body};
-ghost use Rattle.image_spec.specs.Outcomes.{length_view, ImageSized, ImageWritten, ImageChecked, ImageRead, TextRead};
+ghost use Rattle.image_spec.specs.Outcomes.{ImageSized, ImageWritten, ImageChecked, ImageRead, TextRead};
 ghost use Rattle.abi.specs.Encoding.{decode_header, encode_header, encode_number, Answers};
 
 // Stores how many words the image of a table has, with a text of so many bytes. Refuses with 1 or 21.
 #[unsafe(no_mangle)]
 pub extern "C" fn mouldgrey_image_size(header: &[u32; 12], text: usize, words: &mut [u64; 1]) -> u32
-    ensures { Answers (λ answer. ImageSized (decode_header header.now) text answer) length_view encode_number words.old result words.new }
+    ensures { Answers (λ answer. ImageSized (decode_header header.now) text answer) answer_view encode_number words.old result words.new }
 {
     abi_image::mouldgrey_image_size(header, text, words)
 }
@@ -25,7 +25,7 @@ pub extern "C" fn mouldgrey_write_image(
     image: &mut [u32],
     words: &mut [u64; 1],
 ) -> u32
-    ensures { Answers (λ answer. ImageWritten (decode_header header.now) rows.now sorts.now pending.now text.now image.old answer image.new) length_view encode_number words.old result words.new }
+    ensures { Answers (λ answer. ImageWritten (decode_header header.now) rows.now sorts.now pending.now text.now image.old answer image.new) answer_view encode_number words.old result words.new }
 {
     abi_image::mouldgrey_write_image(header, rows, sorts, pending, text, image, words)
 }
@@ -33,7 +33,7 @@ pub extern "C" fn mouldgrey_write_image(
 // Stores the header of an image. Refuses with 19 words that are no image, with 20 an image of a table that is not sound.
 #[unsafe(no_mangle)]
 pub extern "C" fn mouldgrey_check_image(image: &[u32], header: &mut [u32; 12]) -> u32
-    ensures { Answers (λ answer. ImageChecked image.now answer) table_view encode_header header.old result header.new }
+    ensures { Answers (λ answer. ImageChecked image.now answer) answer_view encode_header header.old result header.new }
 {
     abi_image::mouldgrey_check_image(image, header)
 }
@@ -50,7 +50,7 @@ pub extern "C" fn mouldgrey_read_image(
     sorts: &mut [u32],
     pending: &mut [u32],
 ) -> u32
-    ensures { Answers (λ answer. ImageRead image.now capacity (body rows.old keys.old sorts.old) pending.old answer (body rows.new keys.new sorts.new) pending.new) table_view encode_header header.old result header.new }
+    ensures { Answers (λ answer. ImageRead image.now capacity (body rows.old keys.old sorts.old) pending.old answer (body rows.new keys.new sorts.new) pending.new) answer_view encode_header header.old result header.new }
 {
     abi_image::mouldgrey_read_image(image, capacity, header, rows, keys, sorts, pending)
 }
@@ -62,7 +62,7 @@ pub extern "C" fn mouldgrey_read_image_text(
     text: &mut [u8],
     bytes: &mut [u64; 1],
 ) -> u32
-    ensures { Answers (λ answer. TextRead image.now text.old answer text.new) length_view encode_number bytes.old result bytes.new }
+    ensures { Answers (λ answer. TextRead image.now text.old answer text.new) answer_view encode_number bytes.old result bytes.new }
 {
     abi_image::mouldgrey_read_image_text(image, text, bytes)
 }

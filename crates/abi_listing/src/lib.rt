@@ -2,18 +2,19 @@
 #![tactic(auto)]
 
 ghost use Rattle.std.specs.Prelude.{◌≡◌, true, false, not, eqb};
-ghost use Rattle.listing_spec.specs.Listings.{listing_view, numbered_view, text_view, ListingRead, ListingConverted};
-ghost use Rattle.listing_check.specs.Answers.{verdict_view, check_view, AnswersChecked};
+ghost use Rattle.refusals.specs.Refusals.{answer_view};
+ghost use Rattle.listing_spec.specs.Listings.{listing_view, numbered_view, ListingRead, ListingConverted};
+ghost use Rattle.listing_check.specs.Answers.{check_view, AnswersChecked};
 ghost use Rattle.listing_write.specs.Writing.{ListingWritten};
 ghost use Rattle.abi.specs.Encoding.{decode_header, encode_number, Stored, Answers};
 ghost use Rattle.abi_listing.specs.Encoding.{encode_finding};
 
 use abi::decode_header;
 use constraints::Constraint;
-use listing_check::{CheckAnswer, Verdict, check_answers};
-use listing_spec::{ListingAnswer, NumberedAnswer, TextAnswer};
+use listing_check::{Mistake, check_answers};
+use listing_spec::{ListingHead, NumberedHead};
 use listing_write::write_listing;
-use refusals::ACCEPTED;
+use refusals::{ACCEPTED, Refusal};
 
 // Kinds of verdicts.
 const RIGHT: u64 = 0;
@@ -22,24 +23,24 @@ const MISPLACED: u64 = 1;
 
 const WRONG: u64 = 2;
 
-fn store_listing(answer: ListingAnswer, head: &mut [u32; 6]) -> u32
+fn store_listing(answer: Result<ListingHead, Refusal>, head: &mut [u32; 6]) -> u32
     ensures { Stored listing_view (λ numbers. numbers) answer head.old result head.new }
 {
     match answer {
-        ListingAnswer::Refused(number) => number,
-        ListingAnswer::Listing(h) => {
+        Err(refusal) => refusal.into(),
+        Ok(h) => {
             *head = [h.columns, h.keys, h.sort, h.rule, h.generation, h.listed];
             ACCEPTED
         }
     }
 }
 
-fn store_numbered(answer: NumberedAnswer, head: &mut [u32; 7]) -> u32
+fn store_numbered(answer: Result<NumberedHead, Refusal>, head: &mut [u32; 7]) -> u32
     ensures { Stored numbered_view (λ numbers. numbers) answer head.old result head.new }
 {
     match answer {
-        NumberedAnswer::Refused(number) => number,
-        NumberedAnswer::Listing(h) => {
+        Err(refusal) => refusal.into(),
+        Ok(h) => {
             *head = [
                 h.columns,
                 h.keys,
@@ -54,37 +55,39 @@ fn store_numbered(answer: NumberedAnswer, head: &mut [u32; 7]) -> u32
     }
 }
 
-fn store_length(answer: TextAnswer, length: &mut [u64; 1]) -> u32
-    ensures { Stored text_view encode_number answer length.old result length.new }
+fn store_length(answer: Result<usize, Refusal>, length: &mut [u64; 1]) -> u32
+    ensures { Stored answer_view encode_number answer length.old result length.new }
 {
     match answer {
-        TextAnswer::Refused(number) => number,
-        TextAnswer::Written(bytes) => {
+        Err(refusal) => refusal.into(),
+        Ok(bytes) => {
             *length = [bytes as u64];
             ACCEPTED
         }
     }
 }
 
-fn encode_verdict(verdict: Verdict) -> [u64; 2]
-    ensures { result ≡ encode_finding (verdict_view verdict) }
-{
-    match verdict {
-        Verdict::Right => [RIGHT, 0],
-        Verdict::Misplaced(place) => [MISPLACED, place as u64],
-        Verdict::Wrong(number) => [WRONG, number as u64],
-    }
-}
-
-fn store_check(answer: CheckAnswer, verdict: &mut [u64; 2]) -> u32
+fn store_check(answer: Result<Option<Mistake>, Refusal>, verdict: &mut [u64; 2]) -> u32
     ensures { Stored check_view encode_finding answer verdict.old result verdict.new }
 {
     match answer {
-        CheckAnswer::Refused(number) => number,
-        CheckAnswer::Checked(found) => {
-            *verdict = encode_verdict(found);
-            ACCEPTED
-        }
+        Err(refusal) => refusal.into(),
+        Ok(found) => match found {
+            None => {
+                *verdict = [RIGHT, 0];
+                ACCEPTED
+            }
+            Some(mistake) => match mistake {
+                Mistake::Misplaced(place) => {
+                    *verdict = [MISPLACED, place as u64];
+                    ACCEPTED
+                }
+                Mistake::Wrong(number) => {
+                    *verdict = [WRONG, u64::from(number)];
+                    ACCEPTED
+                }
+            },
+        },
     }
 }
 
@@ -96,7 +99,7 @@ pub fn mouldgrey_write_listing(
     output: &mut [u8],
     length: &mut [u64; 1],
 ) -> u32
-    ensures { Answers (λ answer. ListingWritten (not (eqb numbered 0)) (decode_header header.now) rows.now output.old answer output.new) text_view encode_number length.old result length.new }
+    ensures { Answers (λ answer. ListingWritten (not (eqb numbered 0)) (decode_header header.now) rows.now output.old answer output.new) answer_view encode_number length.old result length.new }
 {
     let h = decode_header(header);
     let answer = write_listing(h, rows, numbered != 0, output);
@@ -121,7 +124,7 @@ pub fn mouldgrey_read_numbered(text: &[u8], output: &mut [u32], head: &mut [u32;
 
 // From the old form to the new. The answer is how many bytes were written.
 pub fn mouldgrey_to_numbered(text: &[u8], output: &mut [u8], length: &mut [u64; 1]) -> u32
-    ensures { Answers (λ answer. ListingConverted false text.now output.old answer output.new) text_view encode_number length.old result length.new }
+    ensures { Answers (λ answer. ListingConverted false text.now output.old answer output.new) answer_view encode_number length.old result length.new }
 {
     let answer = listing_read::to_numbered(text, output);
     store_length(answer, length)
@@ -129,7 +132,7 @@ pub fn mouldgrey_to_numbered(text: &[u8], output: &mut [u8], length: &mut [u64; 
 
 // From the new form to the old. The answer is how many bytes were written.
 pub fn mouldgrey_from_numbered(text: &[u8], output: &mut [u8], length: &mut [u64; 1]) -> u32
-    ensures { Answers (λ answer. ListingConverted true text.now output.old answer output.new) text_view encode_number length.old result length.new }
+    ensures { Answers (λ answer. ListingConverted true text.now output.old answer output.new) answer_view encode_number length.old result length.new }
 {
     let answer = listing_read::from_numbered(text, output);
     store_length(answer, length)

@@ -2,7 +2,8 @@
 #![tactic(auto)]
 
 ghost use Rattle.std.specs.Prelude.{true, false, not, eqb};
-ghost use Rattle.listing_spec.specs.Listings.{listing_view, numbered_view, text_view, ListingRead, ListingConverted};
+ghost use Rattle.refusals.specs.Refusals.{answer_view};
+ghost use Rattle.listing_spec.specs.Listings.{listing_view, numbered_view, ListingRead, ListingConverted};
 ghost use Rattle.listing_check.specs.Answers.{check_view, AnswersChecked};
 ghost use Rattle.listing_write.specs.Writing.{ListingWritten};
 ghost use Rattle.abi.specs.Encoding.{decode_header, encode_number, Answers};
@@ -19,7 +20,7 @@ pub extern "C" fn mouldgrey_write_listing(
     output: &mut [u8],
     length: &mut [u64; 1],
 ) -> u32
-    ensures { Answers (λ answer. ListingWritten (not (eqb numbered 0)) (decode_header header.now) rows.now output.old answer output.new) text_view encode_number length.old result length.new }
+    ensures { Answers (λ answer. ListingWritten (not (eqb numbered 0)) (decode_header header.now) rows.now output.old answer output.new) answer_view encode_number length.old result length.new }
 {
     abi_listing::mouldgrey_write_listing(header, rows, numbered, output, length)
 }
@@ -55,7 +56,7 @@ pub extern "C" fn mouldgrey_to_numbered(
     output: &mut [u8],
     length: &mut [u64; 1],
 ) -> u32
-    ensures { Answers (λ answer. ListingConverted false text.now output.old answer output.new) text_view encode_number length.old result length.new }
+    ensures { Answers (λ answer. ListingConverted false text.now output.old answer output.new) answer_view encode_number length.old result length.new }
 {
     abi_listing::mouldgrey_to_numbered(text, output, length)
 }
@@ -67,7 +68,7 @@ pub extern "C" fn mouldgrey_from_numbered(
     output: &mut [u8],
     length: &mut [u64; 1],
 ) -> u32
-    ensures { Answers (λ answer. ListingConverted true text.now output.old answer output.new) text_view encode_number length.old result length.new }
+    ensures { Answers (λ answer. ListingConverted true text.now output.old answer output.new) answer_view encode_number length.old result length.new }
 {
     abi_listing::mouldgrey_from_numbered(text, output, length)
 }

@@ -1,27 +1,21 @@
 // The precedence check, for C (`abi_precedence_c`).
 #![tactic(auto)]
 
-ghost use Rattle.precedence.specs.Precedence.{precedence_view, PrecedenceChecked};
-ghost use Rattle.abi.specs.Encoding.{decode_header, Stored, Answers};
-ghost use Rattle.abi_precedence.specs.Encoding.{encode_failure};
+ghost use Rattle.std.specs.Prelude.{◌≡◌};
+ghost use Rattle.refusals.specs.Refusals.{found_view};
+ghost use Rattle.precedence.specs.Precedence.{PrecedenceChecked};
+ghost use Rattle.abi.specs.Encoding.{decode_header, Answers};
+ghost use Rattle.abi_precedence.specs.Encoding.{failure_of, encode_failure};
 
-use abi::decode_header;
-use precedence::PrecedenceAnswer;
-use refusals::ACCEPTED;
+use abi::{decode_header, store};
+use precedence::Failure;
 
-fn store_failure(answer: PrecedenceAnswer, failure: &mut [u32; 3]) -> u32
-    ensures { Stored precedence_view encode_failure answer failure.old result failure.new }
+fn encode_failure(failure: Option<Failure>) -> [u32; 3]
+    ensures { result ≡ encode_failure (failure_of failure) }
 {
-    match answer {
-        PrecedenceAnswer::Refused(number) => number,
-        PrecedenceAnswer::Met => {
-            *failure = [0, 0, 0];
-            ACCEPTED
-        }
-        PrecedenceAnswer::Fails(row, place) => {
-            *failure = [1, row, place];
-            ACCEPTED
-        }
+    match failure {
+        None => [0, 0, 0],
+        Some(fails) => [1, fails.row, fails.place],
     }
 }
 
@@ -34,8 +28,8 @@ pub fn mouldgrey_check_precedence(
     pairs: &[u32],
     failure: &mut [u32; 3],
 ) -> u32
-    ensures { Answers (λ answer. PrecedenceChecked (decode_header header.now) rows.now keys.now column pairs.now answer) precedence_view encode_failure failure.old result failure.new }
+    ensures { Answers (λ answer. PrecedenceChecked (decode_header header.now) rows.now keys.now column pairs.now answer) found_view encode_failure failure.old result failure.new }
 {
     let answer = precedence::check_precedence(decode_header(header), rows, keys, column, pairs);
-    store_failure(answer, failure)
+    store(answer, failure, encode_failure)
 }

@@ -2,7 +2,8 @@
 // where an object calls it once.
 #![tactic(auto)]
 
-ghost use Rattle.precedence.specs.Precedence.{precedence_view, PrecedenceChecked};
+ghost use Rattle.refusals.specs.Refusals.{found_view};
+ghost use Rattle.precedence.specs.Precedence.{PrecedenceChecked};
 ghost use Rattle.abi.specs.Encoding.{decode_header, Answers};
 ghost use Rattle.abi_precedence.specs.Encoding.{encode_failure};
 
@@ -16,7 +17,7 @@ pub extern "C" fn mouldgrey_check_precedence(
     pairs: &[u32],
     failure: &mut [u32; 3],
 ) -> u32
-    ensures { Answers (λ answer. PrecedenceChecked (decode_header header.now) rows.now keys.now column pairs.now answer) precedence_view encode_failure failure.old result failure.new }
+    ensures { Answers (λ answer. PrecedenceChecked (decode_header header.now) rows.now keys.now column pairs.now answer) found_view encode_failure failure.old result failure.new }
 {
     abi_precedence::mouldgrey_check_precedence(header, rows, keys, column, pairs, failure)
 }

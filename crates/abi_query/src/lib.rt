@@ -3,7 +3,8 @@
 // a struct of three words, so a list of them is lent without a conversion. Each function decodes, queries and stores.
 #![tactic(auto)]
 
-ghost use Rattle.query_spec.specs.Queries.{match_view, page_view, Matched, PageRead, RefinedOne, RefinedList};
+ghost use Rattle.refusals.specs.Refusals.{answer_view};
+ghost use Rattle.query_spec.specs.Queries.{page_view, Matched, PageRead, RefinedOne, RefinedList};
 ghost use Rattle.abi.specs.Encoding.{decode_header, subset_in, decode_subset, encode_bool, subset_head_view, encode_subset, encode_page, Answers};
 ghost use Rattle.constraints.specs.Encoding.{condition_in};
 
@@ -56,7 +57,7 @@ pub fn mouldgrey_contains_match(
     conditions: &[Constraint],
     matched: &mut [u32; 1],
 ) -> u32
-    ensures { Answers (Matched (decode_header header.now) rows.now (subset_in (decode_subset subset.now) ids.now) conditions.now) match_view encode_bool matched.old result matched.new }
+    ensures { Answers (Matched (decode_header header.now) rows.now (subset_in (decode_subset subset.now) ids.now) conditions.now) answer_view encode_bool matched.old result matched.new }
 {
     let h = decode_header(header);
     let lent = decode_subset(subset, ids);

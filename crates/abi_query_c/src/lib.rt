@@ -1,7 +1,8 @@
 // The functions of `abi_query`, exported to C. A slice is passed as a pointer and a length, a fixed array as a pointer alone.
 #![tactic(auto)]
 
-ghost use Rattle.query_spec.specs.Queries.{match_view, page_view, Matched, PageRead, RefinedOne, RefinedList};
+ghost use Rattle.refusals.specs.Refusals.{answer_view};
+ghost use Rattle.query_spec.specs.Queries.{page_view, Matched, PageRead, RefinedOne, RefinedList};
 ghost use Rattle.abi.specs.Encoding.{decode_header, subset_in, decode_subset, encode_bool, subset_head_view, encode_subset, encode_page, Answers};
 ghost use Rattle.constraints.specs.Encoding.{condition_in};
 
@@ -49,7 +50,7 @@ pub extern "C" fn mouldgrey_contains_match(
     conditions: &[Constraint],
     matched: &mut [u32; 1],
 ) -> u32
-    ensures { Answers (Matched (decode_header header.now) rows.now (subset_in (decode_subset subset.now) ids.now) conditions.now) match_view encode_bool matched.old result matched.new }
+    ensures { Answers (Matched (decode_header header.now) rows.now (subset_in (decode_subset subset.now) ids.now) conditions.now) answer_view encode_bool matched.old result matched.new }
 {
     abi_query::mouldgrey_contains_match(header, rows, subset, ids, conditions, matched)
 }

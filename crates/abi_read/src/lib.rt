@@ -5,13 +5,14 @@ ghost use Rattle.std.specs.Prelude.{ℕ, List, length, get_or};
 ghost use Rattle.constraints.specs.Encoding.{condition_in};
 ghost use Rattle.offsets.specs.Subsets.{range};
 ghost use Rattle.offsets.specs.Answers.{intersect_reply, Answered};
-ghost use Rattle.table.specs.Numbers.{cell_view, range_view, version_view};
+ghost use Rattle.refusals.specs.Refusals.{found_view, answer_view};
+ghost use Rattle.table.specs.Numbers.{range_view};
 ghost use Rattle.table.specs.Outcomes.{CellRead, RangeRead, RowsSince, RowsSinceVersion, VersionRead};
 ghost use Rattle.abi.specs.Encoding.{decode_header, subset_in, decode_subset, encode_option, encode_range, encode_version, subset_head_view, encode_subset, Answers};
 
 use abi::{
-    decode_condition, decode_header, decode_subset, store_cell, store_range, store_subset,
-    store_version,
+    decode_condition, decode_header, decode_subset, encode_option, encode_range, encode_version,
+    store, store_subset,
 };
 use offsets::Subset;
 
@@ -24,10 +25,10 @@ pub fn mouldgrey_get_row_column(
     column: u32,
     cell: &mut [u32; 2],
 ) -> u32
-    ensures { Answers (λ answer. CellRead (decode_header header.now) rows.now keys.now key.now column answer) cell_view encode_option cell.old result cell.new }
+    ensures { Answers (λ answer. CellRead (decode_header header.now) rows.now keys.now key.now column answer) found_view encode_option cell.old result cell.new }
 {
     let answer = table_read::get_row_column(decode_header(header), rows, keys, key, column);
-    store_cell(answer, cell)
+    store(answer, cell, encode_option)
 }
 
 // The condition is three words: kind, column, value. The answer is three words: found, start, end.
@@ -41,7 +42,7 @@ pub fn mouldgrey_fast_subset(
 {
     let h = decode_header(header);
     let answer = table_read::fast_subset(h, sorts, decode_condition(condition));
-    store_range(answer, range)
+    store(answer, range, encode_range)
 }
 
 // The answer is three words: found, start, end.
@@ -49,7 +50,7 @@ pub fn mouldgrey_updates_since(header: &[u32; 12], row: u32, range: &mut [u32; 3
     ensures { Answers (λ answer. RowsSince (decode_header header.now) row answer) range_view encode_range range.old result range.new }
 {
     let answer = table_read::updates_since(decode_header(header), row);
-    store_range(answer, range)
+    store(answer, range, encode_range)
 }
 
 // The version is two words: generation, rows. The answer is three words: found, start, end.
@@ -61,15 +62,15 @@ pub fn mouldgrey_rows_since_version(
     ensures { Answers (λ answer. RowsSinceVersion (decode_header header.now) (get_or version.now 0 0) (get_or version.now 1 0) answer) range_view encode_range range.old result range.new }
 {
     let answer = table_read::rows_since_version(decode_header(header), version[0], version[1]);
-    store_range(answer, range)
+    store(answer, range, encode_range)
 }
 
 // The answer is two words: generation, rows.
 pub fn mouldgrey_table_version(header: &[u32; 12], version: &mut [u32; 2]) -> u32
-    ensures { Answers (λ answer. VersionRead (decode_header header.now) answer) version_view encode_version version.old result version.new }
+    ensures { Answers (λ answer. VersionRead (decode_header header.now) answer) answer_view encode_version version.old result version.new }
 {
     let answer = table_read::version(decode_header(header));
-    store_version(answer, version)
+    store(answer, version, encode_version)
 }
 
 // The common ids of two subsets. A subset is three words, as an argument and as an answer: dense, start, end.

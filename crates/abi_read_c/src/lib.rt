@@ -5,7 +5,8 @@ ghost use Rattle.std.specs.Prelude.{ℕ, List, length, get_or};
 ghost use Rattle.constraints.specs.Encoding.{condition_in};
 ghost use Rattle.offsets.specs.Subsets.{range};
 ghost use Rattle.offsets.specs.Answers.{intersect_reply, Answered};
-ghost use Rattle.table.specs.Numbers.{cell_view, range_view, version_view};
+ghost use Rattle.refusals.specs.Refusals.{found_view, answer_view};
+ghost use Rattle.table.specs.Numbers.{range_view};
 ghost use Rattle.table.specs.Outcomes.{CellRead, RangeRead, RowsSince, RowsSinceVersion, VersionRead};
 ghost use Rattle.abi.specs.Encoding.{decode_header, subset_in, decode_subset, encode_option, encode_range, encode_version, subset_head_view, encode_subset, Answers};
 
@@ -19,7 +20,7 @@ pub extern "C" fn mouldgrey_get_row_column(
     column: u32,
     cell: &mut [u32; 2],
 ) -> u32
-    ensures { Answers (λ answer. CellRead (decode_header header.now) rows.now keys.now key.now column answer) cell_view encode_option cell.old result cell.new }
+    ensures { Answers (λ answer. CellRead (decode_header header.now) rows.now keys.now key.now column answer) found_view encode_option cell.old result cell.new }
 {
     abi_read::mouldgrey_get_row_column(header, rows, keys, key, column, cell)
 }
@@ -60,7 +61,7 @@ pub extern "C" fn mouldgrey_rows_since_version(
 // The answer is two words: generation, rows.
 #[unsafe(no_mangle)]
 pub extern "C" fn mouldgrey_table_version(header: &[u32; 12], version: &mut [u32; 2]) -> u32
-    ensures { Answers (λ answer. VersionRead (decode_header header.now) answer) version_view encode_version version.old result version.new }
+    ensures { Answers (λ answer. VersionRead (decode_header header.now) answer) answer_view encode_version version.old result version.new }
 {
     abi_read::mouldgrey_table_version(header, version)
 }

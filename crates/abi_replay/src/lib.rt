@@ -8,18 +8,18 @@ ghost use Rattle.replay_frames.specs.Frames.{framed};
 ghost use Rattle.replay.specs.Encoding.{request_of};
 ghost use Rattle.plain_table.specs.Staged.{opening_in};
 ghost use Rattle.refusals.specs.Refusals.{accepted};
-ghost use Rattle.table.specs.Numbers.{table_view};
+ghost use Rattle.refusals.specs.Refusals.{answer_view, found_view};
 ghost use Rattle.table.specs.Outcomes.{body, compaction_words};
 ghost use Rattle.replay.specs.Replays.{Replayed};
 ghost use Rattle.replay_queries.specs.RunQueries.{RunMade};
 ghost use Rattle.abi.specs.Encoding.{decode_header, subset_in, decode_subset, encode_header, Stored, Answers, encode_number, encode_option};
-ghost use Rattle.abi_replay.specs.Encoding.{encode_run, step_words};
-ghost use Rattle.short_histories.specs.Sequences.{position_view, sequence_view, StepAnswered, PositionAnswered, SequenceFound, NextFound};
+ghost use Rattle.abi_replay.specs.Encoding.{encode_run, encode_step, step_words};
+ghost use Rattle.short_histories.specs.Sequences.{StepAnswered, PositionAnswered, SequenceFound, NextFound};
 
-use abi::{decode_header, decode_subset, encode_bool, places, store_table};
+use abi::{decode_header, decode_subset, encode_header, encode_option, places, store};
 use refusals::ACCEPTED;
 use replay_queries::RunAnswer;
-use short_histories::{PositionAnswer, SequenceAnswer, StepAnswer};
+use short_histories::Step;
 
 // The largest count of queries that fits a word; a larger count is stored as this one.
 const MOST_TAKEN: u32 = 4294967295;
@@ -38,7 +38,7 @@ pub fn mouldgrey_replay(
     base: &mut [u32],
     index: &mut [u32],
 ) -> u32
-    ensures { Answers (λ answer. Replayed (opening_in opening.now) (get_or opening.now 5 0) (framed request_of calls.now) (body rows.old keys.old sorts.old) pending.old (compaction_words live.old base.old) index.old answer (body rows.new keys.new sorts.new) pending.new (compaction_words live.new base.new) index.new) table_view encode_header header.old result header.new }
+    ensures { Answers (λ answer. Replayed (opening_in opening.now) (get_or opening.now 5 0) (framed request_of calls.now) (body rows.old keys.old sorts.old) pending.old (compaction_words live.old base.old) index.old answer (body rows.new keys.new sorts.new) pending.new (compaction_words live.new base.new) index.new) answer_view encode_header header.old result header.new }
 {
     let answer = replay::replay(
         opening[places::COLUMNS],
@@ -56,7 +56,7 @@ pub fn mouldgrey_replay(
         base,
         index,
     );
-    store_table(answer, header)
+    store(answer, header, encode_header)
 }
 
 // The number of queries taken, as a word.
@@ -73,12 +73,12 @@ fn store_run(l: RunAnswer, words: &mut [u32; 7]) -> u32
     ensures { Stored accepted encode_run l words.old result words.new }
 {
     *words = [
-        encode_bool(l.dense),
+        u32::from(l.dense),
         l.start,
         l.end,
         l.count,
         l.place,
-        encode_bool(l.refined),
+        u32::from(l.refined),
         count_word(l.taken),
     ];
     ACCEPTED
@@ -112,79 +112,48 @@ const REMOVE: u32 = 1;
 
 const MERGE: u32 = 2;
 
-fn store_step(answer: StepAnswer, words: &mut [u32; 4]) -> u32
-    ensures { Stored step_words (λ words. words) answer words.old result words.new }
+fn encode_step(step: Step) -> [u32; 4]
+    ensures { result ≡ encode_step step }
 {
-    match answer {
-        StepAnswer::Refused(number) => number,
-        StepAnswer::Insert(key, stamp, third) => {
-            *words = [INSERT, key, stamp, third];
-            ACCEPTED
-        }
-        StepAnswer::Remove(key) => {
-            *words = [REMOVE, key, 0, 0];
-            ACCEPTED
-        }
-        StepAnswer::Merge => {
-            *words = [MERGE, 0, 0, 0];
-            ACCEPTED
-        }
+    match step {
+        Step::Insert { key, stamp, third } => [INSERT, key, stamp, third],
+        Step::Remove { key } => [REMOVE, key, 0, 0],
+        Step::Merge => [MERGE, 0, 0, 0],
     }
 }
 
-fn store_position(answer: PositionAnswer, position: &mut [u32; 1]) -> u32
-    ensures { Stored position_view encode_number answer position.old result position.new }
+fn encode_position(position: u32) -> [u32; 1]
+    ensures { result ≡ encode_number position }
 {
-    match answer {
-        PositionAnswer::Refused(number) => number,
-        PositionAnswer::Position(found) => {
-            *position = [found];
-            ACCEPTED
-        }
-    }
-}
-
-fn store_sequence(answer: SequenceAnswer, words: &mut [u32; 2]) -> u32
-    ensures { Stored sequence_view encode_option answer words.old result words.new }
-{
-    match answer {
-        SequenceAnswer::Refused(number) => number,
-        SequenceAnswer::None => {
-            *words = [0, 0];
-            ACCEPTED
-        }
-        SequenceAnswer::Written(steps) => {
-            *words = [1, steps];
-            ACCEPTED
-        }
-    }
+    [position]
 }
 
 // The call of a step, in four words: 0, key, stamp, third cell; 1, key, 0, 0; 2, 0, 0, 0.
 pub fn mouldgrey_step_at(step: u32, answer: &mut [u32; 4]) -> u32
     ensures { Answers (StepAnswered step) step_words (λ words. words) answer.old result answer.new }
 {
-    store_step(short_histories::step_at(step), answer)
+    store(short_histories::step_at(step), answer, encode_step)
 }
 
 pub fn mouldgrey_position_of(sequence: &[u32], position: &mut [u32; 1]) -> u32
-    ensures { Answers (PositionAnswered sequence.now) position_view encode_number position.old result position.new }
+    ensures { Answers (PositionAnswered sequence.now) answer_view encode_number position.old result position.new }
 {
-    store_position(short_histories::position_of(sequence), position)
+    let found = short_histories::position_of(sequence);
+    store(found, position, encode_position)
 }
 
 // The answer is two words: found, length.
 pub fn mouldgrey_sequence_at(position: u32, output: &mut [u32], answer: &mut [u32; 2]) -> u32
-    ensures { Answers (λ a. SequenceFound position output.old a output.new) sequence_view encode_option answer.old result answer.new }
+    ensures { Answers (λ a. SequenceFound position output.old a output.new) found_view encode_option answer.old result answer.new }
 {
     let found = short_histories::sequence_at(position, output);
-    store_sequence(found, answer)
+    store(found, answer, encode_option)
 }
 
 // The answer is two words: found, length; 0 and 0 after the last sequence.
 pub fn mouldgrey_next_sequence(sequence: &[u32], output: &mut [u32], answer: &mut [u32; 2]) -> u32
-    ensures { Answers (λ a. NextFound sequence.now output.old a output.new) sequence_view encode_option answer.old result answer.new }
+    ensures { Answers (λ a. NextFound sequence.now output.old a output.new) found_view encode_option answer.old result answer.new }
 {
-    let found = short_histories::next_sequence(sequence, output);
-    store_sequence(found, answer)
+    let next = short_histories::next_sequence(sequence, output);
+    store(next, answer, encode_option)
 }

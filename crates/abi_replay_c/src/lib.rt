@@ -7,13 +7,13 @@ ghost use Rattle.replay_frames.specs.Frames.{framed};
 ghost use Rattle.replay.specs.Encoding.{request_of};
 ghost use Rattle.plain_table.specs.Staged.{opening_in};
 ghost use Rattle.refusals.specs.Refusals.{accepted};
-ghost use Rattle.table.specs.Numbers.{table_view};
+ghost use Rattle.refusals.specs.Refusals.{answer_view, found_view};
 ghost use Rattle.table.specs.Outcomes.{body, compaction_words};
 ghost use Rattle.replay.specs.Replays.{Replayed};
 ghost use Rattle.replay_queries.specs.RunQueries.{RunMade};
 ghost use Rattle.abi.specs.Encoding.{decode_header, subset_in, decode_subset, encode_header, Answers, encode_number, encode_option};
 ghost use Rattle.abi_replay.specs.Encoding.{encode_run, step_words};
-ghost use Rattle.short_histories.specs.Sequences.{position_view, sequence_view, StepAnswered, PositionAnswered, SequenceFound, NextFound};
+ghost use Rattle.short_histories.specs.Sequences.{StepAnswered, PositionAnswered, SequenceFound, NextFound};
 
 // Opens a table and makes the calls in order, including refreshes over the index store. The opening is six words: columns, keys,
 // sort, rule, capacity, generation.
@@ -30,7 +30,7 @@ pub extern "C" fn mouldgrey_replay(
     base: &mut [u32],
     index: &mut [u32],
 ) -> u32
-    ensures { Answers (λ answer. Replayed (opening_in opening.now) (get_or opening.now 5 0) (framed request_of calls.now) (body rows.old keys.old sorts.old) pending.old (compaction_words live.old base.old) index.old answer (body rows.new keys.new sorts.new) pending.new (compaction_words live.new base.new) index.new) table_view encode_header header.old result header.new }
+    ensures { Answers (λ answer. Replayed (opening_in opening.now) (get_or opening.now 5 0) (framed request_of calls.now) (body rows.old keys.old sorts.old) pending.old (compaction_words live.old base.old) index.old answer (body rows.new keys.new sorts.new) pending.new (compaction_words live.new base.new) index.new) answer_view encode_header header.old result header.new }
 {
     abi_replay::mouldgrey_replay(
         opening, header, calls, rows, keys, sorts, pending, live, base, index,
@@ -68,7 +68,7 @@ pub extern "C" fn mouldgrey_step_at(step: u32, answer: &mut [u32; 4]) -> u32
 
 #[unsafe(no_mangle)]
 pub extern "C" fn mouldgrey_position_of(sequence: &[u32], position: &mut [u32; 1]) -> u32
-    ensures { Answers (PositionAnswered sequence.now) position_view encode_number position.old result position.new }
+    ensures { Answers (PositionAnswered sequence.now) answer_view encode_number position.old result position.new }
 {
     abi_replay::mouldgrey_position_of(sequence, position)
 }
@@ -80,7 +80,7 @@ pub extern "C" fn mouldgrey_sequence_at(
     output: &mut [u32],
     answer: &mut [u32; 2],
 ) -> u32
-    ensures { Answers (λ a. SequenceFound position output.old a output.new) sequence_view encode_option answer.old result answer.new }
+    ensures { Answers (λ a. SequenceFound position output.old a output.new) found_view encode_option answer.old result answer.new }
 {
     abi_replay::mouldgrey_sequence_at(position, output, answer)
 }
@@ -92,7 +92,7 @@ pub extern "C" fn mouldgrey_next_sequence(
     output: &mut [u32],
     answer: &mut [u32; 2],
 ) -> u32
-    ensures { Answers (λ a. NextFound sequence.now output.old a output.new) sequence_view encode_option answer.old result answer.new }
+    ensures { Answers (λ a. NextFound sequence.now output.old a output.new) found_view encode_option answer.old result answer.new }
 {
     abi_replay::mouldgrey_next_sequence(sequence, output, answer)
 }

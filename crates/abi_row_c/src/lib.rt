@@ -2,7 +2,7 @@
 // calls it once.
 #![tactic(auto)]
 
-ghost use Rattle.table.specs.Numbers.{row_view};
+ghost use Rattle.refusals.specs.Refusals.{found_view};
 ghost use Rattle.table.specs.Outcomes.{LookedUp};
 ghost use Rattle.abi.specs.Encoding.{decode_header, encode_option, Answers};
 
@@ -15,7 +15,7 @@ pub extern "C" fn mouldgrey_get_row(
     key: &[u32],
     row: &mut [u32; 2],
 ) -> u32
-    ensures { Answers (λ answer. LookedUp (decode_header header.now) rows.now keys.now key.now answer) row_view encode_option row.old result row.new }
+    ensures { Answers (λ answer. LookedUp (decode_header header.now) rows.now keys.now key.now answer) found_view encode_option row.old result row.new }
 {
     abi_row::mouldgrey_get_row(header, rows, keys, key, row)
 }

@@ -3,7 +3,7 @@
 
 ghost use Rattle.std.specs.Prelude.{◌≡◌, get_or};
 ghost use Rattle.plain_table.specs.Staged.{insert, remove_key, remove_row, opening_in};
-ghost use Rattle.table.specs.Numbers.{table_view, merge_view, sound_view};
+ghost use Rattle.refusals.specs.Refusals.{answer_view};
 ghost use Rattle.table.specs.Outcomes.{stores, body, compaction_words, Opened, Staging, Merging, Compacting, Clearing, Checked};
 ghost use Rattle.abi.specs.Encoding.{decode_header, encode_header, encode_merge, encode_bool, Answers, AnswersWithHeader};
 ghost use Rattle.abi_table.specs.Version.{library_version};
@@ -25,7 +25,7 @@ pub extern "C" fn mouldgrey_open_table(
     sorts: &[u32],
     pending: &[u32],
 ) -> u32
-    ensures { Answers (λ answer. Opened (opening_in opening.now) (get_or opening.now 5 0) (body rows.now keys.old sorts.now) pending.now answer keys.new) table_view encode_header header.old result header.new }
+    ensures { Answers (λ answer. Opened (opening_in opening.now) (get_or opening.now 5 0) (body rows.now keys.old sorts.now) pending.now answer keys.new) answer_view encode_header header.old result header.new }
 {
     abi_table::mouldgrey_open_table(opening, header, rows, keys, sorts, pending)
 }
@@ -36,7 +36,7 @@ pub extern "C" fn mouldgrey_stage_insert(
     pending: &mut [u32],
     cells: &[u32],
 ) -> u32
-    ensures { Answers (λ answer. Staging (decode_header header.old) pending.old (insert cells.now) answer pending.new) table_view encode_header header.old result header.new }
+    ensures { Answers (λ answer. Staging (decode_header header.old) pending.old (insert cells.now) answer pending.new) answer_view encode_header header.old result header.new }
 {
     abi_table::mouldgrey_stage_insert(header, pending, cells)
 }
@@ -47,7 +47,7 @@ pub extern "C" fn mouldgrey_stage_remove(
     pending: &mut [u32],
     key: &[u32],
 ) -> u32
-    ensures { Answers (λ answer. Staging (decode_header header.old) pending.old (remove_key key.now) answer pending.new) table_view encode_header header.old result header.new }
+    ensures { Answers (λ answer. Staging (decode_header header.old) pending.old (remove_key key.now) answer pending.new) answer_view encode_header header.old result header.new }
 {
     abi_table::mouldgrey_stage_remove(header, pending, key)
 }
@@ -59,7 +59,7 @@ pub extern "C" fn mouldgrey_stage_remove_row(
     row: u32,
     key: &[u32],
 ) -> u32
-    ensures { Answers (λ answer. Staging (decode_header header.old) pending.old (remove_row row key.now) answer pending.new) table_view encode_header header.old result header.new }
+    ensures { Answers (λ answer. Staging (decode_header header.old) pending.old (remove_row row key.now) answer pending.new) answer_view encode_header header.old result header.new }
 {
     abi_table::mouldgrey_stage_remove_row(header, pending, row, key)
 }
@@ -76,7 +76,7 @@ pub extern "C" fn mouldgrey_merge(
     base: &mut [u32],
     merged: &mut [u32; 5],
 ) -> u32
-    ensures { AnswersWithHeader (λ answer. Merging (stores (decode_header header.old) rows.old keys.old sorts.old pending.now) (compaction_words live.old base.old) answer (body rows.new keys.new sorts.new) (compaction_words live.new base.new)) merge_view (λ m. m.header) encode_merge header.old merged.old result header.new merged.new }
+    ensures { AnswersWithHeader (λ answer. Merging (stores (decode_header header.old) rows.old keys.old sorts.old pending.now) (compaction_words live.old base.old) answer (body rows.new keys.new sorts.new) (compaction_words live.new base.new)) answer_view (λ m. m.header) encode_merge header.old merged.old result header.new merged.new }
 {
     abi_table::mouldgrey_merge(header, rows, keys, sorts, pending, live, base, merged)
 }
@@ -90,14 +90,14 @@ pub extern "C" fn mouldgrey_compact(
     live: &mut [u64],
     base: &mut [u32],
 ) -> u32
-    ensures { Answers (λ answer. Compacting (decode_header header.old) (body rows.old keys.old sorts.old) (compaction_words live.old base.old) answer (body rows.new keys.new sorts.new) (compaction_words live.new base.new)) table_view encode_header header.old result header.new }
+    ensures { Answers (λ answer. Compacting (decode_header header.old) (body rows.old keys.old sorts.old) (compaction_words live.old base.old) answer (body rows.new keys.new sorts.new) (compaction_words live.new base.new)) answer_view encode_header header.old result header.new }
 {
     abi_table::mouldgrey_compact(header, rows, keys, sorts, live, base)
 }
 
 #[unsafe(no_mangle)]
 pub extern "C" fn mouldgrey_clear(header: &mut [u32; 12], keys: &mut [u32]) -> u32
-    ensures { Answers (λ answer. Clearing (decode_header header.old) keys.old answer keys.new) table_view encode_header header.old result header.new }
+    ensures { Answers (λ answer. Clearing (decode_header header.old) keys.old answer keys.new) answer_view encode_header header.old result header.new }
 {
     abi_table::mouldgrey_clear(header, keys)
 }
@@ -112,7 +112,7 @@ pub extern "C" fn mouldgrey_is_sound(
     pending: &[u32],
     sound: &mut [u32; 1],
 ) -> u32
-    ensures { Answers (λ answer. Checked (decode_header header.now) rows.now keys.now sorts.now pending.now answer) sound_view encode_bool sound.old result sound.new }
+    ensures { Answers (λ answer. Checked (decode_header header.now) rows.now keys.now sorts.now pending.now answer) answer_view encode_bool sound.old result sound.new }
 {
     abi_table::mouldgrey_is_sound(header, rows, keys, sorts, pending, sound)
 }

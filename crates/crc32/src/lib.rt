@@ -68,14 +68,13 @@ fn after_words(tables: &[u32; ENTRIES], words: &[u32]) -> u32
     requires { Tables tables.now }
     ensures { result ≡ foldl byte_step 4294967295 (bytes_of words.now) }
 {
+    let (pairs, last) = words.as_chunks::<2>();
     let mut register = ALL_ONES;
-    let mut i = 0;
-    while i + 1 < words.len() {
-        register = after_two(tables, register, words[i], words[i + 1]);
-        i += 2;
+    for pair in pairs {
+        register = after_two(tables, register, pair[0], pair[1]);
     }
-    if i < words.len() {
-        return after_word(tables, register, words[i]);
+    for word in last {
+        register = after_word(tables, register, *word);
     }
     register
 }

@@ -3,12 +3,10 @@
 -- call is refused and none of the three merges stops. Row numbers and generation may differ, since compaction falls at other
 -- moments. An empty batch on either side is included". As in a history, nothing is known of a call but the contract of its entry
 -- point. Assumes nothing.
-use Rattle.std.specs.Prelude.{ℕ, ◌≤◌, ◌≡◌, List, [], ◌∷◌, ◌++◌, map}
+use Rattle.std.specs.Prelude.{ℕ, ◌≤◌, ◌≡◌, List, [], ◌∷◌, ◌++◌, map, Ok}
 use Rattle.plain_table.specs.Staged.{insert}
 use Rattle.table.specs.declared.Header.{Header}
 use Rattle.table.specs.declared.Merge.{Merge}
-use Rattle.table.specs.declared.MergeAnswer.TheVariants.{Merged}
-use Rattle.table.specs.declared.TableAnswer.TheVariants.{Table}
 use Rattle.table.specs.Sound.{Sound}
 use Rattle.table.specs.Outcomes.{Stores, Body, body_of, joined, CompactionWords, Staging, Merging}
 use Rattle.history.specs.Histories.{behind}
@@ -18,10 +16,10 @@ use Rattle.history.specs.Claim.{live_in}
 -- is lent a first part of each store, as in a step of a history.
 pub data Batch : Stores → List (List ℕ) → Stores → Type 0 where
   merge : (s : Stores) (rest : Body) (pending : List ℕ) (w : CompactionWords) (m : Merge) (b' : Body) (w' : CompactionWords)
-      → Merging s w (Merged m) b' w' → m.status ≡ 0
+      → Merging s w (Ok m) b' w' → m.status ≡ 0
       → Batch (behind s rest pending) [] (behind (joined m.header b' s.pending) rest pending)
   stage : {u : Stores} {row : List ℕ} {rows : List (List ℕ)} (s : Stores) (rest : Body) (pending : List ℕ) (h : Header) (pending' : List ℕ)
-      → Staging s.header s.pending (insert row) (Table h) pending' → Batch (behind (joined h (body_of s) pending') rest pending) rows u
+      → Staging s.header s.pending (insert row) (Ok h) pending' → Batch (behind (joined h (body_of s) pending') rest pending) rows u
       → Batch (behind s rest pending) (row ∷ rows) u
 
 -- the cells of the live rows, in order

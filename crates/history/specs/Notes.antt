@@ -3,7 +3,9 @@
 -- row below the noted count either has the cells it had or is dead. The live rows are then the copied rows still live together with
 -- the live rows of the answer. The guarantee also covers stopped merges and clears of an empty table". It does not cover a table
 -- that was opened anew: that is another history, even at the same generation. Assumes nothing.
-use Rattle.std.specs.Prelude.{ℕ, ◌<◌, ◌≡◌, false, ◌⊎◌, List, ◌++◌}
+use Rattle.sort_entries.specs.declared.Range.{Range}
+use Rattle.refusals.specs.declared.Refusal.{Refusal}
+use Rattle.std.specs.Prelude.{ℕ, ◌<◌, ◌≡◌, false, ◌⊎◌, List, ◌++◌, Result, Option as Optional}
 use Rattle.std.proofs.Math.Option.{some}
 use Rattle.lists.specs.Lists.{filter, elem, row_at}
 use Rattle.refusals.specs.Refusals.{accepted}
@@ -11,7 +13,6 @@ use Rattle.offsets.specs.Subsets.{Subset, members}
 use Rattle.constraints.specs.Constraints.{is_live}
 use Rattle.plain_table.specs.Staged.{Opening}
 use Rattle.plain_table.specs.Calls.{LentCall}
-use Rattle.table.specs.declared.RangeAnswer.{RangeAnswer}
 use Rattle.table.specs.Numbers.{range_view}
 use Rattle.table.specs.Outcomes.{Stores, RowsSinceVersion}
 use Rattle.history.specs.Histories.{Steps, History}
@@ -34,7 +35,7 @@ pub record Guaranteed (then now : Stores) (since : Subset) : Type 0 where
 -- any later moment of it.
 abbrev pub OldNote : Type 0
 OldNote =
-    (o : Opening) (generation : ℕ) (earlier later : List LentCall) (then now : Stores) (answer : RangeAnswer) (since : Subset)
+    (o : Opening) (generation : ℕ) (earlier later : List LentCall) (then now : Stores) (answer : Result (Optional Range) Refusal) (since : Subset)
     → History o generation earlier then → Steps then later now
     → RowsSinceVersion now.header then.header.generation then.header.rows answer → range_view answer ≡ accepted (some since)
     → Guaranteed then now since

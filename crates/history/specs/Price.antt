@@ -6,7 +6,7 @@ use Rattle.plain_table.specs.Staged.{Opening}
 use Rattle.plain_table.specs.Plain.{Plain, opened, merge_keeps, merge_drops}
 use Rattle.plain_table.specs.Calls.{LentCall}
 use Rattle.plain_table.specs.Appending.{sum_over_merges, merge_adds}
-use Rattle.table.specs.Numbers.{table_view, merge_view}
+use Rattle.refusals.specs.Refusals.{answer_view}
 use Rattle.table.specs.Outcomes.{Stores}
 use Rattle.history.specs.Histories.{Called, stages, merges, compacts, clears, refreshes, refreshes_unsound, called, Steps, end, next, History}
 
@@ -27,9 +27,9 @@ wear kept dropped compacted emptied = record { kept = kept; dropped = dropped; c
 -- all rows.
 unfoldable pub wear_of_call : {s t : Stores} {c : LentCall} → Called s c t → Wear
 wear_of_call (stages w r answer pending' m) = wear 0 0 0 0
-wear_of_call (merges w answer b' w' m) = if_accepted (merge_view answer) (λ a. wear a.kept a.dropped 0 0) (wear 0 0 0 0)
-wear_of_call {s} (compacts w answer b' w' m) = if_accepted (table_view answer) (λ h. wear 0 0 s.header.dead 0) (wear 0 0 0 0)
-wear_of_call {s} (clears w answer keys' m) = if_accepted (table_view answer) (λ h. wear 0 0 0 s.header.rows) (wear 0 0 0 0)
+wear_of_call (merges w answer b' w' m) = if_accepted (answer_view answer) (λ a. wear a.kept a.dropped 0 0) (wear 0 0 0 0)
+wear_of_call {s} (compacts w answer b' w' m) = if_accepted (answer_view answer) (λ h. wear 0 0 s.header.dead 0) (wear 0 0 0 0)
+wear_of_call {s} (clears w answer keys' m) = if_accepted (answer_view answer) (λ h. wear 0 0 0 s.header.rows) (wear 0 0 0 0)
 wear_of_call (refreshes w r index answer pending' index' m sound) = wear 0 0 0 0
 wear_of_call (refreshes_unsound w r index answer pending' index' m unsound) = wear 0 0 0 0
 

@@ -1,20 +1,21 @@
 -- The steps of the check of an image: one law for each way that a function returns. Assumes nothing.
+use Rattle.std.specs.Prelude.{Result, Ok, Err}
 use Prim.Native.Nat.{ℕ, ◌≤◌}
-use mathlib.Core.Path.{◌≡◌, refl, sym}
+use mathlib.Core.Path.{◌≡◌, refl, sym, ap}
 use mathlib.Core.Bool.{Bool, true, false, true≢false, false≢true}
 use mathlib.Core.List.{List}
 use mathlib.Core.Option.{Option, none, some, Option-elim}
 use native.Mathlib.Omega.{arith}
 use lib.ListN.{length}
-use Rattle.refusals.specs.Refusals.{first_refusal, reply}
+use Rattle.refusals.specs.declared.Refusal.{Refusal}
+use Rattle.refusals.specs.declared.Refusal.TheVariants.{NoImage, UnsoundImage}
+use Rattle.refusals.specs.Refusals.{refused, first_refusal, reply, number, answer_view}
 use Rattle.key_index.specs.declared.IndexShape.{IndexShape}
 use Rattle.key_index.specs.inner.Index.{RowsFit}
 use Rattle.key_index.specs.Laws.SizeClasses.{size_class_most, size_class_some, size_class_enough}
 use Rattle.key_rebuild.specs.inner.Rebuilding.{UniqueBuilt}
 use Rattle.sort_entries.specs.inner.Search.{EntriesFit}
 use Rattle.sort_entries.specs.inner.Checks.{Decides, decides_no, Cells}
-use Rattle.table.specs.declared.TableAnswer.TheVariants.{Refused as TableRefused, Table}
-use Rattle.table.specs.Numbers.{table_view}
 use Rattle.table.specs.Sound.{index_shape_of}
 use Rattle.table.proofs.Laws.Refusals.{outside_inside}
 use Rattle.table_check.specs.inner.Checks.{RowsSound, PendingIn, PendingWhole}
@@ -23,8 +24,6 @@ use Rattle.image_spec.specs.Outcomes.{Decoded, check_reply, ImageChecked}
 use Rattle.image_check.specs.declared.parse.Layout.{Layout}
 use Rattle.image_check.specs.inner.Parsed.{part, image_in, IsAt}
 use Rattle.image_check.specs.Laws.Images.{Proper, image_in_proper}
-use Rattle.image_check.specs.declared.Decoding.{Decoding}
-use Rattle.image_check.specs.declared.Decoding.TheVariants.{Refused, Sound}
 use Rattle.image_check.specs.inner.Decoding.{SlotsBuilt, ContentsChecked, DecodingIs}
 
 -- ---- `is_contents_sound`
@@ -122,7 +121,7 @@ module _ (words : List ℕ) (l : Layout) (t : IsAt words l) where
 -- ---- `decode`
 
 module _ (words : List ℕ) where
-  pub decoding_none : Reads words none → (slots : List ℕ) → DecodingIs words (Refused 19) slots
+  pub decoding_none : Reads words none → (slots : List ℕ) → DecodingIs words (Err NoImage) slots
   unfolding check_reply Option-elim
   decoding_none n slots =
       record {
@@ -134,13 +133,13 @@ module _ (words : List ℕ) where
               if_sound = λ e. absurd (false≢true e);
               if_unsound = λ _ i e. absurd (let z : ◌≡◌ {A = ℕ} 0 1 = cc in omega arith);
             };
-        refusal = λ m e. cc;
+        refusal = λ m e. let k : NoImage ≡ m = cc in ap (λ (q : Refusal). refused (number q)) k;
         sound_at = λ l e. absurd (let z : ◌≡◌ {A = ℕ} 0 1 = cc in omega arith);
         built = λ l e. absurd (let z : ◌≡◌ {A = ℕ} 0 1 = cc in omega arith);
       }
 
   module _ (l : Layout) (t : IsAt words l) where
-    pub decoding_unsound : (SoundImage (image_in words l) → ⊥) → (slots : List ℕ) → DecodingIs words (Refused 20) slots
+    pub decoding_unsound : (SoundImage (image_in words l) → ⊥) → (slots : List ℕ) → DecodingIs words (Err UnsoundImage) slots
     unfolding check_reply Option-elim reply first_refusal
     decoding_unsound f slots =
         record {
@@ -152,7 +151,7 @@ module _ (words : List ℕ) where
                 if_sound = λ e. absurd (false≢true e);
                 if_unsound = λ _ i e s. let k : image_in words l ≡ i = cc in f (rw k s);
               };
-          refusal = λ m e. cc;
+          refusal = λ m e. let k : UnsoundImage ≡ m = cc in ap (λ (q : Refusal). refused (number q)) k;
           sound_at = λ m e. absurd (let z : ◌≡◌ {A = ℕ} 0 1 = cc in omega arith);
           built = λ m e. absurd (let z : ◌≡◌ {A = ℕ} 0 1 = cc in omega arith);
         }
@@ -170,7 +169,7 @@ module _ (words : List ℕ) where
           if_unsound = λ e. absurd (true≢false e);
         }
 
-    pub decoding_sound : SoundImage (image_in words l) → (slots : List ℕ) → SlotsBuilt words l slots → DecodingIs words (Sound l) slots
+    pub decoding_sound : SoundImage (image_in words l) → (slots : List ℕ) → SlotsBuilt words l slots → DecodingIs words (Ok l) slots
     decoding_sound s slots b =
         record {
           decoded = sound_one s;
@@ -181,13 +180,13 @@ module _ (words : List ℕ) where
 
 -- ---- `check_image`
 
-module _ (words : List ℕ) (r : Decoding) (slots : List ℕ) (d : DecodingIs words r slots) where
-  pub checked_refused : (n : ℕ) → r ≡ Refused n → ImageChecked words (TableRefused n)
-  unfolding table_view
-  checked_refused n e = record { decoded = d.decoded; answers = sym (d.refusal n e) }
+module _ (words : List ℕ) (r : Result Layout Refusal) (slots : List ℕ) (d : DecodingIs words r slots) where
+  pub checked_refused : (refusal : Refusal) → r ≡ Err refusal → ImageChecked words (Err refusal)
+  unfolding answer_view
+  checked_refused refusal e = record { decoded = d.decoded; answers = sym (d.refusal refusal e) }
 
-  pub checked_sound : (l : Layout) → r ≡ Sound l → ImageChecked words (Table l.header)
-  unfolding table_view check_reply Option-elim reply first_refusal image_in
+  pub checked_sound : (l : Layout) → r ≡ Ok l → ImageChecked words (Ok l.header)
+  unfolding answer_view check_reply Option-elim reply first_refusal image_in
   checked_sound l e =
       let s = d.sound_at l e in
       record { decoded = d.decoded; answers = rw (s.image_is, s.sound_is) }

@@ -1,7 +1,13 @@
 -- The tests of an image one by one: what each way out of a function returns. Assumes nothing.
 use Rattle.image_check.proofs.Prelude.{ℕ, ◌+◌, ◌-◌, ◌*◌, ◌/◌, ◌%◌, ◌≤◌, ◌<◌, ◌≡◌, sym, ap, ◌∙◌, true, false, true≢false, List, mul-le-mul, arith, ltb, eqb, length, take, drop, get_or, length-drop, get_or-drop, get_or-take, length-take-le, eqb-true, eqb-false, Decides, decides_yes, decides_no, crc32, bytes_of, Header, outside, outside_inside, reads_none, Layout, None, Some, filled_whole, filled_one, filled_two, filled_three, layout_in, passes_image, image_passes}
+use Rattle.std.specs.Prelude.{Ok, Err, Option as Optional}
+use Rattle.std.specs.Option.{ok_or}
+use Rattle.std.proofs.Math.Option.{none}
+use Rattle.refusals.specs.declared.Refusal.{Refusal}
+use Rattle.refusals.specs.declared.Refusal.TheVariants.{NoImage}
 use Rattle.abi.specs.Encoding.{decode_header}
-use Rattle.image_check.specs.inner.Parsed.{header_in, layout_of, Placed, Words, Marked, Filled, Measured, Whole, Passes, ParsedIs}
+use Rattle.image_spec.specs.Image.{Reads}
+use Rattle.image_check.specs.inner.Parsed.{header_in, layout_of, Placed, Words, Marked, Filled, Measured, Whole, Passes, IsAt, ParsedIs}
 
 -- ---- `is_marked`
 
@@ -128,3 +134,12 @@ module _ (words : List ℕ) where
             few = few;
             whole = rw layout_there at w;
           }))
+
+  -- the answer as a result: refused as no image, or the layout of an image
+  pub parsed_missing : (o : Optional Layout) (refusal : Refusal) → ParsedIs words o → Err refusal ≡ ok_or o NoImage → Reads words none × (refusal ≡ NoImage)
+  parsed_missing None refusal n e = (n, cc)
+  parsed_missing (Some l) refusal t e = absurd (let z : ◌≡◌ {A = ℕ} 0 1 = cc in omega arith)
+
+  pub parsed_there : (o : Optional Layout) (l : Layout) → ParsedIs words o → Ok l ≡ ok_or o NoImage → IsAt words l
+  parsed_there None l n e = absurd (let z : ◌≡◌ {A = ℕ} 0 1 = cc in omega arith)
+  parsed_there (Some m) l t e = let k : m ≡ l = cc in rw (← k) t

@@ -7,20 +7,13 @@ ghost use Rattle.image_check.specs.inner.Parsed.{IsAt};
 ghost use Rattle.image_check.specs.inner.Decoding.{ContentsChecked, DecodingIs};
 
 use parse::Layout;
-use refusals::{NO_IMAGE, UNSOUND_IMAGE};
-use table::TableAnswer;
+use refusals::Refusal;
+use table::Header;
 
 pub mod parse; // parse.rt: whether words are an image, and where its parts are
 
 // Two slots for each row of the largest table.
 pub const MOST_SLOTS: usize = 131072;
-
-// The layout of an image of a sound table, or the number that refuses the words.
-#[derive(Clone, Copy)]
-pub enum Decoding {
-    Refused(u32),
-    Sound(Layout),
-}
 
 // Whether the table of an image is sound. An image has no key store, so one is built in the slots; of a sound table it is sound.
 fn is_contents_sound(words: &[u32], l: Layout, slots: &mut [u32]) -> bool
@@ -40,26 +33,22 @@ fn is_contents_sound(words: &[u32], l: Layout, slots: &mut [u32]) -> bool
 
 // The layout of the image that words are: refuses with 19 if they are none, with 20 if its table is not sound. Builds the table's key
 // store in the slots.
-pub fn decode(words: &[u32], slots: &mut [u32]) -> Decoding
+pub fn decode(words: &[u32], slots: &mut [u32]) -> Result<Layout, Refusal>
     requires { 131072 ≤ length slots.old }
     ensures { DecodingIs words.now result slots.new }
 {
-    let Some(l) = parse::parse(words) else {
-        return Decoding::Refused(NO_IMAGE);
-    };
+    let l = parse::parse(words).ok_or(Refusal::NoImage)?;
     if !is_contents_sound(words, l, slots) {
-        return Decoding::Refused(UNSOUND_IMAGE);
+        return Err(Refusal::UnsoundImage);
     }
-    Decoding::Sound(l)
+    Ok(l)
 }
 
 // The header of an image: refuses with 19 if the words are no image, with 20 if its table is not sound.
-pub fn check_image(words: &[u32]) -> TableAnswer
+pub fn check_image(words: &[u32]) -> Result<Header, Refusal>
     ensures { ImageChecked words.now result }
 {
     let mut slots = [0u32; MOST_SLOTS];
-    match decode(words, &mut slots) {
-        Decoding::Refused(number) => TableAnswer::Refused(number),
-        Decoding::Sound(l) => TableAnswer::Table(l.header),
-    }
+    let l = decode(words, &mut slots)?;
+    Ok(l.header)
 }

@@ -1,15 +1,18 @@
 -- The steps of loading an image's table: one law for each way that a function returns. Assumes nothing.
-use Rattle.image_read.proofs.Prelude.{ℕ, ◌*◌, ◌+◌, ◌-◌, ◌≤◌, ◌<◌, ◌≡◌, refl, sym, ap, ◌∙◌, Bool, true, false, ◌||◌, List, [], Option, none, some, mul-le-mul_right, arith, ltb, length, take, drop, get_or, get_or-take, length-take-le, ltb-false, lt-ltb, le-ltb, eq-eqb, ne_eqb, or_no_left, or_no_right, length_splice, drop_splice, get_d_splice_in, slots_alike, outcome_refused, outcome_accepted, IndexShape, KeysSound, size_class_for, size_class_most, size_class_enough, keys_longer, Fits, RowsIn, past_size_class, Rebuilt, first_refusal_no, first_refusal_rest, Header, TableAnswer, Refused, Table, index_shape_of, Body, body, lengths, LongEnough, stores_long, Inside, outside_inside, inside_fits, Image, Layout, image_in_proper, Decoding, DecodingIs}
+use Rattle.refusals.specs.declared.Refusal.{Refusal}
+use Rattle.std.specs.Prelude.{Result, Ok, Err}
+use Rattle.image_read.proofs.Prelude.{ℕ, ◌*◌, ◌+◌, ◌-◌, ◌≤◌, ◌<◌, ◌≡◌, refl, sym, ap, ◌∙◌, Bool, true, false, ◌||◌, List, [], Option, none, some, mul-le-mul_right, arith, ltb, length, take, drop, get_or, get_or-take, length-take-le, ltb-false, lt-ltb, le-ltb, eq-eqb, ne_eqb, or_no_left, or_no_right, length_splice, drop_splice, get_d_splice_in, slots_alike, IndexShape, KeysSound, size_class_for, size_class_most, size_class_enough, keys_longer, Fits, RowsIn, past_size_class, Rebuilt, first_refusal_no, first_refusal_rest, Header, index_shape_of, Body, body, lengths, LongEnough, stores_long, Inside, outside_inside, inside_fits, Image, Layout, image_in_proper, DecodingIs}
 use mathlib.Core.Option.{Option-elim}
 use Rattle.lists.specs.Lists.{splice}
-use Rattle.refusals.specs.Refusals.{refused, accepted, first_refusal, reply}
+use Rattle.refusals.specs.Refusals.{refused, accepted, first_refusal, reply, number}
 use Rattle.plain_table.specs.Refusing.{Lengths, stores_short}
-use Rattle.table.specs.Numbers.{opening_of, table_view}
+use Rattle.refusals.specs.Refusals.{answer_view}
+use Rattle.table.specs.Numbers.{opening_of}
 use Rattle.table.specs.Refusing.{outside}
 use Rattle.image_spec.specs.Outcomes.{with_capacity, check_reply, read_refusal, ImageRead}
 use Rattle.image_check.specs.inner.Parsed.{part, image_in, IsAt}
 use Rattle.image_check.specs.inner.Decoding.{SlotsBuilt}
-use Rattle.image_check.specs.declared.Decoding.TheVariants.{Refused as NotDecoded, Sound}
+use Rattle.refusals.specs.Laws.Numbers.{err_outcome, ok_outcome, number_some}
 use Rattle.image_read.specs.inner.Loading.{load_refusal, stores_refusal, PartsFit, PartsWritten, Built, Loading}
 
 -- ---- `with_capacity`
@@ -85,21 +88,19 @@ module _ (t : IndexShape) (capacity : ℕ) (rows slots : List ℕ) (b : Built t 
 
 -- ---- `load`
 
-module _ (words : List ℕ) (l : Layout) (capacity : ℕ) (b : Body) (pending : List ℕ) (n : Header) (header : n ≡ with_capacity l.header capacity)
-    (number : ℕ) (e : number ≡ load_refusal n (lengths b.rows b.keys b.sorts pending [] [])) where
-  refusal_is : number ≡ stores_refusal l capacity b pending
-  refusal_is = e ∙ ap (λ (h : Header). load_refusal h (lengths b.rows b.keys b.sorts pending [] [])) header
+module _ (words : List ℕ) (l : Layout) (capacity : ℕ) (b : Body) (pending : List ℕ) (n : Header) (header : n ≡ with_capacity l.header capacity) where
+  refusal_is : load_refusal n (lengths b.rows b.keys b.sorts pending [] []) ≡ stores_refusal l capacity b pending
+  refusal_is = ap (λ (h : Header). load_refusal h (lengths b.rows b.keys b.sorts pending [] [])) header
 
-  pub loading_refused : (number ≡ 0 → ⊥) → Loading words l capacity b pending (Refused number) b pending
-  unfolding table_view
-  loading_refused f =
+  pub loading_refused : (r : Refusal) → number r ≡ load_refusal n (lengths b.rows b.keys b.sorts pending [] []) → Loading words l capacity b pending (Err r) b pending
+  loading_refused r e =
       record {
-        refusal = outcome_refused _ _ number refl refusal_is f;
+        refusal = err_outcome _ r (e ∙ refusal_is);
         unchanged = λ _. (refl, refl);
-        loaded = λ z. absurd (f (refusal_is ∙ z));
+        loaded = λ z. absurd (number_some r (e ∙ refusal_is ∙ z));
       }
 
-  module _ (z : number ≡ 0) where
+  module _ (z : load_refusal n (lengths b.rows b.keys b.sorts pending [] []) ≡ 0) where
     loadable : Loadable (with_capacity l.header capacity) (lengths b.rows b.keys b.sorts pending [] [])
     loadable = load_accepted _ _ (sym refusal_is ∙ z)
 
@@ -142,13 +143,13 @@ module _ (words : List ℕ) (l : Layout) (capacity : ℕ) (b : Body) (pending : 
           rw (is, header, w.rows_after)
           (record { long = long; sound = keys_longer (index_shape_of h) (part words l.rows l.sorts) _ within slots sound })
 
-      pub loading_done : (k : IndexShape) → k ≡ index_shape_of n → (keys' : List ℕ) → Rebuilt k rows' b.keys keys' → length keys' ≡ length b.keys → Loading words l capacity b pending (Table n) (body rows' keys' sorts') pending'
-      unfolding table_view image_in
+      pub loading_done : (k : IndexShape) → k ≡ index_shape_of n → (keys' : List ℕ) → Rebuilt k rows' b.keys keys' → length keys' ≡ length b.keys → Loading words l capacity b pending (Ok n) (body rows' keys' sorts') pending'
+      unfolding answer_view image_in
       loading_done k is keys' s kept =
           let h = with_capacity l.header capacity in
           let r : Rebuilt (index_shape_of h) rows' b.keys keys' = rw (is, header) at s in
           record {
-            refusal = outcome_accepted _ _ n refl (sym refusal_is ∙ z);
+            refusal = ok_outcome n (sym refusal_is ∙ z);
             unchanged = λ k. absurd (omega (arith, refusal_is, z, k));
             loaded = λ _.
                 record {
@@ -166,25 +167,24 @@ module _ (words : List ℕ) (l : Layout) (capacity : ℕ) (b : Body) (pending : 
 
 -- words that the check refuses are refused with the same number when they are read
 refusal_same : (image : Option Image) (sound : Bool) (number : ℕ) (capacity : ℕ) (b : Body) (pending : List ℕ) → check_reply image sound ≡ refused number
-    → (read_refusal image sound capacity b pending ≡ number) × (0 < number)
+    → read_refusal image sound capacity b pending ≡ number
 unfolding check_reply read_refusal Option-elim reply first_refusal
-refusal_same none sound number capacity b pending e = let k : 19 ≡ number = cc in (k, omega arith)
+refusal_same none sound number capacity b pending e = let k : 19 ≡ number = cc in k
 refusal_same (some i) true number capacity b pending e = absurd (let z : ◌≡◌ {A = ℕ} 0 1 = cc in omega arith)
-refusal_same (some i) false number capacity b pending e = let k : 20 ≡ number = cc in (k, omega arith)
+refusal_same (some i) false number capacity b pending e = let k : 20 ≡ number = cc in k
 
-module _ (words : List ℕ) (capacity : ℕ) (b : Body) (pending : List ℕ) (r : Decoding) (slots : List ℕ) (d : DecodingIs words r slots) where
-  pub read_refused : (number : ℕ) → r ≡ NotDecoded number → ImageRead words capacity b pending (Refused number) b pending
-  unfolding table_view
-  read_refused number e =
-      let s = refusal_same d.decoded.image d.decoded.sound number capacity b pending (d.refusal number e) in
+module _ (words : List ℕ) (capacity : ℕ) (b : Body) (pending : List ℕ) (r : Result Layout Refusal) (slots : List ℕ) (d : DecodingIs words r slots) where
+  pub read_refused : (refusal : Refusal) → r ≡ Err refusal → ImageRead words capacity b pending (Err refusal) b pending
+  read_refused refusal e =
+      let s = refusal_same d.decoded.image d.decoded.sound (number refusal) capacity b pending (d.refusal refusal e) in
       record {
         decoded = d.decoded;
-        refusal = outcome_refused _ _ number refl (sym s.0) (λ z. omega (arith, s.1, z));
+        refusal = err_outcome _ refusal (sym s);
         unchanged = λ _. (refl, refl);
-        loaded = λ i _ z. absurd (omega (arith, s.0, s.1, z));
+        loaded = λ i _ z. absurd (number_some refusal (sym s ∙ z));
       }
 
-  pub read_loaded : (l : Layout) → r ≡ Sound l → (answer : TableAnswer) (b' : Body) (pending' : List ℕ) → Loading words l capacity b pending answer b' pending'
+  pub read_loaded : (l : Layout) → r ≡ Ok l → (answer : Result Header Refusal) (b' : Body) (pending' : List ℕ) → Loading words l capacity b pending answer b' pending'
       → ImageRead words capacity b pending answer b' pending'
   read_loaded l e answer b' pending' g =
       let s = d.sound_at l e in

@@ -11,7 +11,6 @@ pub use lib.ListN.{drop, drop_of_length-le, get_or, length, length-drop, length-
 pub use lib.Seq.{drop-cons, get_or-drop, get_or-take, length-take-le, take-length}
 pub use borrow.Author.Tests.{eq-eqb, le-ltb, lt-ltb, ltb-false, ne_eqb}
 pub use Rattle.crc32.specs.Crc.{bytes_of}
-pub use Rattle.image_check.specs.declared.Decoding.{Decoding}
 pub use Rattle.image_check.specs.inner.Decoding.{DecodingIs}
 pub use Rattle.image_check.specs.Laws.Bytes.{byte_of, bytes_cons, length_bytes}
 pub use Rattle.image_check.specs.Laws.Images.{image_in_proper, text_length}
@@ -27,13 +26,10 @@ pub use Rattle.key_rebuild.specs.inner.Rebuilding.{Rebuilt}
 pub use Rattle.lists.specs.Laws.All.{or_no_left, or_no_right}
 pub use Rattle.lists.specs.Laws.Parts.{copy_step, drop_splice, get_d_splice_in, length_splice}
 pub use Rattle.plain_table.proofs.Laws.Calls.{first_refusal_no, first_refusal_rest}
-pub use Rattle.refusals.specs.Laws.Replies.{outcome_accepted, outcome_refused}
 pub use Rattle.table.specs.Outcomes.{Body, body, lengths}
 pub use Rattle.table.proofs.Laws.Fronts.{slots_alike}
 pub use Rattle.table.proofs.Laws.Refusals.{Inside, inside_fits, outside_inside}
 pub use Rattle.table.proofs.Laws.Shown.{LongEnough, stores_long}
 pub use Rattle.table.specs.Sound.{index_shape_of}
 pub use Rattle.table.specs.declared.Header.{Header}
-pub use Rattle.table.specs.declared.TableAnswer.{TableAnswer}
-pub use Rattle.table.specs.declared.TableAnswer.TheVariants.{Refused, Table}
 pub use Rattle.table.specs.inner.Lent.{lengths_of}

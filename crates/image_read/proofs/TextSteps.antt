@@ -2,9 +2,10 @@
 use Rattle.std.specs.Int.{to_le_bytes, w32}
 use Rattle.image_read.proofs.Prelude.{ℕ, zero, suc, ◌+◌, ◌*◌, ◌/◌, ◌%◌, ◌≤◌, ◌<◌, ◌≡◌, refl, sym, ap, ◌∙◌, List, [], ◌∷◌, ◌++◌, append-nil, none, some, arith, length, take, drop, get_or, set, length-drop, drop_of_length-le, drop-cons, take-length, get_or-drop, get_or-take, length-take-le, lt-ltb, le-ltb, copy_step, bytes_of, Reads, Layout, bytes_cons, length_bytes, byte_of, text_length, TextIn}
 use Rattle.lists.specs.Lists.{splice}
-use Rattle.refusals.specs.Refusals.{first_refusal, reply}
-use Rattle.image_spec.specs.declared.LengthAnswer.TheVariants.{Refused, Length}
-use Rattle.image_spec.specs.Outcomes.{length_view, text_refusal, text_of, TextRead}
+use Rattle.std.specs.Prelude.{Ok, Err}
+use Rattle.refusals.specs.declared.Refusal.TheVariants.{TooShort, NoImage}
+use Rattle.refusals.specs.Refusals.{first_refusal, reply, answer_view}
+use Rattle.image_spec.specs.Outcomes.{text_refusal, text_of, TextRead}
 use Rattle.image_check.specs.inner.Parsed.{image_in, IsAt}
 use mathlib.Core.Option.{Option-elim}
 
@@ -67,8 +68,8 @@ module _ (words : List ℕ) (count : ℕ) (t : TextIn words count) where
 
 -- ---- `read_text`
 
-pub text_none : (words output : List ℕ) → Reads words none → TextRead words output (Refused 19) output
-unfolding length_view text_refusal text_of Option-elim reply
+pub text_none : (words output : List ℕ) → Reads words none → TextRead words output (Err NoImage) output
+unfolding answer_view text_refusal text_of Option-elim reply
 text_none words output n =
     record { image = none; reads = n; effect = record { answers = refl; unchanged = λ _. refl; written = λ z. absurd (omega arith) } }
 
@@ -82,7 +83,7 @@ module _ (words output : List ℕ) (l : Layout) (t : IsAt words l) where
   unfolding image_in
   length_is = text_length words l t.placed t.counted
 
-  pub text_short : length output < l.text → TextRead words output (Refused 2) output
+  pub text_short : length output < l.text → TextRead words output (Err TooShort) output
   text_short k =
       let n : text_refusal (some (image_in words l)) (length output) ≡ 2 = refused_by in
       record {
@@ -99,10 +100,10 @@ module _ (words output : List ℕ) (l : Layout) (t : IsAt words l) where
       refused_by : text_refusal (some (image_in words l)) (length output) ≡ 2
       refused_by = unfold text_refusal Option-elim first_refusal in rw (length_is, lt-ltb _ _ k)
 
-      answer_is : length_view (Refused 2) ≡ reply 2 (length (text_of (some (image_in words l))))
-      answer_is = unfold length_view reply in refl
+      answer_is : answer_view {A = ℕ} (Err TooShort) ≡ reply 2 (length (text_of (some (image_in words l))))
+      answer_is = unfold answer_view reply in refl
 
-  pub text_written : l.text ≤ length output → (output' : List ℕ) → output' ≡ splice output 0 (take l.text (bytes_of (drop 15 words))) → TextRead words output (Length l.text) output'
+  pub text_written : l.text ≤ length output → (output' : List ℕ) → output' ≡ splice output 0 (take l.text (bytes_of (drop 15 words))) → TextRead words output (Ok l.text) output'
   text_written k output' e =
       let n : text_refusal (some (image_in words l)) (length output) ≡ 0 = accepted_by in
       record {
@@ -119,8 +120,8 @@ module _ (words output : List ℕ) (l : Layout) (t : IsAt words l) where
       accepted_by : text_refusal (some (image_in words l)) (length output) ≡ 0
       accepted_by = unfold text_refusal Option-elim first_refusal in rw (length_is, le-ltb _ _ k)
 
-      answer_is : length_view (Length l.text) ≡ reply 0 (length (text_of (some (image_in words l))))
-      answer_is = unfold length_view reply text_of Option-elim in rw length_is
+      answer_is : answer_view (Ok l.text) ≡ reply 0 (length (text_of (some (image_in words l))))
+      answer_is = unfold answer_view reply text_of Option-elim in rw length_is
 
       text_is : splice output 0 (take l.text (bytes_of (drop 15 words))) ≡ splice output 0 (text_of (some (image_in words l)))
       text_is = unfold text_of Option-elim image_in in refl

@@ -3,6 +3,7 @@
 
 ghost use Rattle.std.specs.Prelude.{◌≡◌, ◌+◌, ◌≤◌, ◌<◌, length, take, drop, get_or};
 ghost use Rattle.lists.specs.Lists.{splice};
+ghost use Rattle.refusals.specs.Refusals.{refusal_number};
 ghost use Rattle.crc32.specs.Crc.{bytes_of};
 ghost use Rattle.key_index.specs.inner.Index.{Fits};
 ghost use Rattle.key_rebuild.specs.inner.Rebuilding.{Rebuilt};
@@ -13,12 +14,12 @@ ghost use Rattle.image_check.specs.inner.Parsed.{part, IsAt};
 ghost use Rattle.image_check.specs.inner.Decoding.{SlotsBuilt};
 ghost use Rattle.image_read.specs.inner.Loading.{load_refusal, PartsFit, PartsWritten, Built, Loading, TextIn};
 
+use image_check::MOST_SLOTS;
 use image_check::parse::{self, Layout};
-use image_check::{Decoding, MOST_SLOTS};
-use image_spec::{LengthAnswer, TEXT_AT, WORD_BYTES};
+use image_spec::{TEXT_AT, WORD_BYTES};
 use key_index::IndexShape;
-use refusals::{ACCEPTED, NO_IMAGE, OUT_OF_BOUNDS, TOO_SHORT};
-use table::{Header, Lent, TableAnswer, refusing};
+use refusals::Refusal;
+use table::{Header, Lent, refusing};
 
 // ---- the table
 
@@ -32,20 +33,20 @@ fn with_capacity(h: Header, capacity: u32) -> Header
     Header { capacity, ..h }
 }
 
-// The number of the first test that a header and the lengths of the lent stores fail; `ACCEPTED` if they pass all.
-fn load_refusal(h: Header, l: Lent) -> u32
-    ensures { result ≡ load_refusal h (lengths_of l) }
+// The checks of a header and of the lengths of the lent stores, before an image is loaded.
+fn check_load(h: Header, l: Lent) -> Result<(), Refusal>
+    ensures { refusal_number result ≡ load_refusal h (lengths_of l) }
 {
     if refusing::is_outside(h) {
-        return OUT_OF_BOUNDS;
+        return Err(Refusal::OutOfBounds);
     }
     if refusing::is_stores_short(h, l) {
-        return TOO_SHORT;
+        return Err(Refusal::TooShort);
     }
     if l.pending < h.pending as usize {
-        return TOO_SHORT;
+        return Err(Refusal::TooShort);
     }
-    ACCEPTED
+    Ok(())
 }
 
 // Writes the words from one place to another at the start of a store.
@@ -90,7 +91,7 @@ fn load(
     keys: &mut [u32],
     sorts: &mut [u32],
     pending: &mut [u32],
-) -> TableAnswer
+) -> Result<Header, Refusal>
     requires { IsAt words.now l × SlotsBuilt words.now l slots.now × (131072 ≤ length slots.now) }
     ensures { Loading words.now l capacity (body rows.old keys.old sorts.old) pending.old result (body rows.new keys.new sorts.new) pending.new }
 {
@@ -104,13 +105,10 @@ fn load(
         live: 0,
         base: 0,
     };
-    let refusal = load_refusal(n, lent);
-    if refusal != ACCEPTED {
-        return TableAnswer::Refused(refusal);
-    }
+    check_load(n, lent)?;
     write_parts(words, l, rows, sorts, pending);
     write_keys(table::index_shape(n), h.capacity, slots, rows, keys);
-    TableAnswer::Table(n)
+    Ok(n)
 }
 
 // Loads the table of an image into lent stores, with another capacity unless that is 0. Refuses with 19, 20, 1 or 2.
@@ -121,14 +119,12 @@ pub fn read_image(
     keys: &mut [u32],
     sorts: &mut [u32],
     pending: &mut [u32],
-) -> TableAnswer
+) -> Result<Header, Refusal>
     ensures { ImageRead words.now capacity (body rows.old keys.old sorts.old) pending.old result (body rows.new keys.new sorts.new) pending.new }
 {
     let mut slots = [0u32; MOST_SLOTS];
-    match image_check::decode(words, &mut slots) {
-        Decoding::Refused(number) => TableAnswer::Refused(number),
-        Decoding::Sound(l) => load(words, l, &slots, capacity, rows, keys, sorts, pending),
-    }
+    let l = image_check::decode(words, &mut slots)?;
+    load(words, l, &slots, capacity, rows, keys, sorts, pending)
 }
 
 // ---- the text
@@ -152,16 +148,14 @@ fn write_text(words: &[u32], count: usize, output: &mut [u8])
 }
 
 // Writes the text of an image, in bytes, at the start of the output. Refuses with 19 or 2.
-pub fn read_text(words: &[u32], output: &mut [u8]) -> LengthAnswer
+pub fn read_text(words: &[u32], output: &mut [u8]) -> Result<usize, Refusal>
     ensures { TextRead words.now output.old result output.new }
 {
-    let Some(l) = parse::parse(words) else {
-        return LengthAnswer::Refused(NO_IMAGE);
-    };
+    let l = parse::parse(words).ok_or(Refusal::NoImage)?;
     let count = l.text as usize;
     if output.len() < count {
-        return LengthAnswer::Refused(TOO_SHORT);
+        return Err(Refusal::TooShort);
     }
     write_text(words, count, output);
-    LengthAnswer::Length(l.text as u64)
+    Ok(count)
 }

@@ -3,32 +3,26 @@
 -- number, the length or the checksum is wrong; a number of the header is outside its bounds; the flag of the largest value is above 1, or
 -- is 0 while the value is not 0; the text is too long, or a byte after it is not 0); 20, an image of a table that is not sound; 21, a
 -- text to be written of more than 4,096 bytes. Assumes nothing.
-use Rattle.std.specs.Prelude.{ℕ, ◌*◌, ◌<◌, ◌≡◌, Bool, true, false, cond, not, ◌||◌, List, [], ◌∷◌, length, ltb, eqb}
+use Rattle.refusals.specs.declared.Refusal.{Refusal}
+use Rattle.std.specs.Prelude.{ℕ, ◌*◌, ◌<◌, ◌≡◌, Bool, true, false, cond, not, ◌||◌, List, [], ◌∷◌, length, ltb, eqb, Result}
 use Rattle.std.proofs.Math.Option.{Option, some, Option-elim}
 use Rattle.lists.specs.Lists.{splice}
-use Rattle.refusals.specs.Refusals.{Check, check, first_refusal, Reply, refused, accepted, reply, outcome, Effect}
+use Rattle.refusals.specs.Refusals.{Check, check, first_refusal, Reply, refused, accepted, reply, outcome, answer_view, Effect}
 use Rattle.key_index.specs.Slots.{KeysSound}
 use Rattle.plain_table.specs.Staged.{Opening}
 use Rattle.plain_table.specs.Refusing.{stores_short}
 use Rattle.table.specs.declared.Header.{Header}
-use Rattle.table.specs.declared.TableAnswer.{TableAnswer}
-use Rattle.table.specs.Numbers.{opening_of, table_view, header}
+use Rattle.table.specs.Numbers.{opening_of, header}
 use Rattle.table.specs.Refusing.{outside, pending_outside, rows_short, pairs_short}
 use Rattle.table.specs.Sound.{index_shape_of}
 use Rattle.table.specs.Outcomes.{Body, lengths, SamePast}
-use Rattle.image_spec.specs.declared.LengthAnswer.{LengthAnswer}
-use Rattle.image_spec.specs.declared.LengthAnswer.TheVariants.{Refused as LengthRefused, Length}
 use Rattle.image_spec.specs.Image.{Image, image_words, Reads, SoundImage, image_of, image_length}
-
-unfoldable pub length_view : LengthAnswer → Reply ℕ
-length_view (LengthRefused n) = refused n
-length_view (Length n) = accepted n
 
 -- ---- sizes and writing
 
 -- *Image size*: 1, 21
-pub record ImageSized (h : Header) (text : ℕ) (answer : LengthAnswer) : Type 0 where
-  pub answers : length_view answer ≡ reply (first_refusal (check (outside h) 1 ∷ check (ltb 4096 text) 21 ∷ [])) (image_length h text)
+pub record ImageSized (h : Header) (text : ℕ) (answer : Result ℕ Refusal) : Type 0 where
+  pub answers : answer_view answer ≡ reply (first_refusal (check (outside h) 1 ∷ check (ltb 4096 text) 21 ∷ [])) (image_length h text)
 
 -- *Write image*: 1, 2, 21; "2 again" for an output shorter than the image
 unfoldable pub write_refusal : Header → ℕ → ℕ → ℕ → ℕ → ℕ → ℕ
@@ -41,8 +35,8 @@ write_refusal h rows sorts pending text output =
     ∷ [])
 
 -- lent rows, sort entries, pending and a text; the image is at the start of the output, and cells past it are unchanged
-pub record ImageWritten (h : Header) (rows sorts pending text output : List ℕ) (answer : LengthAnswer) (output' : List ℕ) : Type 0 where
-  pub effect : Effect (write_refusal h (length rows) (length sorts) (length pending) (length text) (length output)) (length_view answer)
+pub record ImageWritten (h : Header) (rows sorts pending text output : List ℕ) (answer : Result ℕ Refusal) (output' : List ℕ) : Type 0 where
+  pub effect : Effect (write_refusal h (length rows) (length sorts) (length pending) (length text) (length output)) (answer_view answer)
       (image_length h (length text)) output output' (splice output 0 (image_words (image_of h rows sorts pending text)))
 
 -- ---- checking and reading
@@ -68,9 +62,9 @@ with_capacity h capacity = header (resized_opening (opening_of h) capacity) h.ro
 unfoldable pub check_reply : Option Image → Bool → Reply Header
 check_reply image sound = Option-elim image (refused 19) (λ i. reply (first_refusal (check (not sound) 20 ∷ [])) i.header)
 
-pub record ImageChecked (words : List ℕ) (answer : TableAnswer) : Type 0 where
+pub record ImageChecked (words : List ℕ) (answer : Result Header Refusal) : Type 0 where
   pub decoded : Decoded words
-  pub answers : table_view answer ≡ check_reply decoded.image decoded.sound
+  pub answers : answer_view answer ≡ check_reply decoded.image decoded.sound
 
 -- 1 for a capacity outside its bounds or below the row count; 2 for a store shorter than needed
 abbrev pub stores_checks : Header → ℕ → Body → List ℕ → List Check
@@ -86,8 +80,8 @@ read_refusal image sound capacity b pending =
 
 -- The stores begin with the image's words, and cells past them are unchanged. The key store is sound; its slots are the program's
 -- choice.
-pub record Loaded (i : Image) (capacity : ℕ) (b : Body) (pending : List ℕ) (answer : TableAnswer) (b' : Body) (pending' : List ℕ) : Type 0 where
-  pub answers : table_view answer ≡ accepted (with_capacity i.header capacity)
+pub record Loaded (i : Image) (capacity : ℕ) (b : Body) (pending : List ℕ) (answer : Result Header Refusal) (b' : Body) (pending' : List ℕ) : Type 0 where
+  pub answers : answer_view answer ≡ accepted (with_capacity i.header capacity)
   pub rows_after : b'.rows ≡ splice b.rows 0 i.rows
   pub sorts_after : b'.sorts ≡ splice b.sorts 0 i.sorts
   pub pending_after : pending' ≡ splice pending 0 i.pending
@@ -95,9 +89,9 @@ pub record Loaded (i : Image) (capacity : ℕ) (b : Body) (pending : List ℕ) (
   pub past : SamePast (2 * (with_capacity i.header capacity).capacity) b.keys b'.keys
   pub slots : length b'.keys ≡ length b.keys
 
-pub record ImageRead (words : List ℕ) (capacity : ℕ) (b : Body) (pending : List ℕ) (answer : TableAnswer) (b' : Body) (pending' : List ℕ) : Type 0 where
+pub record ImageRead (words : List ℕ) (capacity : ℕ) (b : Body) (pending : List ℕ) (answer : Result Header Refusal) (b' : Body) (pending' : List ℕ) : Type 0 where
   pub decoded : Decoded words
-  pub refusal : outcome (table_view answer) ≡ reply (read_refusal decoded.image decoded.sound capacity b pending) tt
+  pub refusal : outcome (answer_view answer) ≡ reply (read_refusal decoded.image decoded.sound capacity b pending) tt
   pub unchanged : 0 < read_refusal decoded.image decoded.sound capacity b pending → (b' ≡ b) × (pending' ≡ pending)
   pub loaded : (i : Image) → decoded.image ≡ some i → read_refusal decoded.image decoded.sound capacity b pending ≡ 0
       → Loaded i capacity b pending answer b' pending'
@@ -110,7 +104,7 @@ text_refusal image output = Option-elim image 19 (λ i. first_refusal (check (lt
 unfoldable pub text_of : Option Image → List ℕ
 text_of image = Option-elim image [] (λ i. i.text)
 
-pub record TextRead (words output : List ℕ) (answer : LengthAnswer) (output' : List ℕ) : Type 0 where
+pub record TextRead (words output : List ℕ) (answer : Result ℕ Refusal) (output' : List ℕ) : Type 0 where
   pub image : Option Image
   pub reads : Reads words image
-  pub effect : Effect (text_refusal image (length output)) (length_view answer) (length (text_of image)) output output' (splice output 0 (text_of image))
+  pub effect : Effect (text_refusal image (length output)) (answer_view answer) (length (text_of image)) output output' (splice output 0 (text_of image))

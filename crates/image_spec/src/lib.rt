@@ -1,5 +1,4 @@
-// Images of tables: what the functions that write and read them return, and the numbers of the format. The definitions and
-// contracts are in specs/.
+// Images of tables: the numbers of the format. The definitions and contracts are in specs/.
 #![tactic(auto)]
 
 // "MGTB" as a word, lowest byte first.
@@ -28,10 +27,3 @@ pub const BYTE_RANGE: u32 = 0x100;
 pub const TWO_BYTE_RANGE: u32 = 0x1_0000;
 
 pub const THREE_BYTE_RANGE: u32 = 0x100_0000;
-
-// How many words or bytes were written, or would be.
-#[derive(Clone, Copy)]
-pub enum LengthAnswer {
-    Refused(u32),
-    Length(u64),
-}

@@ -392,6 +392,7 @@ pub fn put(t: IndexShape, store: &mut [u32], hash: u32, row: u32) -> bool
     let home = home_slot(slots, hash);
     let mut taken = taken_run(slots, store, home);
     let mut place = home + taken;
+    // No `for`: the count takes whole windows at once.
     while taken < slots {
         if store[place as usize] == 0 {
             store[place as usize] = slot_word(hash, row);
@@ -425,6 +426,7 @@ pub fn put_new(
     let slots = 2 * t.room;
     let mut at = home_slot(slots, hash);
     let mut passed: u32 = 0;
+    // No `for`: the count takes whole windows at once.
     while passed < slots {
         let word = store[at as usize];
         if word == 0 {

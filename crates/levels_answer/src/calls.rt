@@ -1,16 +1,15 @@
 // The lines of `levels` that change a table. Each makes its call and returns the header after it and the response. The compaction
 // words are local arrays of the functions that lend them.
 ghost use Rattle.std.specs.Prelude.{◌≡◌, ◌≤◌, length};
-ghost use Rattle.refusals.specs.Refusals.{if_accepted};
-ghost use Rattle.table.specs.Numbers.{table_view, merge_view};
+ghost use Rattle.refusals.specs.Refusals.{answer_view, if_accepted};
 ghost use Rattle.table.specs.Outcomes.{stores};
 ghost use Rattle.levels_spec.specs.inner.Responses.{response_of, nothing_response, merge_response, ServedWith, Serving};
 ghost use Rattle.levels_answer.specs.inner.Calling.{OnPending, OnKeys, OnBody, OnAll};
 
-use abi::{encode_bool, places};
+use abi::places;
 use levels_spec::{Response, Served};
-use refusals::NO_LISTING;
-use table::{Header, MergeAnswer, TableAnswer};
+use refusals::Refusal;
+use table::{Header, Merge};
 
 // The largest capacity that fits the program's stores.
 const MOST_ROWS: u32 = 1024;
@@ -19,15 +18,15 @@ const MOST_ROWS: u32 = 1024;
 const WORDS: usize = 16;
 
 // The header and the response after an opening, a staging, a compaction or a clear.
-fn taken(h: Header, answer: TableAnswer) -> Served
-    ensures { ServedWith (if_accepted (table_view answer) (λ h. h) h) (response_of nothing_response (table_view answer)) result }
+fn taken(h: Header, answer: Result<Header, Refusal>) -> Served
+    ensures { ServedWith (if_accepted (answer_view answer) (λ h. h) h) (response_of nothing_response answer) result }
 {
     match answer {
-        TableAnswer::Refused(number) => Served {
+        Err(refusal) => Served {
             header: h,
-            response: Response::Refused(number),
+            response: Response::Refused(refusal),
         },
-        TableAnswer::Table(after) => Served {
+        Ok(after) => Served {
             header: after,
             response: Response::Nothing,
         },
@@ -75,7 +74,7 @@ pub fn open_table(
     if MOST_ROWS < capacity {
         return Served {
             header: h,
-            response: Response::Refused(NO_LISTING),
+            response: Response::Refused(Refusal::NoListing),
         };
     }
     let opened = table_open::open_table(
@@ -112,17 +111,17 @@ pub fn compact(h: Header, rows: &mut [u32], keys: &mut [u32], sorts: &mut [u32])
 }
 
 // The header and the response after a merge.
-fn respond_merge(h: Header, answer: MergeAnswer) -> Served
-    ensures { ServedWith (if_accepted (merge_view answer) (λ m. m.header) h) (response_of merge_response (merge_view answer)) result }
+fn respond_merge(h: Header, answer: Result<Merge, Refusal>) -> Served
+    ensures { ServedWith (if_accepted (answer_view answer) (λ m. m.header) h) (response_of merge_response answer) result }
 {
     match answer {
-        MergeAnswer::Refused(number) => Served {
+        Err(refusal) => Served {
             header: h,
-            response: Response::Refused(number),
+            response: Response::Refused(refusal),
         },
-        MergeAnswer::Merged(m) => Served {
+        Ok(m) => Served {
             header: m.header,
-            response: Response::Merged(m.status, encode_bool(m.added), m.place),
+            response: Response::Merged(m.status, u32::from(m.added), m.place),
         },
     }
 }

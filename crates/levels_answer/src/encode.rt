@@ -5,7 +5,6 @@ ghost use Rattle.levels_answer.specs.inner.Encoded.{ListingEncoded};
 
 use levels_spec::Response;
 use levels_text::write::{put_bytes, refuse, write_line};
-use listing_spec::TextAnswer;
 use listing_write::write_listing;
 use table::Header;
 
@@ -14,8 +13,8 @@ fn list_table(numbered: bool, h: Header, rows: &[u32], text: &mut [u8]) -> usize
     ensures { ListingEncoded numbered h rows.now text.new result }
 {
     match write_listing(h, rows, numbered, text) {
-        TextAnswer::Refused(_) => 0,
-        TextAnswer::Written(bytes) => bytes,
+        Err(_) => 0,
+        Ok(bytes) => bytes,
     }
 }
 
@@ -26,7 +25,7 @@ pub fn encode_response(h: Header, response: Response, rows: &[u32], text: &mut [
 {
     match response {
         Response::Nothing => 0,
-        Response::Refused(number) => refuse(text, number),
+        Response::Refused(refusal) => refuse(text, refusal.into()),
         Response::Merged(status, added, place) => write_line(text, b'M', &[status, added, place]),
         Response::NoRange => put_bytes(text, 0, b"F,none\n"),
         Response::Range(start, end) => write_line(text, b'F', &[start, end]),

@@ -10,7 +10,7 @@ use dispatch::serve;
 use encode::encode_response;
 use levels_spec::{Response, Served};
 use levels_text::MOST_NUMBERS;
-use refusals::NO_LISTING;
+use refusals::Refusal;
 use table::Header;
 
 mod calls; // calls.rt: the lines that change the table
@@ -33,7 +33,7 @@ fn respond(
     let Some(parsed) = levels_text::parse(line, &mut numbers) else {
         return Served {
             header: h,
-            response: Response::Refused(NO_LISTING),
+            response: Response::Refused(Refusal::NoListing),
         };
     };
     let passed = &numbers[..parsed.count];

@@ -1,39 +1,42 @@
 // The lines of `levels` that read the table, and the response of each.
 ghost use Rattle.std.specs.Prelude.{◌≡◌, length};
-ghost use Rattle.table.specs.Numbers.{range_view, version_view};
 ghost use Rattle.levels_spec.specs.inner.Responses.{response_of, range_response, version_response, listing_response};
 ghost use Rattle.levels_answer.specs.inner.Querying.{OnSorts, OnHeader, list_letter};
 
 use constraints::Constraint;
 use levels_spec::Response;
-use table::{Header, RangeAnswer, VersionAnswer};
+use refusals::Refusal;
+use sort_entries::Range;
+use table::{Header, Version};
 
-fn respond_range(answer: RangeAnswer) -> Response
-    ensures { result ≡ response_of range_response (range_view answer) }
+fn respond_range(answer: Result<Option<Range>, Refusal>) -> Response
+    ensures { result ≡ response_of range_response answer }
 {
     match answer {
-        RangeAnswer::Refused(number) => Response::Refused(number),
-        RangeAnswer::None => Response::NoRange,
-        RangeAnswer::Range(start, end) => Response::Range(start, end),
+        Err(refusal) => Response::Refused(refusal),
+        Ok(found) => match found {
+            None => Response::NoRange,
+            Some(r) => Response::Range(r.start, r.end),
+        },
     }
 }
 
-fn respond_version(answer: VersionAnswer) -> Response
-    ensures { result ≡ response_of version_response (version_view answer) }
+fn respond_version(answer: Result<Version, Refusal>) -> Response
+    ensures { result ≡ response_of version_response answer }
 {
     match answer {
-        VersionAnswer::Refused(number) => Response::Refused(number),
-        VersionAnswer::Version(v) => Response::Version(v.generation, v.rows),
+        Err(refusal) => Response::Refused(refusal),
+        Ok(v) => Response::Version(v.generation, v.rows),
     }
 }
 
 // The response is a listing, with row numbers or without, unless the version is refused.
-fn respond_listing(numbered: bool, answer: VersionAnswer) -> Response
-    ensures { result ≡ response_of (listing_response numbered) (version_view answer) }
+fn respond_listing(numbered: bool, answer: Result<Version, Refusal>) -> Response
+    ensures { result ≡ response_of (listing_response numbered) answer }
 {
     match answer {
-        VersionAnswer::Refused(number) => Response::Refused(number),
-        VersionAnswer::Version(_) => Response::Listing(numbered),
+        Err(refusal) => Response::Refused(refusal),
+        Ok(_) => Response::Listing(numbered),
     }
 }
 

@@ -1,12 +1,13 @@
 // The response to a line of `levels`, before it is encoded as text.
 #![tactic(auto)]
 
+use refusals::Refusal;
 use table::Header;
 
 #[derive(Clone, Copy)]
 pub enum Response {
     Nothing,
-    Refused(u32),
+    Refused(Refusal),
     // status, added as 0 or 1, place
     Merged(u32, u32, u32),
     NoRange,

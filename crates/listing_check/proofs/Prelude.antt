@@ -12,13 +12,12 @@ pub use borrow.Author.Rules.{rules}
 pub use Rattle.listing_check.specs.Answers.{lowest, wrong_numbers}
 pub use Rattle.listing_check.specs.Laws.Numbers.{Apart, apart_one, differ, misplaced_at, misplaced_none, misplaced_rising, wrong_none, wrong_some}
 pub use Rattle.listing_check.specs.inner.Scanning.{RowRead, Underway}
-pub use Rattle.listing_check.specs.declared.CheckAnswer.{CheckAnswer}
 pub use Rattle.listing_check.specs.declared.CheckScan.{CheckScan}
-pub use Rattle.listing_check.specs.declared.CheckAnswer.TheVariants.{Checked, Refused}
 pub use Rattle.constraints.specs.declared.Constraint.{Constraint}
 pub use Rattle.listing_parse.specs.inner.Lines.{Found}
 pub use Rattle.table.specs.declared.Header.{Header}
-pub use Rattle.listing_check.specs.declared.Verdict.TheVariants.{Misplaced, Right, Wrong}
+pub use Rattle.listing_check.specs.declared.Mistake.{Mistake}
+pub use Rattle.listing_check.specs.declared.Mistake.TheVariants.{Misplaced, Wrong}
 pub use mathlib.Core.Option.{Option, none, some}
 pub use Rattle.listing_parse.specs.declared.Survey.{Survey}
 pub use Rattle.lists.specs.Laws.Rising.{above_cons, above_elem, above_head, above_rising, above_weaker, elem_here, elem_there, rising_ext, rising_of}

@@ -1,7 +1,6 @@
 -- Numbers that rise up to a place: the loop of `first_misplaced`. Assumes nothing.
 use Rattle.listing_check.proofs.Prelude.{ℕ, ◌+◌, ◌-◌, ◌≤◌, ◌<◌, ◌≡◌, List, dec_lt, arith, length, get_or, rising_of, misplaced_rising, misplaced_at, sym, ap, ◌∙◌, none, some}
-use Rattle.listing_check.specs.declared.FirstMisplaced.{FirstMisplaced}
-use Rattle.listing_check.specs.declared.FirstMisplaced.TheVariants.{None, At}
+use Rattle.std.specs.Prelude.{Option as Optional, Some, None}
 use Rattle.listing_check.specs.Answers.{misplaced}
 use Rattle.listing_check.specs.inner.Scanning.{misplaced_place}
 
@@ -15,7 +14,7 @@ module _ (given : List ℕ) (at : ℕ) (risen : Risen given at) where
     | no l ↦ let e : i ≡ at = omega arith in rw e h
   ]
 
-  pub risen_not : 1 ≤ at → at < length given → get_or given at 0 ≤ get_or given (at - 1) 0 → misplaced_place (At at) ≡ misplaced given
+  pub risen_not : 1 ≤ at → at < length given → get_or given at 0 ≤ get_or given (at - 1) 0 → misplaced_place (Some at) ≡ misplaced given
   unfolding misplaced_place
   risen_not p l h = sym (misplaced_at given (record { behind = p; inside = l; not_above = h; rises = risen }))
 
@@ -26,11 +25,11 @@ module _ (given : List ℕ) (at : ℕ) (risen : Risen given at) where
       step i l = let e : i + 1 - 1 ≡ i = omega arith in rw e at (risen (i + 1) (omega arith) (omega arith))
 
 -- the result of `first_misplaced`
-module _ (given : List ℕ) (r : FirstMisplaced) (e : misplaced_place r ≡ misplaced given) where
+module _ (given : List ℕ) (r : Optional ℕ) (e : misplaced_place r ≡ misplaced given) where
   pub none_misplaced : r ≡ None → misplaced given ≡ none
   unfolding misplaced_place
   none_misplaced q = sym e ∙ ap misplaced_place q
 
-  pub one_misplaced : (place : ℕ) → r ≡ At place → misplaced given ≡ some place
+  pub one_misplaced : (place : ℕ) → r ≡ Some place → misplaced given ≡ some place
   unfolding misplaced_place
   one_misplaced place q = sym e ∙ ap misplaced_place q

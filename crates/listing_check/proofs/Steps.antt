@@ -1,5 +1,8 @@
 -- The transitions of the scan: its start, one row processed, and its final state. Assumes nothing.
-use Rattle.listing_check.proofs.Prelude.{ℕ, suc, ◌+◌, ◌≤◌, ◌<◌, ◌≡◌, refl, sym, ap, ◌∙◌, Bool, true, false, cond, not, Bool·beq, false≢true, List, [], ◌∷◌, dec_lt, ℕ_discrete, arith, lt-ltb, le-ltb, eq-eqb, ne_eqb, eqb-true, length, take, drop, get_or, drop_of_length-le, List·getD-eq-default, drop-cons, Option, none, some, add-one, eqb, above_head, above_cons, above_weaker, Constraint, text_good, listing_in, text_shown, text_wrong, shown_listing, Survey, Right, Misplaced, Wrong, CheckAnswer, Refused, Checked, CheckScan, misplaced_none, above_kept, right_rising}
+use Rattle.refusals.specs.declared.Refusal.TheVariants.{NoSuchColumn, NoListing}
+use Rattle.refusals.specs.declared.Refusal.{Refusal}
+use Rattle.std.specs.Prelude.{Result, Ok, Err, Some, None, Option as Optional}
+use Rattle.listing_check.proofs.Prelude.{ℕ, suc, ◌+◌, ◌≤◌, ◌<◌, ◌≡◌, refl, sym, ap, ◌∙◌, Bool, true, false, cond, not, Bool·beq, false≢true, List, [], ◌∷◌, dec_lt, ℕ_discrete, arith, lt-ltb, le-ltb, eq-eqb, ne_eqb, eqb-true, length, take, drop, get_or, drop_of_length-le, List·getD-eq-default, drop-cons, Option, none, some, add-one, eqb, above_head, above_cons, above_weaker, Constraint, text_good, listing_in, text_shown, text_wrong, shown_listing, Survey, Mistake, Misplaced, Wrong, CheckScan, misplaced_none, above_kept, right_rising}
 use mathlib.Core.Option.{Option-elim}
 use Rattle.lists.specs.Lists.{filter, all, above}
 use Rattle.refusals.specs.Refusals.{check, first_refusal, accepted, reply}
@@ -8,21 +11,21 @@ use Rattle.listing_spec.specs.Listings.{row_numbers}
 use Rattle.listing_parse.specs.inner.Surveys.{head_of, Listed}
 use Rattle.listing_parse.specs.Laws.Steps.{rows_from, none_from}
 use Rattle.listing_check.specs.declared.Row.{Row}
-use Rattle.listing_check.specs.Answers.{right_numbers, misplaced, wrong_numbers, lowest, finding_on, verdict_view, check_view, check_reply, AnswersChecked}
+use Rattle.listing_check.specs.Answers.{right_numbers, misplaced, wrong_numbers, lowest, finding_on, check_view, check_reply, AnswersChecked}
 use Rattle.listing_check.specs.Laws.Verdicts.{verdict_for}
 use Rattle.listing_check.specs.inner.Scanning.{first_apart, right_among, unless_wrong, RowRead, rows_left, Underway, finished_as, Stepped, closed}
 use Rattle.listing_check.proofs.Apart.{apart_same, apart_left, apart_right, lowest_first}
 
 -- ---- the final state
-pub settle : {columns : ℕ} {text : List ℕ} {conditions : List Constraint} {given : List ℕ} {answer : CheckAnswer} → AnswersChecked text conditions given answer
+pub settle : {columns : ℕ} {text : List ℕ} {conditions : List Constraint} {given : List ℕ} {answer : Result (Optional Mistake) Refusal} → AnswersChecked text conditions given answer
     → Underway columns text conditions given (finished_as answer (length given))
 unfolding rows_left right_among row_numbers filter first_apart unless_wrong
 settle {given = given} p = record { whole = λ l. absurd (omega arith); due = λ l. absurd (omega arith); comes = rw (drop_of_length-le given {i = length given} (omega arith)) p }
 
 -- ---- the beginning
 
-view_right : (o : Option ℕ) → check_view (unless_wrong (Checked Right) o) ≡ accepted (verdict_for none o)
-unfolding check_view verdict_view unless_wrong Option-elim
+view_right : (o : Option ℕ) → check_view (unless_wrong (Ok None) o) ≡ accepted (verdict_for none o)
+unfolding check_view unless_wrong Option-elim
 view_right none = refl
 view_right (some n) = refl
 
@@ -36,7 +39,7 @@ left_from text at e =
     ]
 
 module _ (text : List ℕ) (conditions : List Constraint) (given : List ℕ) where
-  pub no_listing : text_good true text ≡ false → AnswersChecked text conditions given (Refused 11)
+  pub no_listing : text_good true text ≡ false → AnswersChecked text conditions given (Err NoListing)
   unfolding check_view check_reply Option-elim
   no_listing e = record { listing = none; shown = text_wrong true text e; answers = refl }
 
@@ -45,21 +48,21 @@ module _ (text : List ℕ) (conditions : List Constraint) (given : List ℕ) whe
     unfolding first_refusal head_of
     refusal_is = rw l.head
 
-    answered : {answer : CheckAnswer} → check_view answer ≡ reply (cond (not (all (known s.columns) conditions)) 6 0) (finding_on given (right_numbers conditions (listing_in text)))
+    answered : {answer : Result (Optional Mistake) Refusal} → check_view answer ≡ reply (cond (not (all (known s.columns) conditions)) 6 0) (finding_on given (right_numbers conditions (listing_in text)))
         → AnswersChecked text conditions given answer
     unfolding check_reply Option-elim
     answered e = record { listing = some (listing_in text); shown = text_shown true text l.of_form; answers = rw refusal_is e }
 
-    pub unknown : all (known s.columns) conditions ≡ false → AnswersChecked text conditions given (Refused 6)
+    pub unknown : all (known s.columns) conditions ≡ false → AnswersChecked text conditions given (Err NoSuchColumn)
     unfolding check_view reply
     unknown e = answered (rw e)
 
     module _ (knows : all (known s.columns) conditions ≡ true) where
-      pub out_of_place : {place : ℕ} → misplaced given ≡ some place → AnswersChecked text conditions given (Checked (Misplaced place))
-      unfolding check_view verdict_view reply finding_on Option-elim
+      pub out_of_place : {place : ℕ} → misplaced given ≡ some place → AnswersChecked text conditions given (Ok (Some (Misplaced place)))
+      unfolding check_view reply finding_on Option-elim
       out_of_place e = answered (rw (knows, e))
 
-      pub begin : misplaced given ≡ none → Underway s.columns text conditions given (record { answer = Checked Right; start = s.start; end = length text; place = 0 })
+      pub begin : misplaced given ≡ none → Underway s.columns text conditions given (record { answer = Ok None; start = s.start; end = length text; place = 0 })
       begin e = record {
         whole = λ h. refl;
         due = λ h. record { narrow = l.narrow; before = h; valid_rows = record { count = s.count; least = 0; left = 65536; good = l.good } };
@@ -67,7 +70,7 @@ module _ (text : List ℕ) (conditions : List Constraint) (given : List ℕ) whe
       }
         where
           at : CheckScan
-          at = record { answer = Checked Right; start = s.start; end = length text; place = 0 }
+          at = record { answer = Ok None; start = s.start; end = length text; place = 0 }
 
           right : List ℕ
           right = right_numbers conditions (listing_in text)
@@ -144,11 +147,11 @@ module _ {columns : ℕ} {text : List ℕ} {conditions : List Constraint} {given
   comes_here : AnswersChecked text conditions given (unless_wrong at.answer (first_apart (drop at.place given) here))
   comes_here = rw right_here at w.comes
 
-  wrong : {x : ℕ} → first_apart (drop at.place given) here ≡ some x → Underway columns text conditions given (finished_as (Checked (Wrong x)) (length given))
+  wrong : {x : ℕ} → first_apart (drop at.place given) here ≡ some x → Underway columns text conditions given (finished_as (Ok (Some (Wrong x))) (length given))
   unfolding unless_wrong
   wrong e = settle (rw e at comes_here)
 
-  pub given_wrong : next < n → Underway columns text conditions given (finished_as (Checked (Wrong next)) (length given))
+  pub given_wrong : next < n → Underway columns text conditions given (finished_as (Ok (Some (Wrong next))) (length given))
   given_wrong h = wrong (rw (some_left given at.place (omega (arith, r.fits))) (apart_low next (drop (suc at.place) given) here (above_here meets-all)))
     where
       above_here : (b : Bool) → above next (cond b (n ∷ rest) rest) ≡ true
@@ -166,7 +169,7 @@ module _ {columns : ℕ} {text : List ℕ} {conditions : List Constraint} {given
   next_here : next ≡ n → drop at.place given ≡ next ∷ drop (at.place + 1) given
   next_here e = some_left given at.place (omega (arith, r.fits)) ∙ ap (λ (i : ℕ). next ∷ drop i given) (sym (add-one at.place))
 
-  pub row_wrong : n ≤ next → (eqb next n ≡ meets-all → ⊥) → Underway columns text conditions given (finished_as (Checked (Wrong n)) (length given))
+  pub row_wrong : n ≤ next → (eqb next n ≡ meets-all → ⊥) → Underway columns text conditions given (finished_as (Ok (Some (Wrong n))) (length given))
   row_wrong h other = wrong (parts meets-all other (ℕ_discrete next n))
     where
       parts : (b : Bool) → (eqb next n ≡ b → ⊥) → Dec (next ≡ n) → first_apart (drop at.place given) (cond b (n ∷ rest) rest) ≡ some n
@@ -196,13 +199,13 @@ alike false true e = e
 alike false false e = refl
 
 module _ {given : List ℕ} {at : CheckScan} {row : Row} {meets-all : Bool} {next : ℕ} (e : next ≡ get_or given at.place 4294967296) where
-  pub step_given : {at' : CheckScan} → next < row.number → at' ≡ finished_as (Checked (Wrong next)) (length given) → Stepped given at row meets-all at'
+  pub step_given : {at' : CheckScan} → next < row.number → at' ≡ finished_as (Ok (Some (Wrong next))) (length given) → Stepped given at row meets-all at'
   step_given h finished = rw finished (record {
     keeps = λ columns text conditions w l r m. rw e (given_wrong w l r m (omega (arith, e)));
     nearer = λ l f. omega arith;
   })
 
-  pub step_row : {at' : CheckScan} → row.number ≤ next → not (Bool·beq (eqb next row.number) meets-all) ≡ true → at' ≡ finished_as (Checked (Wrong row.number)) (length given) → Stepped given at row meets-all at'
+  pub step_row : {at' : CheckScan} → row.number ≤ next → not (Bool·beq (eqb next row.number) meets-all) ≡ true → at' ≡ finished_as (Ok (Some (Wrong row.number))) (length given) → Stepped given at row meets-all at'
   step_row h o finished = rw finished (record {
     keeps = λ columns text conditions w l r m. row_wrong w l r m (omega (arith, e)) (rw e at (unlike (eqb next row.number) meets-all o));
     nearer = λ l f. omega arith;

@@ -1,17 +1,16 @@
 -- Checking a laboratory's answers (document 02, change 13): a listing in the new form, a list of conditions and the row numbers
 -- that the laboratory gives. Assumes nothing.
-use Rattle.std.specs.Prelude.{ℕ, suc, min, ◌≡◌, true, cond, not, drop, get_or, ltb}
+use Rattle.refusals.specs.declared.Refusal.{Refusal}
+use Rattle.std.specs.Prelude.{ℕ, suc, min, ◌≡◌, true, cond, not, drop, get_or, ltb, Result, Ok, Err, Some, None, Option as Optional}
 use mathlib.Core.List.{List, [], ◌∷◌, ◌++◌, foldl}
 use Rattle.std.proofs.Math.Option.{Option, none, some, Option-elim}
 use Rattle.lists.specs.Lists.{filter, all, elem}
-use Rattle.refusals.specs.Refusals.{check, first_refusal, Reply, refused, accepted, reply}
+use Rattle.refusals.specs.Refusals.{check, first_refusal, Reply, refused, accepted, reply, number}
 use Rattle.constraints.specs.declared.Constraint.{Constraint}
 use Rattle.constraints.specs.Constraints.{known, met}
 use Rattle.listing_spec.specs.Listings.{Listing, row_numbers, ParsesAs}
-use Rattle.listing_check.specs.declared.Verdict.{Verdict}
-use Rattle.listing_check.specs.declared.Verdict.TheVariants.{Right, Misplaced, Wrong}
-use Rattle.listing_check.specs.declared.CheckAnswer.{CheckAnswer}
-use Rattle.listing_check.specs.declared.CheckAnswer.TheVariants.{Refused, Checked}
+use Rattle.listing_check.specs.declared.Mistake.{Mistake}
+use Rattle.listing_check.specs.declared.Mistake.TheVariants.{Misplaced, Wrong}
 
 -- the numbers of "the rows of the listing that meet every condition": a row's first field is its number, followed by its cells
 unfoldable pub right_numbers : List Constraint → Listing → List ℕ
@@ -46,16 +45,12 @@ pub data Finding : Type 0 where
 unfoldable pub finding_on : List ℕ → List ℕ → Finding
 finding_on given right = Option-elim (misplaced given) (Option-elim (lowest (wrong_numbers given right)) correct lowest_wrong) out_of_order
 
--- the finding that each case of the enum represents
-unfoldable pub verdict_view : Verdict → Finding
-verdict_view Right = correct
-verdict_view (Misplaced place) = out_of_order place
-verdict_view (Wrong number) = lowest_wrong number
-
--- the reply that an answer represents
-unfoldable pub check_view : CheckAnswer → Reply Finding
-check_view (Refused n) = refused n
-check_view (Checked verdict) = accepted (verdict_view verdict)
+-- the reply that an answer represents: a finding for each mistake, and for none
+unfoldable pub check_view : Result (Optional Mistake) Refusal → Reply Finding
+check_view (Err r) = refused (number r)
+check_view (Ok None) = accepted correct
+check_view (Ok (Some (Misplaced place))) = accepted (out_of_order place)
+check_view (Ok (Some (Wrong n))) = accepted (lowest_wrong n)
 
 -- "After 11 comes 6, as for any condition"
 unfoldable pub check_reply : Option Listing → List Constraint → List ℕ → Reply Finding
@@ -63,7 +58,7 @@ check_reply listing conditions given =
     Option-elim listing (refused 11) (λ l. reply (first_refusal (check (not (all (known (get_or l.head 0 0)) conditions)) 6 ∷ [])) (finding_on given (right_numbers conditions l)))
 
 -- The contract of the check. It writes to no store.
-pub record AnswersChecked (text : List ℕ) (conditions : List Constraint) (given : List ℕ) (answer : CheckAnswer) : Type 0 where
+pub record AnswersChecked (text : List ℕ) (conditions : List Constraint) (given : List ℕ) (answer : Result (Optional Mistake) Refusal) : Type 0 where
   pub listing : Option Listing
   pub shown : ParsesAs true text listing
   pub answers : check_view answer ≡ check_reply listing conditions given

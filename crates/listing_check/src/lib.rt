@@ -10,22 +10,15 @@ ghost use Rattle.listing_check.specs.inner.Scanning.{misplaced_place, Due, RowRe
 use constraints::Constraint;
 use listing_parse::{MOST_FIELDS, Survey, reread_line, scan_text};
 use query::loops::{are_known, is_match};
-use refusals::{NO_LISTING, NO_SUCH_COLUMN};
+use refusals::Refusal;
 use table::Header;
 
-// The numbers are right; or the number at this place is not above the one before; or this is the lowest row number that is wrongly
-// present or wrongly absent.
+// What is wrong with the numbers: the number at this place is not above the one before; or this is the lowest row number that is
+// wrongly present or wrongly absent.
 #[derive(Clone, Copy)]
-pub enum Verdict {
-    Right,
+pub enum Mistake {
     Misplaced(usize),
     Wrong(u32),
-}
-
-#[derive(Clone, Copy)]
-pub enum CheckAnswer {
-    Refused(u32),
-    Checked(Verdict),
 }
 
 // A row as its D line gives it, and the offset after the line. Cells past the listing's columns are not used.
@@ -41,7 +34,7 @@ struct Row {
 // number is left.
 #[derive(Clone, Copy)]
 struct CheckScan {
-    answer: CheckAnswer,
+    answer: Result<Option<Mistake>, Refusal>,
     start: usize,
     end: usize,
     place: usize,
@@ -67,27 +60,21 @@ fn header_of(s: Survey) -> Header
 }
 
 // The place of the first number not above the one before, if there is one.
-#[derive(Clone, Copy)]
-enum FirstMisplaced {
-    None,
-    At(usize),
-}
-
-fn first_misplaced(given: &[u32]) -> FirstMisplaced
+fn first_misplaced(given: &[u32]) -> Option<usize>
     ensures { misplaced_place result ≡ misplaced given.now }
 {
     let mut at = 1;
     while at < given.len() {
         if given[at] <= given[at - 1] {
-            return FirstMisplaced::At(at);
+            return Some(at);
         }
         at += 1;
     }
-    FirstMisplaced::None
+    None
 }
 
 // The final state: no line or number is left that could change the answer.
-fn finished(answer: CheckAnswer, count: usize) -> CheckScan
+fn finished(answer: Result<Option<Mistake>, Refusal>, count: usize) -> CheckScan
     ensures { result ≡ finished_as answer count }
 {
     CheckScan {
@@ -104,22 +91,19 @@ fn begin(s: Survey, known: bool, text: &[u8], given: &[u32]) -> CheckScan
     ensures { Begun s known text.now given.now result }
 {
     if !s.is_listing {
-        return finished(CheckAnswer::Refused(NO_LISTING), given.len());
+        return finished(Err(Refusal::NoListing), given.len());
     }
     if !known {
-        return finished(CheckAnswer::Refused(NO_SUCH_COLUMN), given.len());
+        return finished(Err(Refusal::NoSuchColumn), given.len());
     }
     match first_misplaced(given) {
-        FirstMisplaced::None => CheckScan {
-            answer: CheckAnswer::Checked(Verdict::Right),
+        None => CheckScan {
+            answer: Ok(None),
             start: s.start,
             end: text.len(),
             place: 0,
         },
-        FirstMisplaced::At(place) => finished(
-            CheckAnswer::Checked(Verdict::Misplaced(place)),
-            given.len(),
-        ),
+        Some(place) => finished(Ok(Some(Mistake::Misplaced(place))), given.len()),
     }
 }
 
@@ -158,17 +142,11 @@ fn step(given: &[u32], at: CheckScan, row: Row, meets: bool) -> CheckScan
     let next = given_at(given, at.place);
     let number = row.number as u64;
     if next < number {
-        return finished(
-            CheckAnswer::Checked(Verdict::Wrong(next as u32)),
-            given.len(),
-        );
+        return finished(Ok(Some(Mistake::Wrong(next as u32))), given.len());
     }
     let there = next == number;
     if there != meets {
-        return finished(
-            CheckAnswer::Checked(Verdict::Wrong(row.number)),
-            given.len(),
-        );
+        return finished(Ok(Some(Mistake::Wrong(row.number))), given.len());
     }
     let mut n = at;
     n.start = row.next;
@@ -179,12 +157,12 @@ fn step(given: &[u32], at: CheckScan, row: Row, meets: bool) -> CheckScan
 }
 
 // After the last row, a number that is left is wrong.
-fn close(at: CheckScan, given: &[u32]) -> CheckAnswer
+fn close(at: CheckScan, given: &[u32]) -> Result<Option<Mistake>, Refusal>
     ensures { result ≡ closed at given.now }
 {
     let place = at.place;
     if place < given.len() {
-        return CheckAnswer::Checked(Verdict::Wrong(given[place]));
+        return Ok(Some(Mistake::Wrong(given[place])));
     }
     at.answer
 }
@@ -197,9 +175,12 @@ fn meets_all(h: Header, cells: [u32; 8], conditions: &[Constraint]) -> bool
     is_match(h, &cells, 0, conditions)
 }
 
-// Scans the whole text first, then row by row together with the numbers given. Tests whether the conditions are known without a
-// row, so the cells passed there are not used.
-pub fn check_answers(text: &[u8], conditions: &[Constraint], given: &[u32]) -> CheckAnswer
+// What is wrong with the numbers given, if anything. Scans the whole text first, then row by row together with the numbers given.
+pub fn check_answers(
+    text: &[u8],
+    conditions: &[Constraint],
+    given: &[u32],
+) -> Result<Option<Mistake>, Refusal>
     ensures { AnswersChecked text.now conditions.now given.now result }
 {
     let s = scan_text(true, text);

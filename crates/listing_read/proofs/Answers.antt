@@ -1,8 +1,12 @@
 -- The ways through `write_converted`, `lacks_room` and `convert_found`. Assumes nothing.
-use Rattle.listing_read.proofs.Prelude.{ℕ, ◌+◌, ◌-◌, ◌≤◌, ◌<◌, ◌≡◌, refl, sym, ap, ◌∙◌, Bool, true, false, not, ◌&&◌, false≢true, List, [], ◌∷◌, ◌++◌, map, arith, length, drop, get_or, length-append, inl, inr, none, some, ℕ_discrete, ltb, eqb, eq-eqb, ne_eqb, lt-ltb, le-ltb, ltb-true, ltb-false, flatten, split, bool_ext, reply_refused, text_line, Appended, appended_then, appended_put, Refused, Written, text_good, listing_in, shown_listing, shown_text, text_shown, text_wrong, lacks_none, lacks_no_row, fields_length, numbered_longer, plain_shorter, Survey}
+use Rattle.refusals.specs.declared.Refusal.TheVariants.{TooShort, NoListing, MissingRow}
+use Rattle.refusals.specs.Laws.Numbers.{err_replies, number_some}
+use Rattle.refusals.specs.declared.Refusal.{Refusal}
+use Rattle.std.specs.Prelude.{Ok, Err}
+use Rattle.listing_read.proofs.Prelude.{ℕ, ◌+◌, ◌-◌, ◌≤◌, ◌<◌, ◌≡◌, refl, sym, ap, ◌∙◌, Bool, true, false, not, ◌&&◌, false≢true, List, [], ◌∷◌, ◌++◌, map, arith, length, drop, get_or, length-append, inl, inr, none, some, ℕ_discrete, ltb, eqb, eq-eqb, ne_eqb, lt-ltb, le-ltb, ltb-true, ltb-false, flatten, split, bool_ext, text_line, Appended, appended_then, appended_put, text_good, listing_in, shown_listing, shown_text, text_shown, text_wrong, lacks_none, lacks_no_row, fields_length, numbered_longer, plain_shorter, Survey}
 use mathlib.Core.Option.{Option-elim}
-use Rattle.refusals.specs.Refusals.{first_refusal, refused, reply}
-use Rattle.listing_spec.specs.Listings.{Listing, head_letter, listing_text, numbered_from, to_numbered, from_numbered, lacks_row, converted_text, convert_refusal, text_view, ListingConverted}
+use Rattle.refusals.specs.Refusals.{first_refusal, reply, number, answer_view}
+use Rattle.listing_spec.specs.Listings.{Listing, head_letter, listing_text, numbered_from, to_numbered, from_numbered, lacks_row, converted_text, convert_refusal, ListingConverted}
 use Rattle.listing_parse.specs.inner.Surveys.{head_of, Listed}
 use Rattle.listing_parse.specs.Laws.Steps.{rows_from, ValidRows}
 use Rattle.listing_read.specs.inner.Converting.{converted_row, converted_from, converted_head, converted_length}
@@ -63,12 +67,8 @@ module _ (text : List ℕ) (s : Survey) where
 
 -- ---- the answers
 
-view_refused : (n : ℕ) → text_view (Refused n) ≡ refused n
-unfolding text_view
-view_refused n = refl
-
-pub converted_wrong : (numbered : Bool) (text output : List ℕ) → text_good numbered text ≡ false → ListingConverted numbered text output (Refused 11) output
-unfolding text_view convert_refusal Option-elim reply
+pub converted_wrong : (numbered : Bool) (text output : List ℕ) → text_good numbered text ≡ false → ListingConverted numbered text output (Err NoListing) output
+unfolding answer_view convert_refusal Option-elim reply
 converted_wrong numbered text output e = record {
   listing = none;
   shown = text_wrong numbered text e;
@@ -101,23 +101,21 @@ module _ (numbered : Bool) (text : List ℕ) (s : Survey) (l : Listed numbered t
   unfolding rows_from
   rows_few = omega (arith, l.few, l.counted, ap length l.rows_there)
 
-  refused_with : (n : ℕ) → 0 < n → convert_refusal numbered (some (listing_in text)) (length output) ≡ n → ListingConverted numbered text output (Refused n) output
-  refused_with n Some-number e = record {
+  refused_with : (r : Refusal) → number r ≡ convert_refusal numbered (some (listing_in text)) (length output) → ListingConverted numbered text output (Err r) output
+  refused_with r e = record {
     listing = some (listing_in text);
     shown = text_shown numbered text l.of_form;
     effect =
         record {
-          answers =
-              reply_refused (text_view (Refused n)) (convert_refusal numbered (some (listing_in text)) (length output)) n (length (converted_text numbered (some (listing_in text)))) (view_refused n) (sym e)
-              (λ z. omega (arith, Some-number, z));
+          answers = err_replies r _ e;
           unchanged = λ more. refl;
-          written = λ zero. absurd (omega (arith, zero, e, Some-number));
+          written = λ zero. absurd (number_some r (e ∙ zero));
         };
   }
 
   module _ {missing : Bool} (tested : missing ≡ (numbered && not (eqb s.rows s.count))) where
-    pub converted_missing : missing ≡ true → ListingConverted numbered text output (Refused 17) output
-    converted_missing t = refused_with 17 (omega arith) (gives_17 numbered (listing_in text) (length output) (lacks_same text s numbered l ∙ sym tested ∙ t))
+    pub converted_missing : missing ≡ true → ListingConverted numbered text output (Err MissingRow) output
+    converted_missing t = refused_with MissingRow (sym (gives_17 numbered (listing_in text) (length output) (lacks_same text s numbered l ∙ sym tested ∙ t)))
 
     module _ (none_missing : missing ≡ false) where
       whole : (numbered && lacks_row (listing_in text)) ≡ false
@@ -130,17 +128,17 @@ module _ (numbered : Bool) (text : List ℕ) (s : Survey) (l : Listed numbered t
       converted_length_lem = (longer text s numbered l whole).1
 
       module _ {short : Bool} (measured : short ≡ ltb (length output) (converted_length numbered s.rows (length text))) where
-        pub converted_short : short ≡ true → ListingConverted numbered text output (Refused 2) output
+        pub converted_short : short ≡ true → ListingConverted numbered text output (Err TooShort) output
         converted_short t =
-            refused_with 2 (omega arith)
-            (gives_2 numbered (listing_in text) (length output) whole
-            (let h = ltb-true (length output) (converted_length numbered s.rows (length text)) (sym measured ∙ t) in omega (arith, h, converted_length_lem)))
+            refused_with TooShort
+            (sym (gives_2 numbered (listing_in text) (length output) whole
+            (let h = ltb-true (length output) (converted_length numbered s.rows (length text)) (sym measured ∙ t) in omega (arith, h, converted_length_lem))))
 
         module _ (fits : short ≡ false) where
           pub converted_room : length (converted_text numbered (some (listing_in text))) ≤ length output
           converted_room = let h = ltb-false (length output) (converted_length numbered s.rows (length text)) (sym measured ∙ fits) in omega (arith, h, converted_length_lem)
 
-          pub converted_done : {output' : List ℕ} {bytes : ℕ} → Appended output 0 (converted_text numbered (some (listing_in text))) output' bytes → ListingConverted numbered text output (Written bytes) output'
+          pub converted_done : {output' : List ℕ} {bytes : ℕ} → Appended output 0 (converted_text numbered (some (listing_in text))) output' bytes → ListingConverted numbered text output (Ok bytes) output'
           converted_done {output'} {bytes} a = record {
             listing = some (listing_in text);
             shown = text_shown numbered text l.of_form;
@@ -155,8 +153,8 @@ module _ (numbered : Bool) (text : List ℕ) (s : Survey) (l : Listed numbered t
               none_given : convert_refusal numbered (some (listing_in text)) (length output) ≡ 0
               none_given = gives_0 numbered (listing_in text) (length output) whole converted_room
 
-              answered : text_view (Written bytes) ≡ reply (convert_refusal numbered (some (listing_in text)) (length output)) (length (converted_text numbered (some (listing_in text))))
-              answered = let n : bytes ≡ length (converted_text numbered (some (listing_in text))) = omega (arith, a.counted) in rw (none_given, n) (unfold text_view reply in refl)
+              answered : answer_view (Ok bytes) ≡ reply (convert_refusal numbered (some (listing_in text)) (length output)) (length (converted_text numbered (some (listing_in text))))
+              answered = let n : bytes ≡ length (converted_text numbered (some (listing_in text))) = omega (arith, a.counted) in rw (none_given, n) (unfold answer_view reply in refl)
 
 -- ---- the head, then the rows
 

@@ -24,7 +24,6 @@ pub use Rattle.listing_parse.specs.inner.Lines.{Found, LineReread}
 pub use Rattle.listing_spec.specs.Laws.Conversions.{fields_length, lacks_no_row, lacks_none, numbered_longer, plain_shorter}
 pub use Rattle.listing_spec.specs.Laws.Texts.{rows_shown, shown_listing, shown_text, text_shown, text_wrong}
 pub use Rattle.listing_spec.specs.Listings.{prefix_width}
-pub use Rattle.listing_spec.specs.declared.TextAnswer.TheVariants.{Refused, Written}
 pub use Rattle.listing_spec.specs.inner.Checking.{lines_to_rows, listing_in, pieces, text_good}
 pub use Rattle.lists.specs.Laws.All.{all_weaker}
 pub use Rattle.lists.specs.Laws.Filter.{and_left, split}
@@ -32,4 +31,3 @@ pub use Rattle.lists.specs.Laws.Parts.{length_splice, put_part, splice_nil, spli
 pub use Rattle.lists.specs.Laws.Rising.{bool_ext, iota_snoc, length_iota}
 pub use Rattle.lists.specs.Laws.Rows.{length_flatten, widths}
 pub use Rattle.lists.specs.Lists.{flatten, splice}
-pub use Rattle.refusals.specs.Laws.Replies.{reply_refused}

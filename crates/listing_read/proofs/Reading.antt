@@ -1,13 +1,13 @@
 -- The ways out of `read_found` and `read`. Assumes nothing.
+use Rattle.refusals.specs.declared.Refusal.TheVariants.{TooShort, NoListing}
+use Rattle.refusals.specs.declared.Refusal.{Refusal}
 use Rattle.listing_read.proofs.Prelude.{ℕ, ◌+◌, ◌*◌, ◌≤◌, ◌<◌, ◌≡◌, refl, sym, ap, ◌∙◌, Bool, true, false, not, List, none, some, mul-le-mul, arith, eqb, length, get_or, lt-ltb, le-ltb, splice, flatten, all_weaker, and_left, widths, length_flatten, pieces, lines_to_rows, text_good, listing_in, rows_shown, text_shown, text_wrong, Survey}
 use mathlib.Core.Option.{Option-elim}
 use Rattle.refusals.specs.Refusals.{first_refusal, reply}
 use Rattle.listing_spec.specs.Listings.{Listing, prefix_width, is_row, listing_cells, read_refusal, read_words, listing_view, numbered_view, ListingRead}
-use Rattle.listing_spec.specs.declared.ListingAnswer.TheVariants.{Refused as ListingRefused, Listing as ListingFound}
-use Rattle.listing_spec.specs.declared.NumberedAnswer.TheVariants.{Refused as NumberedRefused, Listing as NumberedFound}
 use Rattle.listing_parse.specs.inner.Surveys.{head_of, Listed}
 use Rattle.listing_parse.specs.Laws.Steps.{rows_from, ValidRows}
-use Rattle.std.specs.Prelude.{Result, Ok, Err}
+use Rattle.std.specs.Prelude.{Ok, Err}
 use Rattle.listing_read.specs.inner.ReadResults.{read_view}
 
 module _ (l : Listing) (output : ℕ) where
@@ -46,7 +46,7 @@ module _ (numbered : Bool) (text : List ℕ) (s : Survey) (l : Listed numbered t
   same_cells = ap (λ (rs : List (List ℕ)). length (flatten rs)) (sym rows_there)
 
   module _ {width : ℕ} (e : width ≡ prefix_width numbered + s.columns) (output : List ℕ) where
-    pub read_short : length output < s.rows * width → ListingRead numbered text output (read_view numbered (Err 2)) output
+    pub read_short : length output < s.rows * width → ListingRead numbered text output (read_view numbered (Err TooShort)) output
     unfolding read_view
     read_short short = record {
       listing = some (listing_in text);
@@ -79,7 +79,7 @@ module _ (numbered : Bool) (text : List ℕ) (s : Survey) (l : Listed numbered t
         accepts : read_refusal (some (listing_in text)) (length output) ≡ 0
         accepts = long_enough (listing_in text) (length output) (omega (arith, cells_count e, same_cells))
 
-pub read_wrong : (numbered : Bool) (text output : List ℕ) → text_good numbered text ≡ false → ListingRead numbered text output (read_view numbered (Err 11)) output
+pub read_wrong : (numbered : Bool) (text output : List ℕ) → text_good numbered text ≡ false → ListingRead numbered text output (read_view numbered (Err NoListing)) output
 unfolding read_view read_refusal Option-elim reply
 read_wrong numbered text output e = record {
   listing = none;
@@ -98,21 +98,21 @@ cells_few rows width a b = let c = mul-le-mul a b in omega arith
 
 -- ---- converted to the answer type of the form
 
-module _ {text output output' : List ℕ} {r : Result Survey ℕ} where
-  pub listing_refused : (n : ℕ) → r ≡ Err n → ListingRead false text output (read_view false r) output' → ListingRead false text output (listing_view (ListingRefused n)) output'
+module _ {text output output' : List ℕ} where
+  pub listing_refused : (r : Refusal) → ListingRead false text output (read_view false (Err r)) output' → ListingRead false text output (listing_view (Err r)) output'
   unfolding read_view listing_view
-  listing_refused n e p = rw e at p
+  listing_refused r p = p
 
-  pub listing_found : (s : Survey) → r ≡ Ok s → ListingRead false text output (read_view false r) output'
-      → ListingRead false text output (listing_view (ListingFound (record { columns = s.columns; keys = s.keys; sort = s.sort; rule = s.rule; generation = s.generation; listed = s.rows }))) output'
+  pub listing_found : (s : Survey) → ListingRead false text output (read_view false (Ok s)) output'
+      → ListingRead false text output (listing_view (Ok (record { columns = s.columns; keys = s.keys; sort = s.sort; rule = s.rule; generation = s.generation; listed = s.rows }))) output'
   unfolding read_view listing_view head_of
-  listing_found s e p = rw e at p
+  listing_found s p = p
 
-  pub numbered_refused : (n : ℕ) → r ≡ Err n → ListingRead true text output (read_view true r) output' → ListingRead true text output (numbered_view (NumberedRefused n)) output'
+  pub numbered_refused : (r : Refusal) → ListingRead true text output (read_view true (Err r)) output' → ListingRead true text output (numbered_view (Err r)) output'
   unfolding read_view numbered_view
-  numbered_refused n e p = rw e at p
+  numbered_refused r p = p
 
-  pub numbered_found : (s : Survey) → r ≡ Ok s → ListingRead true text output (read_view true r) output'
-      → ListingRead true text output (numbered_view (NumberedFound (record { columns = s.columns; keys = s.keys; sort = s.sort; rule = s.rule; generation = s.generation; count = s.count; listed = s.rows }))) output'
+  pub numbered_found : (s : Survey) → ListingRead true text output (read_view true (Ok s)) output'
+      → ListingRead true text output (numbered_view (Ok (record { columns = s.columns; keys = s.keys; sort = s.sort; rule = s.rule; generation = s.generation; count = s.count; listed = s.rows }))) output'
   unfolding read_view numbered_view head_of
-  numbered_found s e p = rw e at p
+  numbered_found s p = p

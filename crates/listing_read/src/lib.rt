@@ -17,8 +17,8 @@ ghost use Rattle.listing_read.specs.inner.Converting.{converted_row, converted_f
 
 use levels_text::write::{number_length, put_line, put_numbered};
 use listing_parse::{MOST_FIELDS, Survey, reread_line, row_width, scan_text};
-use listing_spec::{ListingAnswer, ListingHead, NumberedAnswer, NumberedHead, TextAnswer};
-use refusals::{MISSING_ROW, NO_LISTING, TOO_SHORT};
+use listing_spec::{ListingHead, NumberedHead};
+use refusals::Refusal;
 
 // Writes the numbers of each D line in order.
 fn write_rows(numbered: bool, columns: usize, text: &[u8], start: usize, output: &mut [u32])
@@ -37,8 +37,8 @@ fn write_rows(numbered: bool, columns: usize, text: &[u8], start: usize, output:
     }
 }
 
-// Reads a text that is of the form. An error is the number of the refusal.
-fn read_found(numbered: bool, s: Survey, text: &[u8], output: &mut [u32]) -> Result<Survey, u32>
+// Reads a text that is of the form.
+fn read_found(numbered: bool, s: Survey, text: &[u8], output: &mut [u32]) -> Result<Survey, Refusal>
     requires { Listed numbered text.now s }
     ensures { ListingRead numbered text.now output.old (read_view numbered result) output.new }
 {
@@ -46,55 +46,51 @@ fn read_found(numbered: bool, s: Survey, text: &[u8], output: &mut [u32]) -> Res
     let rows = s.rows as usize;
     let width = row_width(numbered, columns);
     if output.len() < rows * width {
-        return Err(TOO_SHORT);
+        return Err(Refusal::TooShort);
     }
     write_rows(numbered, columns, text, s.start, output);
     Ok(s)
 }
 
-fn read(numbered: bool, text: &[u8], output: &mut [u32]) -> Result<Survey, u32>
+fn read(numbered: bool, text: &[u8], output: &mut [u32]) -> Result<Survey, Refusal>
     ensures { ListingRead numbered text.now output.old (read_view numbered result) output.new }
 {
     let s = scan_text(numbered, text);
-    if s.is_listing {
-        return read_found(numbered, s, text, output);
+    if !s.is_listing {
+        return Err(Refusal::NoListing);
     }
-    Err(NO_LISTING)
+    read_found(numbered, s, text, output)
 }
 
 // Reads a listing in the old form.
-pub fn read_listing(text: &[u8], output: &mut [u32]) -> ListingAnswer
+pub fn read_listing(text: &[u8], output: &mut [u32]) -> Result<ListingHead, Refusal>
     ensures { ListingRead false text.now output.old (listing_view result) output.new }
 {
-    match read(false, text, output) {
-        Err(number) => ListingAnswer::Refused(number),
-        Ok(s) => ListingAnswer::Listing(ListingHead {
-            columns: s.columns,
-            keys: s.keys,
-            sort: s.sort,
-            rule: s.rule,
-            generation: s.generation,
-            listed: s.rows,
-        }),
-    }
+    let s = read(false, text, output)?;
+    Ok(ListingHead {
+        columns: s.columns,
+        keys: s.keys,
+        sort: s.sort,
+        rule: s.rule,
+        generation: s.generation,
+        listed: s.rows,
+    })
 }
 
 // Reads a listing in the new form.
-pub fn read_numbered(text: &[u8], output: &mut [u32]) -> NumberedAnswer
+pub fn read_numbered(text: &[u8], output: &mut [u32]) -> Result<NumberedHead, Refusal>
     ensures { ListingRead true text.now output.old (numbered_view result) output.new }
 {
-    match read(true, text, output) {
-        Err(number) => NumberedAnswer::Refused(number),
-        Ok(s) => NumberedAnswer::Listing(NumberedHead {
-            columns: s.columns,
-            keys: s.keys,
-            sort: s.sort,
-            rule: s.rule,
-            generation: s.generation,
-            count: s.count,
-            listed: s.rows,
-        }),
-    }
+    let s = read(true, text, output)?;
+    Ok(NumberedHead {
+        columns: s.columns,
+        keys: s.keys,
+        sort: s.sort,
+        rule: s.rule,
+        generation: s.generation,
+        count: s.count,
+        listed: s.rows,
+    })
 }
 
 // The bytes that all numbers below a count take as fields.
@@ -215,39 +211,44 @@ fn lacks_room(numbered: bool, rows: u32, text: usize, output: usize) -> bool
 }
 
 // Converts a text that is of the form.
-fn convert_found(numbered: bool, s: Survey, text: &[u8], output: &mut [u8]) -> TextAnswer
+fn convert_found(
+    numbered: bool,
+    s: Survey,
+    text: &[u8],
+    output: &mut [u8],
+) -> Result<usize, Refusal>
     requires { Listed numbered text.now s }
     ensures { ListingConverted numbered text.now output.old result output.new }
 {
     if lacks_row(numbered, s) {
-        return TextAnswer::Refused(MISSING_ROW);
+        return Err(Refusal::MissingRow);
     }
     if lacks_room(numbered, s.rows, text.len(), output.len()) {
-        return TextAnswer::Refused(TOO_SHORT);
+        return Err(Refusal::TooShort);
     }
-    TextAnswer::Written(write_converted(numbered, s, text, output))
+    Ok(write_converted(numbered, s, text, output))
 }
 
 // Converts from the given form to the other.
-fn convert_listing(numbered: bool, text: &[u8], output: &mut [u8]) -> TextAnswer
+fn convert_listing(numbered: bool, text: &[u8], output: &mut [u8]) -> Result<usize, Refusal>
     ensures { ListingConverted numbered text.now output.old result output.new }
 {
     let s = scan_text(numbered, text);
     if s.is_listing {
         return convert_found(numbered, s, text, output);
     }
-    TextAnswer::Refused(NO_LISTING)
+    Err(Refusal::NoListing)
 }
 
 // From the old form to the new: rows are numbered from 0.
-pub fn to_numbered(text: &[u8], output: &mut [u8]) -> TextAnswer
+pub fn to_numbered(text: &[u8], output: &mut [u8]) -> Result<usize, Refusal>
     ensures { ListingConverted false text.now output.old result output.new }
 {
     convert_listing(false, text, output)
 }
 
 // From the new form to the old.
-pub fn from_numbered(text: &[u8], output: &mut [u8]) -> TextAnswer
+pub fn from_numbered(text: &[u8], output: &mut [u8]) -> Result<usize, Refusal>
     ensures { ListingConverted true text.now output.old result output.new }
 {
     convert_listing(true, text, output)

@@ -10,18 +10,15 @@
 --
 -- The text U,4,2,3,1,0,3 D,2,7,1,163,12 is of the new form too, but numbers 0 and 1 have no row: its conversion to the old form is
 -- refused with 17.
-use Rattle.std.specs.Prelude.{ℕ, suc, ◌+◌, ◌≡◌, Bool, true, false, cond, not, ◌&&◌, List, [], ◌∷◌, ◌++◌, map, length, take, drop, get_or, leb, ltb, eqb}
+use Rattle.refusals.specs.declared.Refusal.{Refusal}
+use Rattle.std.specs.Prelude.{ℕ, suc, ◌+◌, ◌≡◌, Bool, true, false, cond, not, ◌&&◌, List, [], ◌∷◌, ◌++◌, map, length, take, drop, get_or, leb, ltb, eqb, Result, Ok, Err}
 use Rattle.std.proofs.Math.Option.{Option, none, some, Option-elim}
 use Rattle.lists.specs.Lists.{splice, all, flatten, iota, rising, elem}
-use Rattle.refusals.specs.Refusals.{check, first_refusal, Reply, refused, accepted, Effect}
+use Rattle.refusals.specs.Refusals.{check, first_refusal, Reply, refused, accepted, Effect, number, answer_view}
 use Rattle.plain_table.specs.Staged.{openable}
 use Rattle.levels_text.specs.Written.{text_line}
-use Rattle.listing_spec.specs.declared.ListingAnswer.{ListingAnswer}
-use Rattle.listing_spec.specs.declared.ListingAnswer.TheVariants.{Refused as ReadRefused, Listing as Read}
-use Rattle.listing_spec.specs.declared.NumberedAnswer.{NumberedAnswer}
-use Rattle.listing_spec.specs.declared.NumberedAnswer.TheVariants.{Refused as NumberedRefused, Listing as NumberedRead}
-use Rattle.listing_spec.specs.declared.TextAnswer.{TextAnswer}
-use Rattle.listing_spec.specs.declared.TextAnswer.TheVariants.{Refused as MoveRefused, Written as MoveWritten}
+use Rattle.listing_spec.specs.declared.ListingHead.{ListingHead}
+use Rattle.listing_spec.specs.declared.NumberedHead.{NumberedHead}
 
 -- a listing: the numbers of its head line, and those of each D line
 pub record Listing : Type 0 where
@@ -97,13 +94,13 @@ unfoldable pub read_words : Option Listing → List ℕ
 read_words listing = Option-elim listing [] (λ l. l.head ++ (length l.rows ∷ []))
 
 -- the reply that an answer represents
-unfoldable pub listing_view : ListingAnswer → Reply (List ℕ)
-listing_view (ReadRefused n) = refused n
-listing_view (Read h) = accepted (h.columns ∷ h.keys ∷ h.sort ∷ h.rule ∷ h.generation ∷ h.listed ∷ [])
+unfoldable pub listing_view : Result ListingHead Refusal → Reply (List ℕ)
+listing_view (Err r) = refused (number r)
+listing_view (Ok h) = accepted (h.columns ∷ h.keys ∷ h.sort ∷ h.rule ∷ h.generation ∷ h.listed ∷ [])
 
-unfoldable pub numbered_view : NumberedAnswer → Reply (List ℕ)
-numbered_view (NumberedRefused n) = refused n
-numbered_view (NumberedRead h) = accepted (h.columns ∷ h.keys ∷ h.sort ∷ h.rule ∷ h.generation ∷ h.count ∷ h.listed ∷ [])
+unfoldable pub numbered_view : Result NumberedHead Refusal → Reply (List ℕ)
+numbered_view (Err r) = refused (number r)
+numbered_view (Ok h) = accepted (h.columns ∷ h.keys ∷ h.sort ∷ h.rule ∷ h.generation ∷ h.count ∷ h.listed ∷ [])
 
 -- The contract of both readers: the cells are at the start of the output, and nothing changes past them; on refusal nothing changes
 -- at all.
@@ -140,17 +137,12 @@ unfoldable pub convert_refusal : Bool → Option Listing → ℕ → ℕ
 convert_refusal numbered listing output =
     Option-elim listing 11 (λ l. first_refusal (check (numbered && lacks_row l) 17 ∷ check (ltb output (length (converted_text numbered listing))) 2 ∷ []))
 
--- the reply that an answer represents: how many bytes were written, so that the caller finds the end of the text
-unfoldable pub text_view : TextAnswer → Reply ℕ
-text_view (MoveRefused n) = refused n
-text_view (MoveWritten bytes) = accepted bytes
-
--- The contract of a conversion from this form to the other: the text is at the start of the output, its length is the answer, and
--- nothing changes past it; on refusal nothing changes at all.
-pub record ListingConverted (numbered : Bool) (text output : List ℕ) (answer : TextAnswer) (output' : List ℕ) : Type 0 where
+-- The contract of a conversion from this form to the other: the text is at the start of the output, the answer is its length, so that
+-- the caller finds its end, and nothing changes past it; on refusal nothing changes at all.
+pub record ListingConverted (numbered : Bool) (text output : List ℕ) (answer : Result ℕ Refusal) (output' : List ℕ) : Type 0 where
   pub listing : Option Listing
   pub shown : ParsesAs numbered text listing
-  pub effect : Effect (convert_refusal numbered listing (length output)) (text_view answer) (length (converted_text numbered listing)) output output'
+  pub effect : Effect (convert_refusal numbered listing (length output)) (answer_view answer) (length (converted_text numbered listing)) output output'
       (splice output 0 (converted_text numbered listing))
 
 -- "coming back restores the text exactly", if the text was in the old form; "New to old and again to new restores it too wherever
@@ -158,6 +150,6 @@ pub record ListingConverted (numbered : Bool) (text output : List ℕ) (answer :
 -- refused only with 2, and exactly if the output is shorter than the text.
 abbrev pub RestoresText : Bool → Type 0
 RestoresText numbered =
-    (text output output' again again' : List ℕ) (bytes : ℕ) (answer : TextAnswer) → ListingConverted numbered text output (MoveWritten bytes) output'
+    (text output output' again again' : List ℕ) (bytes : ℕ) (answer : Result ℕ Refusal) → ListingConverted numbered text output (Ok bytes) output'
     → ListingConverted (not numbered) (take bytes output') again answer again'
-    → Effect (first_refusal (check (ltb (length again) (length text)) 2 ∷ [])) (text_view answer) (length text) again again' (splice again 0 text)
+    → Effect (first_refusal (check (ltb (length again) (length text)) 2 ∷ [])) (answer_view answer) (length text) again again' (splice again 0 text)

@@ -1,4 +1,7 @@
 -- The ways through the loops over numbers and rows, and to the answers. Assumes nothing.
+use Rattle.refusals.specs.declared.Refusal.TheVariants.{OutOfBounds, TooShort}
+use Rattle.refusals.specs.declared.Refusal.{Refusal}
+use Rattle.std.specs.Prelude.{Ok, Err}
 use Rattle.listing_write.proofs.Prelude.{ℕ, zero, suc, ◌+◌, ◌-◌, ◌*◌, ◌≤◌, ◌<◌, ◌≡◌, refl, sym, ap, ◌∙◌, arith, length, take, drop, get_or, length-append, length-take}
 use mathlib.Core.Bool.{Bool, true, false}
 use mathlib.Core.List.{List, [], ◌∷◌, ◌++◌, map}
@@ -7,16 +10,15 @@ use native.Mathlib.Numerals.{add-one}
 use lib.Seq.{take-suc, take_all, drop-drop}
 use borrow.Author.Tests.{lt-ltb, le-ltb}
 use Rattle.lists.specs.Lists.{flatten}
-use Rattle.refusals.specs.Refusals.{first_refusal, reply}
-use Rattle.refusals.specs.Laws.Replies.{reply_refused}
+use Rattle.refusals.specs.Refusals.{first_refusal, reply, answer_view, number}
+use Rattle.refusals.specs.Laws.Numbers.{err_replies, number_some}
 use Rattle.constraints.specs.Constraints.{is_live}
 use Rattle.table.specs.declared.Header.{Header}
 use Rattle.table.specs.Refusing.{outside, rows_short}
 use Rattle.levels_text.specs.Written.{field, text_line}
 use Rattle.levels_text.specs.Laws.Decimals.{fields_more, length_fields, length_line, length_numbered}
 use Rattle.levels_text.specs.inner.Appending.{Appended, appended_none, appended_then, appended_put}
-use Rattle.listing_spec.specs.declared.TextAnswer.TheVariants.{Refused, Written}
-use Rattle.listing_spec.specs.Listings.{head_letter, text_view}
+use Rattle.listing_spec.specs.Listings.{head_letter}
 use Rattle.listing_write.specs.Writing.{stored_text, write_refusal, ListingWritten}
 use Rattle.listing_write.specs.inner.Lines.{head_numbers, head_line, row_line, row_lines, Stored}
 use Rattle.listing_write.specs.Laws.Lines.{stored_lines}
@@ -224,35 +226,35 @@ module _ (numbered : Bool) (h : Header) (rows : List ℕ) where
 -- ---- the answers
 
 module _ (numbered : Bool) (h : Header) (rows output : List ℕ) where
-  refused_with : (n : ℕ) → 0 < n → write_refusal numbered h rows (length output) ≡ n → ListingWritten numbered h rows output (Refused n) output
-  refused_with n more e = record {
+  refused_with : (r : Refusal) → number r ≡ write_refusal numbered h rows (length output) → ListingWritten numbered h rows output (Err r) output
+  refused_with r e = record {
     effect =
         record {
-          answers = reply_refused (text_view (Refused n)) (write_refusal numbered h rows (length output)) n (length (stored_text numbered h rows)) (unfold text_view in refl) (sym e) (λ z. omega (arith, more, z));
+          answers = err_replies r _ e;
           unchanged = λ some. refl;
-          written = λ zero. absurd (omega (arith, zero, e, more));
+          written = λ zero. absurd (number_some r (e ∙ zero));
         };
   }
 
-  pub refused_outside : outside h ≡ true → ListingWritten numbered h rows output (Refused 1) output
-  refused_outside e = refused_with 1 (omega arith) (unfold write_refusal first_refusal in rw e)
+  pub refused_outside : outside h ≡ true → ListingWritten numbered h rows output (Err OutOfBounds) output
+  refused_outside e = refused_with OutOfBounds (unfold write_refusal first_refusal in rw e)
 
   module _ (inside : outside h ≡ false) where
-    pub refused_rows : rows_short h (length rows) ≡ true → ListingWritten numbered h rows output (Refused 2) output
-    refused_rows e = refused_with 2 (omega arith) (unfold write_refusal first_refusal in rw (inside, e))
+    pub refused_rows : rows_short h (length rows) ≡ true → ListingWritten numbered h rows output (Err TooShort) output
+    refused_rows e = refused_with TooShort (unfold write_refusal first_refusal in rw (inside, e))
 
     module _ (long : rows_short h (length rows) ≡ false) where
-      pub refused_output : length output < length (stored_text numbered h rows) → ListingWritten numbered h rows output (Refused 2) output
-      refused_output less = refused_with 2 (omega arith) (unfold write_refusal first_refusal in rw (inside, long, lt-ltb (length output) (length (stored_text numbered h rows)) less))
+      pub refused_output : length output < length (stored_text numbered h rows) → ListingWritten numbered h rows output (Err TooShort) output
+      refused_output less = refused_with TooShort (unfold write_refusal first_refusal in rw (inside, long, lt-ltb (length output) (length (stored_text numbered h rows)) less))
 
-      pub written_all : length (stored_text numbered h rows) ≤ length output → {output' : List ℕ} {end : ℕ} → Appended output 0 (stored_text numbered h rows) output' end → ListingWritten numbered h rows output (Written end) output'
+      pub written_all : length (stored_text numbered h rows) ≤ length output → {output' : List ℕ} {end : ℕ} → Appended output 0 (stored_text numbered h rows) output' end → ListingWritten numbered h rows output (Ok end) output'
       written_all fits {output'} {end} a =
           let none : write_refusal numbered h rows (length output) ≡ 0 = unfold write_refusal first_refusal in rw (inside, long, le-ltb (length output) (length (stored_text numbered h rows)) fits) in
           let n : end ≡ length (stored_text numbered h rows) = omega (arith, a.counted) in
           record {
             effect =
                 record {
-                  answers = rw (none, n) (unfold text_view reply in refl);
+                  answers = rw (none, n) (unfold answer_view reply in refl);
                   unchanged = λ more. absurd (omega (arith, more, none));
                   written = λ zero. appended_put a;
                 };

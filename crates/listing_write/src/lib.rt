@@ -10,8 +10,7 @@ ghost use Rattle.listing_write.specs.Writing.{stored_text, ListingWritten};
 ghost use Rattle.listing_write.specs.inner.Lines.{head_line, row_line, row_lines, Stored};
 
 use levels_text::write::{number_length, put_line, put_numbered};
-use listing_spec::TextAnswer;
-use refusals::{OUT_OF_BOUNDS, TOO_SHORT};
+use refusals::Refusal;
 use table::Header;
 use table::refusing::{is_outside, is_rows_short};
 
@@ -141,17 +140,22 @@ fn put_text(numbered: bool, h: Header, rows: &[u32], text: &mut [u8]) -> usize
 }
 
 // Writes a listing of the table in `rows` to the start of `output`, in the new form if `numbered`. Returns the bytes written.
-pub fn write_listing(h: Header, rows: &[u32], numbered: bool, output: &mut [u8]) -> TextAnswer
+pub fn write_listing(
+    h: Header,
+    rows: &[u32],
+    numbered: bool,
+    output: &mut [u8],
+) -> Result<usize, Refusal>
     ensures { ListingWritten numbered h rows.now output.old result output.new }
 {
     if is_outside(h) {
-        return TextAnswer::Refused(OUT_OF_BOUNDS);
+        return Err(Refusal::OutOfBounds);
     }
     if is_rows_short(h, rows.len()) {
-        return TextAnswer::Refused(TOO_SHORT);
+        return Err(Refusal::TooShort);
     }
     if output.len() < text_length(numbered, h, rows) {
-        return TextAnswer::Refused(TOO_SHORT);
+        return Err(Refusal::TooShort);
     }
-    TextAnswer::Written(put_text(numbered, h, rows, output))
+    Ok(put_text(numbered, h, rows, output))
 }

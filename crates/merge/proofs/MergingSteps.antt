@@ -1,6 +1,9 @@
 -- The steps of a merge: when a compaction is due, what each call requires, and what the entry point returns. Assumes nothing.
+use Rattle.refusals.specs.Laws.Numbers.{err_outcome, ok_outcome, number_some}
+use Rattle.refusals.specs.declared.Refusal.{Refusal}
+use Rattle.std.specs.Prelude.{Ok, Err}
 use Prim.Native.Nat.{ℕ, ◌+◌, ◌*◌, ◌/◌, ◌≤◌, ◌<◌, max}
-use mathlib.Core.Path.{◌≡◌, refl, sym, ap, ◌∙◌}
+use mathlib.Core.Path.{◌≡◌, refl, ap, ◌∙◌}
 use mathlib.Core.Logic.{inl, inr}
 use Rattle.std.specs.Prelude.{Option, None, Some}
 use Rattle.std.proofs.Common.{subst}
@@ -11,7 +14,6 @@ use lib.Dec.{ltb}
 use lib.ListN.{length}
 use borrow.Author.Tests.{ltb-true, ltb-false, lt-ltb, le-ltb, eq-eqb, ne_eqb, eqb-false, not-true}
 use Rattle.lists.specs.Laws.Filter.{split, and_right}
-use Rattle.refusals.specs.Laws.Replies.{outcome_refused, outcome_accepted}
 use Rattle.key_index.specs.declared.IndexShape.{IndexShape}
 use Rattle.key_index.specs.inner.Index.{Fits}
 use Rattle.plain_table.specs.Staged.{compaction_due}
@@ -19,12 +21,11 @@ use Rattle.plain_table.specs.Plain.{live as live_count, compacts_after, Plain, a
 use Rattle.table.specs.declared.Header.{Header}
 use Rattle.table.specs.declared.Merge.{Merge}
 use Rattle.merge_insert.specs.declared.MergeProgress.{MergeProgress}
+use Rattle.refusals.specs.Refusals.{number}
 use Rattle.merge_insert.specs.declared.StoppedAt.{StoppedAt}
 use Rattle.merge_insert.specs.declared.append.Stop.{Stop}
 use Rattle.merge_insert.specs.declared.append.Stop.TheVariants.{TableFull, OldSortValue}
 use Rattle.merge_insert.specs.inner.Appending.{stop_number}
-use Rattle.table.specs.declared.MergeAnswer.TheVariants.{Refused as MergeRefused, Merged}
-use Rattle.table.specs.Numbers.{merge_view}
 use Rattle.table.specs.Refusing.{merge_refusal}
 use Rattle.table.specs.Outcomes.{stores, body, compaction_words, lengths, Represents, with_pending, Merging}
 use Rattle.merge_pending.specs.inner.Becoming.{with_counts, with_dead, Ready}
@@ -197,21 +198,20 @@ module _ (m : MergeProgress) (before : ℕ) (rows keys sorts live base : List �
 
 module _ (h : Header) (rows keys sorts pending live base : List ℕ) where
   -- a refused merge
-  pub merge_refused : (n : ℕ) → n ≡ merge_refusal h (lengths rows keys sorts pending live base) → (n ≡ 0 → ⊥)
-      → Merging (stores h rows keys sorts pending) (compaction_words live base) (MergeRefused n) (body rows keys sorts) (compaction_words live base)
-  unfolding merge_view
-  merge_refused n e some =
+  pub merge_refused : (r : Refusal) → number r ≡ merge_refusal h (lengths rows keys sorts pending live base)
+      → Merging (stores h rows keys sorts pending) (compaction_words live base) (Err r) (body rows keys sorts) (compaction_words live base)
+  merge_refused r e =
       record {
-        refusal = outcome_refused (merge_view (MergeRefused n)) _ n refl e some;
+        refusal = err_outcome _ r e;
         unchanged = λ k. (refl, refl);
         past = refl;
         words_past = (refl, refl);
-        table = λ z. absurd (some (e ∙ z));
+        table = λ z. absurd (number_some r (e ∙ z));
       }
 
-  module _ (n : ℕ) (number : n ≡ merge_refusal h (lengths rows keys sorts pending live base)) (taken : n ≡ 0) where
+  module _ (accepts : merge_refusal h (lengths rows keys sorts pending live base) ≡ 0) where
     mergeable : Mergeable h (lengths rows keys sorts pending live base)
-    mergeable = merge_accepted h (lengths rows keys sorts pending live base) (sym number ∙ taken)
+    mergeable = merge_accepted h (lengths rows keys sorts pending live base) (accepts)
 
     -- what its passes require
     pub merge_ready : Ready h rows keys sorts pending × (h.dead ≤ h.rows)
@@ -257,14 +257,12 @@ module _ (h : Header) (rows keys sorts pending live base : List ℕ) where
 
       -- a merge is done
       pub merge_done : (r : Merge) (rows' keys' sorts' live' base' : List ℕ) → Finishing m h.rows rows₁ keys₁ sorts₁ live base r rows' keys' sorts' live' base'
-          → Merging (stores h rows keys sorts pending) (compaction_words live base) (Merged r) (body rows' keys' sorts') (compaction_words live' base')
-      unfolding merge_view
+          → Merging (stores h rows keys sorts pending) (compaction_words live base) (Ok r) (body rows' keys' sorts') (compaction_words live' base')
       merge_done r rows' keys' sorts' live' base' f =
           let n : m.header.capacity ≡ h.capacity = ap (λ (x : Header). x.capacity) applying.counts in
-          let e = sym number ∙ taken in
           record {
-            refusal = outcome_accepted (merge_view (Merged r)) _ r refl e;
-            unchanged = λ k. absurd (omega (arith, e));
+            refusal = ok_outcome r accepts;
+            unchanged = λ k. absurd (omega (arith, accepts));
             past = (rw n at f.past) ∙ applying.past;
             words_past = rw n at f.words_past;
             table = λ z p shown.

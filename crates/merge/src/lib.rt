@@ -11,9 +11,9 @@ ghost use Rattle.merge.specs.inner.Parts.{Applying, Finishing};
 
 use merge_insert::{MergeProgress, insert_all};
 use merge_remove::remove_all;
-use refusals::ACCEPTED;
-use table::refusing::{LAST_GENERATION, merge_refusal};
-use table::{Header, Lent, Merge, MergeAnswer, REMOVE_KEY, REMOVE_ROW};
+use refusals::Refusal;
+use table::refusing::{LAST_GENERATION, check_merge};
+use table::{Header, Lent, Merge, REMOVE_KEY, REMOVE_ROW};
 use table_compact::compact_rows;
 
 // A compaction is due only if more rows than these are dead.
@@ -95,7 +95,7 @@ pub fn merge(
     pending: &[u32],
     live: &mut [u64],
     base: &mut [u32],
-) -> MergeAnswer
+) -> Result<Merge, Refusal>
     ensures { Merging (stores h rows.old keys.old sorts.old pending.now) (compaction_words live.old base.old) result (body rows.new keys.new sorts.new) (compaction_words live.new base.new) }
 {
     let l = Lent {
@@ -106,10 +106,7 @@ pub fn merge(
         live: live.len(),
         base: base.len(),
     };
-    let refusal = merge_refusal(h, l);
-    if refusal != ACCEPTED {
-        return MergeAnswer::Refused(refusal);
-    }
+    check_merge(h, l)?;
     let m = apply_pending(h, rows, keys, sorts, pending);
-    MergeAnswer::Merged(finish(m, h.rows, rows, keys, sorts, live, base))
+    Ok(finish(m, h.rows, rows, keys, sorts, live, base))
 }

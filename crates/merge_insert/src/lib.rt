@@ -90,6 +90,7 @@ pub fn insert_all(
         count: 0,
     };
     let mut at = first_place(h, pending);
+    // No `for`: each turn goes on by the words of a record.
     while let Some(words) = record_length(h, pending, at) {
         match insert_next(done, rows, keys, sorts, pending, at) {
             Ok(next) => done = next,

@@ -29,6 +29,7 @@ fn after_run(h: Header, pending: &[u32], from: u32, kind: u32, words: u32) -> u3
     ensures { RunSkipped h pending.now from kind words result }
 {
     let mut at = from;
+    // No `for`: the run of records of this kind ends before the store does, and the place is the result.
     while words <= h.pending - at {
         if pending[at as usize] != kind {
             return at;

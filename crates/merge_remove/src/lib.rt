@@ -102,6 +102,7 @@ pub fn remove_all(
 {
     let mut dead = h.dead;
     let mut at: u32 = 0;
+    // No `for`: the next record of this kind may lie behind others.
     while let Some(words) = record_length(h, pending, at) {
         let died = remove_next(h, rows, keys, pending, at, kind);
         dead += u32::from(died);

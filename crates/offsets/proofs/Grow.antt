@@ -1,4 +1,5 @@
 -- A growing answer, an id at a time. Assumes nothing.
+use Rattle.std.specs.Prelude.{Ok}
 use Rattle.std.proofs.Common.{◌≡◌, ℕ, suc, ◌+◌, ◌-◌, ◌<◌, ◌≤◌, true, List, [], ◌∷◌, ◌++◌, length, get_or, set, sym, refl, ap, ◌∙◌, ap₂, add-zero, zero-add, arith, length-append, length-set}
 use native.Mathlib.Decide.{ℕ_discrete}
 use lib.ListN.{get_or-append}
@@ -9,7 +10,7 @@ use Rattle.lists.specs.Laws.Rising.{length_iota, get_d_iota, iota_snoc, rising_a
 use Rattle.lists.specs.Laws.Search.{put_more}
 use Rattle.refusals.specs.Refusals.{accepted}
 use Rattle.offsets.specs.declared.retain.RetainBuilder.{RetainBuilder}
-use Rattle.offsets.specs.declared.SubsetAnswer.TheVariants.{Range, List as Ids}
+use Rattle.offsets.specs.declared.SubsetForm.TheVariants.{Range, List as Ids}
 use Rattle.offsets.specs.Subsets.{range, list, shaped}
 use Rattle.offsets.specs.Answers.{Answered}
 use Rattle.offsets.specs.inner.RetainBuilder.{pushed, Builds, NextId, CanAdd, Adds, BuilderBegins, BuilderEnds}
@@ -232,7 +233,7 @@ ended_range g d =
 pub ended_list : (g : RetainBuilder) → (g.written ≡ 0 → ⊥) → BuilderEnds g (Ids g.count)
 ended_list g d = record { ends = ended }
   where
-    ended : (output₀ output kept : List ℕ) → Builds output₀ output g kept → Answered (accepted (shaped kept)) output₀ (Ids g.count) output
+    ended : (output₀ output kept : List ℕ) → Builds output₀ output g kept → Answered (accepted (shaped kept)) output₀ (Ok (Ids g.count)) output
     ended output₀ output [] s = absurd (d (s.as_list d).wrote.number)
     ended output₀ output (x ∷ xs) s =
         let r = s.as_list d in

@@ -1,12 +1,13 @@
 -- Subsets as arguments and as answers. Assumes nothing.
-use Rattle.std.specs.Prelude.{◌≡◌, ℕ, ◌≤◌, cond, not, ◌||◌, List, [], ◌∷◌, length, take, nat_lt}
+use Rattle.refusals.specs.declared.Refusal.{Refusal}
+use Rattle.std.specs.Prelude.{◌≡◌, ℕ, ◌≤◌, cond, not, ◌||◌, List, [], ◌∷◌, length, take, nat_lt, Result, Ok, Err}
 use Rattle.lists.specs.Lists.{splice}
-use Rattle.refusals.specs.Refusals.{check, first_refusal, Reply, refused, accepted, reply}
+use Rattle.refusals.specs.Refusals.{check, first_refusal, Reply, refused, accepted, reply, number}
 use Rattle.offsets.specs.declared.Subset.{Subset as Borrowed}
 use Rattle.offsets.specs.declared.Subset.TheVariants as borrowed
 use Rattle.offsets.specs.declared.SubsetRef.{SubsetRef}
-use Rattle.offsets.specs.declared.SubsetAnswer.{SubsetAnswer}
-use Rattle.offsets.specs.declared.SubsetAnswer.TheVariants.{Refused, Range, List as Ids}
+use Rattle.offsets.specs.declared.SubsetForm.{SubsetForm}
+use Rattle.offsets.specs.declared.SubsetForm.TheVariants.{Range, List as Ids}
 use Rattle.offsets.specs.Subsets.{Subset, range, list, well_formed, intersect}
 
 -- a borrowed subset
@@ -19,10 +20,10 @@ abbrev pub lent_subset : SubsetRef → Subset
 lent_subset lent = cond lent.dense (range lent.start lent.end) (list lent.ids.now)
 
 -- an answer decoded by its caller: refused, a range, or the first ids of the output
-unfoldable pub subset_view : SubsetAnswer → List ℕ → Reply Subset
-subset_view (Refused n) output = refused n
-subset_view (Range start end) output = accepted (range start end)
-subset_view (Ids n) output = accepted (list (take n output))
+unfoldable pub subset_view : Result SubsetForm Refusal → List ℕ → Reply Subset
+subset_view (Err refusal) output = refused (number refusal)
+subset_view (Ok (Range start end)) output = accepted (range start end)
+subset_view (Ok (Ids n)) output = accepted (list (take n output))
 
 -- the ids that a reply writes: "A range as answer writes no id"
 unfoldable pub written : Reply Subset → List ℕ
@@ -32,9 +33,9 @@ written (accepted (list ids)) = ids
 
 -- The answer and the output hold the reply: decoded by `subset_view` they are the reply, a list's ids all lie in the output, and "output
 -- beyond the ids written is unchanged".
-pub record Answered (r : Reply Subset) (output : List ℕ) (answer : SubsetAnswer) (output' : List ℕ) : Type 0 where
+pub record Answered (r : Reply Subset) (output : List ℕ) (answer : Result SubsetForm Refusal) (output' : List ℕ) : Type 0 where
   pub answers : subset_view answer output' ≡ r
-  pub inside : (n : ℕ) → answer ≡ Ids n → n ≤ length output'
+  pub inside : (n : ℕ) → answer ≡ Ok (Ids n) → n ≤ length output'
   pub writes : output' ≡ splice output 0 (written r)
 
 -- the output length that `intersect` needs: "output shorter than the first list, or than the second where the first is a range"

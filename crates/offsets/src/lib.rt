@@ -51,10 +51,9 @@ pub struct Ends {
     pub end: u64,
 }
 
-// A subset as an answer: refused with a number, a range, or the length of the list at the start of the lent output.
+// A subset as an answer: a range, or the length of the list at the start of the lent output.
 #[derive(Clone, Copy)]
-pub enum SubsetAnswer {
-    Refused(u32),
+pub enum SubsetForm {
     Range(u32, u32),
     List(u32),
 }
@@ -106,6 +105,7 @@ fn past_small_steps(ids: &[u32]) -> usize
     ensures { RisesUpTo ids.now result }
 {
     let mut at = 0;
+    // No `chunks`: each block begins with the last id of the one before.
     while BLOCK < ids.len() - at {
         if !rises_by_small_steps(&ids[at..at + BLOCK + 1]) {
             return at;
@@ -135,6 +135,7 @@ fn rises_by_parts(ids: &[u32]) -> bool
         return rises_pairwise(ids);
     }
     let mut at = 0;
+    // No `chunks`: each part begins with the last id of the one before.
     while PART < ids.len() - at {
         if !rises_pairwise(&ids[at..at + PART + 1]) {
             return false;

@@ -4,7 +4,7 @@ ghost use Rattle.std.specs.Prelude.{◌≡◌, ◌+◌, ◌<◌, ◌≤◌, leng
 ghost use Rattle.lists.specs.Lists.{splice, iota};
 ghost use Rattle.offsets.specs.inner.RetainBuilder.{pushed, CanAdd, Adds, BuilderBegins, BuilderEnds};
 
-use super::SubsetAnswer;
+use super::SubsetForm;
 
 // The answer of `retain` over a range while it is built: the first kept id, the number of kept ids, and the number of ids written.
 // No id is written while they are consecutive; afterwards all of them are. It has only numbers, which a loop holds in registers.
@@ -67,14 +67,14 @@ impl RetainBuilder {
     }
 
     // The answer, once all kept ids are added.
-    pub fn finish(self) -> SubsetAnswer
+    pub fn finish(self) -> SubsetForm
         requires { self.written ≡ 0 → self.start + self.count < 4294967296 }
         ensures { BuilderEnds self result }
     {
         if self.written == 0 {
-            return SubsetAnswer::Range(self.start, self.start + self.count);
+            return SubsetForm::Range(self.start, self.start + self.count);
         }
-        SubsetAnswer::List(self.count)
+        SubsetForm::List(self.count)
     }
 }
 

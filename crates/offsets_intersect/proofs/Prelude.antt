@@ -22,7 +22,7 @@ pub use Rattle.offsets.specs.Answers.{Answered, intersect_refusal}
 unfoldable pub use Rattle.offsets.specs.Answers.{room_needed, intersect_reply}
 pub use Rattle.offsets.specs.Laws.Answers.{answered_refused, refusal_first, refusal_second, refusal_none, Allowed, allowed, refusal_room}
 pub use Rattle.offsets.specs.Laws.Subsets.{range_writes_nothing, answered_list, formed_order, formed_rising, formed_short}
-pub use Rattle.offsets.specs.declared.SubsetAnswer.TheVariants.{Refused, Range}
+pub use Rattle.offsets.specs.declared.SubsetForm.TheVariants.{Range}
 pub use Rattle.offsets.specs.inner.Writing.{Wrote}
 pub use Rattle.offsets_intersect.specs.inner.Blocks.{Lacks, Apart, ApartAt, SkippedTo, MergedTo}
 pub use Rattle.offsets_intersect.specs.inner.Common.{MuchLonger, Fitting, Searchable}

@@ -2,17 +2,17 @@
 // longer list is searched for the ids of the shorter one.
 #![tactic(auto)]
 
-ghost use Rattle.std.specs.Prelude.{◌≡◌, true, ℕ, ◌≤◌, List, length};
+ghost use Rattle.std.specs.Prelude.{◌≡◌, true, ℕ, ◌≤◌, List, length, Ok};
 ghost use Rattle.lists.specs.Lists.{filter, within};
-ghost use Rattle.refusals.specs.Refusals.{accepted};
+ghost use Rattle.refusals.specs.Refusals.{accepted, refusal_number};
 ghost use Rattle.offsets.specs.Subsets.{range, list, list_or_nothing};
 ghost use Rattle.offsets.specs.Answers.{subset_of, Answered, room_needed, intersect_refusal, intersect_reply};
 ghost use Rattle.offsets.specs.inner.Writing.{Wrote};
 ghost use Rattle.offsets_intersect.specs.inner.Common.{Fitting, Searchable, common, similar, MuchLonger};
 
 use offsets::search::{binary_search_by_id, binary_search_from, scan_for_offset};
-use offsets::{Subset, SubsetAnswer};
-use refusals::{ACCEPTED, MALFORMED_SUBSET, TOO_SHORT};
+use offsets::{Subset, SubsetForm};
+use refusals::Refusal;
 
 mod blocks; // blocks.rt: lists of similar length
 
@@ -83,48 +83,48 @@ fn keep_common(ids: &[u32], others: &[u32], output: &mut [u32]) -> usize
 }
 
 // Two ranges give a range. If they do not meet, it starts and ends at the larger start.
-pub fn intersect_ranges(a: u32, b: u32, c: u32, d: u32) -> SubsetAnswer
+pub fn intersect_ranges(a: u32, b: u32, c: u32, d: u32) -> Result<SubsetForm, Refusal>
     ensures { (output : List ℕ) → Answered (intersect_reply (range a b) (range c d) (length output)) output result output }
 {
     if b < a {
-        return SubsetAnswer::Refused(MALFORMED_SUBSET);
+        return Err(Refusal::MalformedSubset);
     }
     if d < c {
-        return SubsetAnswer::Refused(MALFORMED_SUBSET);
+        return Err(Refusal::MalformedSubset);
     }
     let start = a.max(c);
     let end = b.min(d);
-    SubsetAnswer::Range(start, start.max(end))
+    Ok(SubsetForm::Range(start, start.max(end)))
 }
 
 // A range with a list gives a list, or 0..0 if they have no id in common.
-fn intersect_range_list(start: u32, end: u32, ids: &[u32], output: &mut [u32]) -> SubsetAnswer
+fn intersect_range_list(start: u32, end: u32, ids: &[u32], output: &mut [u32]) -> SubsetForm
     requires { Fitting ids.now output.old × (start ≤ end) }
-    ensures { Answered (accepted (list_or_nothing (filter (within start end) ids.now))) output.old result output.new }
+    ensures { Answered (accepted (list_or_nothing (filter (within start end) ids.now))) output.old (Ok result) output.new }
 {
     let n = keep_within(ids, start, end, output);
     if n == 0 {
-        return SubsetAnswer::Range(0, 0);
+        return SubsetForm::Range(0, 0);
     }
-    SubsetAnswer::List(n as u32)
+    SubsetForm::List(n as u32)
 }
 
 // A list with a range gives a list, even an empty one.
-fn intersect_list_range(ids: &[u32], start: u32, end: u32, output: &mut [u32]) -> SubsetAnswer
+fn intersect_list_range(ids: &[u32], start: u32, end: u32, output: &mut [u32]) -> SubsetForm
     requires { Fitting ids.now output.old × (start ≤ end) }
-    ensures { Answered (accepted (list (filter (within start end) ids.now))) output.old result output.new }
+    ensures { Answered (accepted (list (filter (within start end) ids.now))) output.old (Ok result) output.new }
 {
     let n = keep_within(ids, start, end, output);
-    SubsetAnswer::List(n as u32)
+    SubsetForm::List(n as u32)
 }
 
 // Two lists give a list.
-fn intersect_lists(ids: &[u32], others: &[u32], output: &mut [u32]) -> SubsetAnswer
+fn intersect_lists(ids: &[u32], others: &[u32], output: &mut [u32]) -> SubsetForm
     requires { Fitting ids.now output.old × Searchable others.now }
-    ensures { Answered (accepted (list (common ids.now others.now))) output.old result output.new }
+    ensures { Answered (accepted (list (common ids.now others.now))) output.old (Ok result) output.new }
 {
     let n = keep_common(ids, others, output);
-    SubsetAnswer::List(n as u32)
+    SubsetForm::List(n as u32)
 }
 
 // The output length that an intersection needs.
@@ -140,26 +140,26 @@ fn room_needed(first: Subset, second: Subset) -> usize
     }
 }
 
-// The number with which an intersection is refused, or `ACCEPTED`.
-fn intersect_refusal(first: Subset, second: Subset, output: usize) -> u32
-    ensures { result ≡ intersect_refusal (subset_of first.entry) (subset_of second.entry) output }
+// Whether an intersection is refused.
+fn check_intersect(first: Subset, second: Subset, output: usize) -> Result<(), Refusal>
+    ensures { refusal_number result ≡ intersect_refusal (subset_of first.entry) (subset_of second.entry) output }
 {
     if !first.is_well_formed() {
-        return MALFORMED_SUBSET;
+        return Err(Refusal::MalformedSubset);
     }
     if !second.is_well_formed() {
-        return MALFORMED_SUBSET;
+        return Err(Refusal::MalformedSubset);
     }
     let room = room_needed(first, second);
     if output < room {
-        return TOO_SHORT;
+        return Err(Refusal::TooShort);
     }
-    ACCEPTED
+    Ok(())
 }
 
 // The ids that two subsets have in common, with the Rust's forms. Writes a list to the start of the output. Two ranges need no check
 // of a list, which is too long to be inlined and passes its arguments in memory.
-pub fn intersect(first: Subset, second: Subset, output: &mut [u32]) -> SubsetAnswer
+pub fn intersect(first: Subset, second: Subset, output: &mut [u32]) -> Result<SubsetForm, Refusal>
     ensures { Answered (intersect_reply (subset_of first.entry) (subset_of second.entry) (length output.old)) output.old result output.new }
 {
     match first {
@@ -168,21 +168,15 @@ pub fn intersect(first: Subset, second: Subset, output: &mut [u32]) -> SubsetAns
                 intersect_ranges(start, end, other_start, other_end)
             }
             Subset::List(others) => {
-                let number = intersect_refusal(first, second, output.len());
-                if number != ACCEPTED {
-                    return SubsetAnswer::Refused(number);
-                }
-                intersect_range_list(start, end, others, output)
+                check_intersect(first, second, output.len())?;
+                Ok(intersect_range_list(start, end, others, output))
             }
         },
         Subset::List(ids) => {
-            let number = intersect_refusal(first, second, output.len());
-            if number != ACCEPTED {
-                return SubsetAnswer::Refused(number);
-            }
+            check_intersect(first, second, output.len())?;
             match second {
-                Subset::Range(start, end) => intersect_list_range(ids, start, end, output),
-                Subset::List(others) => intersect_lists(ids, others, output),
+                Subset::Range(start, end) => Ok(intersect_list_range(ids, start, end, output)),
+                Subset::List(others) => Ok(intersect_lists(ids, others, output)),
             }
         }
     }

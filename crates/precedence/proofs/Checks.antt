@@ -1,8 +1,11 @@
 -- The checks one by one, and what is known if nothing is refused. Assumes nothing.
-use Rattle.precedence.proofs.Prelude.{ℕ, ◌/◌, ◌%◌, ◌≤◌, ◌<◌, ◌≡◌, refl, sym, ap, ◌∙◌, arith, length, leb-false, ltb-false, le-leb, lt-leb, lt-ltb, le-ltb, eq-eqb, ne_eqb, inl, inr, false, not, ◌||◌, List, [], ◌∷◌, none, some, leb, ltb, eqb, split, or_no_right, outcome_refused, outcome_accepted, first_refusal_no, first_refusal_rest, Header, of_rows, lookup_accepted, inside_fits, Refused, Met, Fails, Tested, OnTable}
-use Rattle.refusals.specs.Refusals.{check, first_refusal, accepted}
+use Rattle.refusals.specs.Laws.Numbers.{none_outcome, number_some}
+use Rattle.refusals.specs.declared.Refusal.{Refusal}
+use Rattle.std.specs.Prelude.{Ok, Err, Some, None}
+use Rattle.precedence.proofs.Prelude.{ℕ, ◌/◌, ◌%◌, ◌≤◌, ◌<◌, ◌≡◌, refl, sym, ap, ◌∙◌, arith, length, leb-false, ltb-false, le-leb, lt-leb, lt-ltb, le-ltb, eq-eqb, ne_eqb, inl, inr, false, not, ◌||◌, List, [], ◌∷◌, none, some, leb, ltb, eqb, split, or_no_right, outcome_accepted, first_refusal_no, first_refusal_rest, Header, of_rows, lookup_accepted, inside_fits, Tested, OnTable}
+use Rattle.refusals.specs.Refusals.{check, first_refusal, accepted, found_view, number}
 use Rattle.table.specs.Refusing.{outside, rows_short, pairs_short, lookup_checks, lookup_refusal}
-use Rattle.precedence.specs.Precedence.{pairs_of, precedence_failure, precedence_refusal, precedence_view, PrecedenceChecked}
+use Rattle.precedence.specs.Precedence.{pairs_of, precedence_failure, precedence_refusal, PrecedenceChecked}
 
 module _ (h : Header) (rows keys column words : ℕ) where
   -- what a lookup refuses, with the same number
@@ -70,11 +73,11 @@ pub record Accepted (h : Header) (rows keys : List ℕ) (column words : ℕ) : T
   pub pairs_few : words / 2 ≤ 16
   pub rows_few : h.rows ≤ 65536
 
-pub passed_accepted : (h : Header) (rows keys : List ℕ) (column words n : ℕ) → n ≡ precedence_refusal h (length rows) (length keys) column words → n ≡ 0 → Accepted h rows keys column words
-passed_accepted h rows keys column words n number zero_is =
-    let l = lookup_accepted h (length rows) (length keys) h.keys (lookup_passed h (length rows) (length keys) column words (sym number ∙ zero_is)) in
+pub passed_accepted : (h : Header) (rows keys : List ℕ) (column words : ℕ) → precedence_refusal h (length rows) (length keys) column words ≡ 0 → Accepted h rows keys column words
+passed_accepted h rows keys column words accepts =
+    let l = lookup_accepted h (length rows) (length keys) h.keys (lookup_passed h (length rows) (length keys) column words accepts) in
     let i = l.inside in
-    let r = passed_rest h (length rows) (length keys) column words (sym number ∙ zero_is) in
+    let r = passed_rest h (length rows) (length keys) column words accepts in
     record {
       tested = record { fits = inside_fits h rows keys i l.rows_long l.keys_long; sort_there = i.bounds.sort_column };
       column_key = r.0;
@@ -82,28 +85,26 @@ passed_accepted h rows keys column words n number zero_is =
       rows_few = omega (arith, i.rows_fit, i.bounds.capacity_few);
     }
 
-module _ (h : Header) (rows keys : List ℕ) (column : ℕ) (pairs : List ℕ) (n : ℕ) (number : n ≡ precedence_refusal h (length rows) (length keys) column (length pairs)) where
+module _ (h : Header) (rows keys : List ℕ) (column : ℕ) (pairs : List ℕ) where
   -- refused
-  pub check_refused : (n ≡ 0 → ⊥) → PrecedenceChecked h rows keys column pairs (Refused n)
-  unfolding precedence_view
-  check_refused refused_is =
-      record { refusal = outcome_refused _ _ n refl number refused_is; table = λ accepts. absurd (refused_is (number ∙ accepts)) }
+  pub check_refused : (r : Refusal) → number r ≡ precedence_refusal h (length rows) (length keys) column (length pairs) → PrecedenceChecked h rows keys column pairs (Err r)
+  check_refused r e = record { refusal = none_outcome _ r e; table = λ accepts. absurd (number_some r (e ∙ accepts)) }
 
   -- accepted: every row meets its pairs, or one fails
-  module _ (zero_is : n ≡ 0) where
-    pub check_met : OnTable h rows keys (none ≡ precedence_failure (of_rows h rows) column (pairs_of pairs)) → PrecedenceChecked h rows keys column pairs Met
-    unfolding precedence_view
+  module _ (accepts : precedence_refusal h (length rows) (length keys) column (length pairs) ≡ 0) where
+    pub check_met : OnTable h rows keys (none ≡ precedence_failure (of_rows h rows) column (pairs_of pairs)) → PrecedenceChecked h rows keys column pairs (Ok None)
+    unfolding found_view
     check_met right =
         record {
-          refusal = outcome_accepted _ _ none refl (sym number ∙ zero_is);
-          table = λ accepts sound differ. ap accepted (right sound differ);
+          refusal = outcome_accepted _ _ none refl accepts;
+          table = λ _ sound differ. ap accepted (right sound differ);
         }
 
     pub check_fails : (row place : ℕ) → OnTable h rows keys (some (record { row = row; place = place }) ≡ precedence_failure (of_rows h rows) column (pairs_of pairs))
-        → PrecedenceChecked h rows keys column pairs (Fails row place)
-    unfolding precedence_view
+        → PrecedenceChecked h rows keys column pairs (Ok (Some (record { row = row; place = place })))
+    unfolding found_view
     check_fails row place right =
         record {
-          refusal = outcome_accepted _ _ (some (record { row = row; place = place })) refl (sym number ∙ zero_is);
-          table = λ accepts sound differ. ap accepted (right sound differ);
+          refusal = outcome_accepted _ _ (some (record { row = row; place = place })) refl accepts;
+          table = λ _ sound differ. ap accepted (right sound differ);
         }

@@ -7,7 +7,6 @@ pub use borrow.Author.Tests.{leb-false, ltb-false, le-leb, lt-leb, lt-ltb, le-lt
 pub use borrow.Author.Rules.{rules}
 pub use Rattle.std.specs.Prelude.{None, Option as RustOption, Some}
 pub use mathlib.Core.Bool.{Bool, ◌&&◌, ◌||◌, false, not, true}
-pub use Rattle.precedence.specs.declared.PrecedenceAnswer.TheVariants.{Fails, Met, Refused}
 pub use Rattle.key_index.specs.inner.Index.{Fits, FoundIs}
 pub use Rattle.key_index.specs.declared.Hit.{Hit}
 pub use Rattle.table.specs.declared.Header.{Header}

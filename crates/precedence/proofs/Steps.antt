@@ -4,7 +4,8 @@ use Rattle.cells.specs.Cells.{is_dead, compact_hash, key_hash}
 use Rattle.constraints.specs.Constraints.{is_live}
 use Rattle.plain_table.specs.Staged.{has_key}
 use Rattle.plain_table.specs.Plain.{Row, live_from, live_rows}
-use Rattle.precedence.specs.Precedence.{Pair, pairs_of, precedes, meets_pair, first_failing, Failure, failure_among, precedence_failure}
+use Rattle.precedence.specs.Precedence.{Pair, pairs_of, precedes, meets_pair, first_failing, failure_among, precedence_failure}
+use Rattle.precedence.specs.declared.Failure.{Failure}
 use Rattle.precedence.specs.inner.Checking.{Tested, filed_by, OnTable, row_filed, row_meets, row_failing, PlaceIs}
 
 -- ---- rows in their store

@@ -1,9 +1,10 @@
 -- Before comes first (document 02, change 8): "A level after the diplexer counts only if the level before it was on file by then."
 -- Which live rows of a plain table fail a pair of values, and the answer of the check. Assumes nothing.
-use Rattle.std.specs.Prelude.{ℕ, suc, ◌+◌, ◌/◌, ◌%◌, ◌≡◌, Bool, cond, not, ◌&&◌, ◌||◌, List, [], ◌∷◌, ◌++◌, length, take, drop, get_or, leb, ltb, eqb}
+use Rattle.refusals.specs.declared.Refusal.{Refusal}
+use Rattle.std.specs.Prelude.{ℕ, suc, ◌+◌, ◌/◌, ◌%◌, ◌≡◌, Bool, cond, not, ◌&&◌, ◌||◌, List, [], ◌∷◌, ◌++◌, length, take, drop, get_or, leb, ltb, eqb, Result, Option as Optional}
 use Rattle.std.proofs.Math.Option.{Option, none, some, Option-elim}
 use Rattle.lists.specs.Lists.{any, same}
-use Rattle.refusals.specs.Refusals.{check, first_refusal, Reply, refused, accepted, reply, outcome}
+use Rattle.refusals.specs.Refusals.{check, first_refusal, accepted, reply, outcome, found_view}
 use Rattle.key_index.specs.Slots.{KeysSound}
 use Rattle.plain_table.specs.Staged.{Opening}
 use Rattle.plain_table.specs.Plain.{Plain, Numbered, live_rows}
@@ -11,8 +12,7 @@ use Rattle.table.specs.declared.Header.{Header}
 use Rattle.table.specs.Refusing.{outside, rows_short, pairs_short}
 use Rattle.table.specs.Sound.{index_shape_of, KeysDiffer}
 use Rattle.table.specs.Outcomes.{of_rows}
-use Rattle.precedence.specs.declared.PrecedenceAnswer.{PrecedenceAnswer}
-use Rattle.precedence.specs.declared.PrecedenceAnswer.TheVariants.{Refused, Met, Fails}
+use Rattle.precedence.specs.declared.Failure.{Failure}
 
 -- a pair of values: a row with the first needs a row with the second
 pub record Pair : Type 0 where
@@ -47,11 +47,6 @@ unfoldable pub first_failing : {A : Type 0} → (A → Bool) → ℕ → List A 
 first_failing test n [] = none
 first_failing test n (x ∷ xs) = cond (test x) (first_failing test (suc n) xs) (some n)
 
--- a row that fails, and the place, from 0, of the first pair that it fails
-pub record Failure : Type 0 where
-  pub row : ℕ
-  pub place : ℕ
-
 -- the first of these rows that fails; "A row named by several pairs must meet them all"
 unfoldable pub failure_among : Plain → ℕ → List Pair → List Numbered → Option Failure
 failure_among p column pairs [] = none
@@ -74,15 +69,9 @@ precedence_refusal h rows keys column words =
     ∷ check (not (eqb (words % 2) 0) || ltb (words / 2) 1 || ltb 16 (words / 2)) 14
     ∷ [])
 
--- the answer as a reply
-unfoldable pub precedence_view : PrecedenceAnswer → Reply (Option Failure)
-precedence_view (Refused n) = refused n
-precedence_view Met = accepted none
-precedence_view (Fails row place) = accepted (some (record { row = row; place = place }))
-
 -- Contract of the check. It uses the lent rows and keys only, and its answer is that for a plain table of these rows, provided that
 -- the key store is sound and live keys differ.
-pub record PrecedenceChecked (h : Header) (rows keys : List ℕ) (column : ℕ) (pairs : List ℕ) (answer : PrecedenceAnswer) : Type 0 where
-  pub refusal : outcome (precedence_view answer) ≡ reply (precedence_refusal h (length rows) (length keys) column (length pairs)) tt
+pub record PrecedenceChecked (h : Header) (rows keys : List ℕ) (column : ℕ) (pairs : List ℕ) (answer : Result (Optional Failure) Refusal) : Type 0 where
+  pub refusal : outcome (found_view answer) ≡ reply (precedence_refusal h (length rows) (length keys) column (length pairs)) tt
   pub table : precedence_refusal h (length rows) (length keys) column (length pairs) ≡ 0 → KeysSound (index_shape_of h) rows keys → KeysDiffer h rows
-      → precedence_view answer ≡ accepted (precedence_failure (of_rows h rows) column (pairs_of pairs))
+      → found_view answer ≡ accepted (precedence_failure (of_rows h rows) column (pairs_of pairs))

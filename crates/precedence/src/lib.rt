@@ -3,46 +3,48 @@
 #![tactic(auto)]
 
 ghost use Rattle.std.specs.Prelude.{◌≡◌, ◌/◌, ◌<◌, length};
+ghost use Rattle.refusals.specs.Refusals.{refusal_number};
 ghost use Rattle.precedence.specs.Precedence.{precedence_refusal, PrecedenceChecked};
 ghost use Rattle.precedence.specs.inner.Checking.{Tested, OnTable, filed_by, row_filed, row_meets, row_failing, PlaceIs};
 
-use refusals::{ACCEPTED, NO_SUCH_COLUMN, PAIR_COUNT};
+use refusals::Refusal;
 use row_buffer::row_start;
-use table::refusing::lookup_refusal;
+use table::refusing::check_lookup;
 use table::{Header, index_shape};
 
-// Every row meets its pairs; or the lowest row that does not, and the place of the first pair that it fails.
-#[derive(Clone, Copy)]
-pub enum PrecedenceAnswer {
-    Refused(u32),
-    Met,
-    Fails(u32, u32),
+// A row that fails, and the place, from 0, of the first pair that it fails.
+#[derive(Clone, Copy, Debug, PartialEq, Eq)]
+pub struct Failure {
+    pub row: u32,
+    pub place: u32,
 }
 
 const MOST_PAIRS: usize = 16;
 
-// The number of the first test that refuses a check, or `ACCEPTED`. Tests 1 and 2 are those of a lookup by a key of the right
-// width.
-fn precedence_refusal(h: Header, rows: usize, keys: usize, column: u32, words: usize) -> u32
-    ensures { result ≡ precedence_refusal h rows keys column words }
+// The checks of the precedence check. Checks 1 and 2 are those of a lookup by a key of the right width.
+fn check_pairs(
+    h: Header,
+    rows: usize,
+    keys: usize,
+    column: u32,
+    words: usize,
+) -> Result<(), Refusal>
+    ensures { refusal_number result ≡ precedence_refusal h rows keys column words }
 {
-    let lookup = lookup_refusal(h, rows, keys, h.keys as usize);
-    if lookup != ACCEPTED {
-        return lookup;
-    }
+    check_lookup(h, rows, keys, h.keys as usize)?;
     if h.keys <= column {
-        return NO_SUCH_COLUMN;
+        return Err(Refusal::NoSuchColumn);
     }
     if words % 2 != 0 {
-        return PAIR_COUNT;
+        return Err(Refusal::PairCount);
     }
     if words / 2 < 1 {
-        return PAIR_COUNT;
+        return Err(Refusal::PairCount);
     }
     if MOST_PAIRS < words / 2 {
-        return PAIR_COUNT;
+        return Err(Refusal::PairCount);
     }
-    ACCEPTED
+    Ok(())
 }
 
 // Whether the sort cell of the key's live row is at most `latest`.
@@ -123,26 +125,26 @@ fn failing_pair(
 }
 
 // Checks, in one key column, pairs of values in two words each: a live row with a pair's first value needs a live row with the
-// second there, the same other key cells and a sort cell no larger.
+// second there, the same other key cells and a sort cell no larger. Returns the lowest row that fails, if any.
 pub fn check_precedence(
     h: Header,
     rows: &[u32],
     keys: &[u32],
     column: u32,
     pairs: &[u32],
-) -> PrecedenceAnswer
+) -> Result<Option<Failure>, Refusal>
     ensures { PrecedenceChecked h rows.now keys.now column pairs.now result }
 {
-    let refusal = precedence_refusal(h, rows.len(), keys.len(), column, pairs.len());
-    if refusal != ACCEPTED {
-        return PrecedenceAnswer::Refused(refusal);
-    }
+    check_pairs(h, rows.len(), keys.len(), column, pairs.len())?;
     let count = pairs.len() / 2;
     for row in 0..h.rows {
         let place = failing_pair(h, rows, keys, column, pairs, row);
         if place < count {
-            return PrecedenceAnswer::Fails(row, place as u32);
+            return Ok(Some(Failure {
+                row,
+                place: place as u32,
+            }));
         }
     }
-    PrecedenceAnswer::Met
+    Ok(None)
 }

@@ -6,7 +6,8 @@ ghost use Rattle.query_spec.specs.Queries.{RefinedList};
 use super::refine_ref;
 use constraints::Constraint;
 use constraints::decode::MOST_CONDITIONS;
-use offsets::{Subset, SubsetAnswer};
+use offsets::{Subset, SubsetForm};
+use refusals::Refusal;
 use table::Header;
 
 // Refines by the first `count` conditions of an array.
@@ -17,7 +18,7 @@ pub fn refine_first(
     conditions: [Constraint; MOST_CONDITIONS],
     count: usize,
     out: &mut [u32],
-) -> SubsetAnswer
+) -> Result<SubsetForm, Refusal>
     requires { count ≤ 16 }
     ensures { RefinedList h rows.now (subset_of subset.entry) (take count conditions) out.old result out.new }
 {

@@ -6,10 +6,10 @@ ghost use Rattle.query_spec.specs.Queries.{RefinedOne, RefinedList, Matched, Pag
 
 use constraints::Constraint;
 use loops::{scan_match, scan_page, scan_refine};
-use offsets::{Subset, SubsetAnswer};
+use offsets::{Subset, SubsetForm};
 use query_scan::{close_match, close_page, close_refine, scan_one, write_found};
-use query_spec::{MatchAnswer, PageAnswer};
-use refusals::ACCEPTED;
+use query_spec::Page;
+use refusals::Refusal;
 use table::Header;
 
 pub mod array; // array.rt: conditions that lie in an array
@@ -23,16 +23,13 @@ pub fn refine_one(
     subset: Subset,
     c: Constraint,
     out: &mut [u32],
-) -> SubsetAnswer
+) -> Result<SubsetForm, Refusal>
     ensures { RefinedOne h rows.now (subset_of subset.entry) c out.old result out.new }
 {
-    let done = scan_one(h, rows, subset, c, out);
-    if done.refused != ACCEPTED {
-        return SubsetAnswer::Refused(done.refused);
-    }
+    let done = scan_one(h, rows, subset, c, out)?;
     match subset {
-        Subset::Range(..) => done.found.finish(),
-        Subset::List(_) => SubsetAnswer::List(write_found(done.found, out)),
+        Subset::Range(..) => Ok(done.found.finish()),
+        Subset::List(_) => Ok(SubsetForm::List(write_found(done.found, out))),
     }
 }
 
@@ -43,11 +40,11 @@ pub fn refine_ref(
     subset: Subset,
     conditions: &[Constraint],
     out: &mut [u32],
-) -> SubsetAnswer
+) -> Result<SubsetForm, Refusal>
     ensures { RefinedList h rows.now (subset_of subset.entry) conditions.now out.old result out.new }
 {
-    let done = scan_refine(h, rows, subset, conditions, out);
-    close_refine(subset, done, out)
+    let done = scan_refine(h, rows, subset, conditions, out)?;
+    Ok(close_refine(subset, done, out))
 }
 
 // Whether a row of a subset is live and meets all conditions.
@@ -56,12 +53,12 @@ pub fn contains_match(
     rows: &[u32],
     subset: Subset,
     conditions: &[Constraint],
-) -> MatchAnswer
+) -> Result<bool, Refusal>
     ensures { Matched h rows.now (subset_of subset.entry) conditions.now result }
 {
     let mut none = [0u32; 0];
-    let done = scan_match(h, rows, subset, conditions, &mut none);
-    close_match(done)
+    let done = scan_match(h, rows, subset, conditions, &mut none)?;
+    Ok(close_match(done))
 }
 
 // Reads a page: visits n ids of a subset from the start place on, and writes those of the live rows that meet all conditions.
@@ -73,9 +70,9 @@ pub fn read_page(
     n: usize,
     conditions: &[Constraint],
     out: &mut [u32],
-) -> PageAnswer
+) -> Result<Page, Refusal>
     ensures { PageRead h rows.now (subset_of subset.entry) start n conditions.now out.old result out.new }
 {
-    let done = scan_page(h, rows, subset, start, n, conditions, out);
-    close_page(subset, done, out)
+    let done = scan_page(h, rows, subset, start, n, conditions, out)?;
+    Ok(close_page(subset, done, out))
 }

@@ -10,6 +10,7 @@ ghost use Rattle.query_scan.specs.inner.Scanning.{RowInStore, CanStart, Finished
 use constraints::Constraint;
 use offsets::Subset;
 use query_scan::{Scan, is_live_at, is_met_at, open_match, open_page, open_refine, step};
+use refusals::Refusal;
 use table::Header;
 
 // Whether all conditions are known.
@@ -54,12 +55,12 @@ pub fn scan_refine(
     subset: Subset,
     conditions: &[Constraint],
     out: &mut [u32],
-) -> Scan
+) -> Result<Scan, Refusal>
     ensures { ScanAnswered visits.Refine h rows.now (subset_of subset.entry) conditions.now out.old result out.new }
 {
     let known = are_known(h.columns, conditions);
-    let begun = open_refine(h, rows.len(), subset, known, out.len());
-    scan(h, rows, subset, conditions, begun, out)
+    let begun = open_refine(h, rows.len(), subset, known, out.len())?;
+    Ok(scan(h, rows, subset, conditions, begun, out))
 }
 
 // A search for a match: refused, or the places up to the first match scanned.
@@ -69,12 +70,12 @@ pub fn scan_match(
     subset: Subset,
     conditions: &[Constraint],
     out: &mut [u32],
-) -> Scan
+) -> Result<Scan, Refusal>
     ensures { ScanAnswered visits.Match h rows.now (subset_of subset.entry) conditions.now out.old result out.new }
 {
     let known = are_known(h.columns, conditions);
-    let begun = open_match(h, rows.len(), subset, known);
-    scan(h, rows, subset, conditions, begun, out)
+    let begun = open_match(h, rows.len(), subset, known)?;
+    Ok(scan(h, rows, subset, conditions, begun, out))
 }
 
 // A page: refused, or n places from the start place on scanned.
@@ -86,10 +87,10 @@ pub fn scan_page(
     n: usize,
     conditions: &[Constraint],
     out: &mut [u32],
-) -> Scan
+) -> Result<Scan, Refusal>
     ensures { ScanAnswered (visits.Page start n) h rows.now (subset_of subset.entry) conditions.now out.old result out.new }
 {
     let known = are_known(h.columns, conditions);
-    let begun = open_page(h, rows.len(), subset, start, n, known, out.len());
-    scan(h, rows, subset, conditions, begun, out)
+    let begun = open_page(h, rows.len(), subset, start, n, known, out.len())?;
+    Ok(scan(h, rows, subset, conditions, begun, out))
 }

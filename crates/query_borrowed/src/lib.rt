@@ -5,8 +5,9 @@ ghost use Rattle.offsets.specs.Answers.{lent_subset};
 ghost use Rattle.query_spec.specs.Queries.{RefinedOne, RefinedList, Matched, PageRead};
 
 use constraints::Constraint;
-use offsets::{Subset, SubsetAnswer, SubsetRef};
-use query_spec::{MatchAnswer, PageAnswer};
+use offsets::{Subset, SubsetForm, SubsetRef};
+use query_spec::Page;
+use refusals::Refusal;
 use table::Header;
 
 pub fn refine_one(
@@ -15,7 +16,7 @@ pub fn refine_one(
     lent: SubsetRef,
     c: Constraint,
     out: &mut [u32],
-) -> SubsetAnswer
+) -> Result<SubsetForm, Refusal>
     ensures { RefinedOne h rows.now (lent_subset lent.entry) c out.old result out.new }
 {
     query::refine_one(h, rows, Subset::from(lent), c, out)
@@ -27,7 +28,7 @@ pub fn refine_ref(
     lent: SubsetRef,
     conditions: &[Constraint],
     out: &mut [u32],
-) -> SubsetAnswer
+) -> Result<SubsetForm, Refusal>
     ensures { RefinedList h rows.now (lent_subset lent.entry) conditions.now out.old result out.new }
 {
     query::refine_ref(h, rows, Subset::from(lent), conditions, out)
@@ -38,7 +39,7 @@ pub fn contains_match(
     rows: &[u32],
     lent: SubsetRef,
     conditions: &[Constraint],
-) -> MatchAnswer
+) -> Result<bool, Refusal>
     ensures { Matched h rows.now (lent_subset lent.entry) conditions.now result }
 {
     query::contains_match(h, rows, Subset::from(lent), conditions)
@@ -52,7 +53,7 @@ pub fn read_page(
     n: usize,
     conditions: &[Constraint],
     out: &mut [u32],
-) -> PageAnswer
+) -> Result<Page, Refusal>
     ensures { PageRead h rows.now (lent_subset lent.entry) start n conditions.now out.old result out.new }
 {
     query::read_page(h, rows, Subset::from(lent), start, n, conditions, out)

@@ -17,18 +17,17 @@ pub use Rattle.lists.specs.Lists.{splice, iota, rising}
 unfoldable pub use Rattle.lists.specs.Lists.{filter, all, count, row_at, any}
 unfoldable pub use Rattle.query_scan.specs.Visits.{ids_visited, up_to_first}
 pub use Rattle.query_scan.specs.declared.Scan.{Scan}
-pub use Rattle.query_scan.specs.inner.Scanning.{BeginsAt, Finished, ScanStarts, ScanAnswered, CanWrite, Writes, RefineClosed, RowInStore, CanStart, ScanInvariant, Keeps, CanMove, Moves, CanStep, ScanSteps, PageClosed, MatchClosed}
+pub use Rattle.query_scan.specs.inner.Scanning.{BeginsAt, Finished, ScanBegun, ScanStarts, ScanDone, ScanAnswered, CanWrite, Writes, RefineClosed, RowInStore, CanStart, ScanInvariant, Keeps, CanMove, Moves, CanStep, ScanSteps, PageClosed, MatchClosed}
 unfoldable pub use Rattle.query_scan.specs.inner.Scanning.{up_to, places, first_place, room_required, refusal_of, scanned_ids, next_at}
 pub use Rattle.query_spec.specs.Queries.{refine_refusal, RefinedOne, RefinedList, page_refusal, PageResult, PageRead, match_refusal, Matched}
-unfoldable pub use Rattle.query_spec.specs.Queries.{matches, visited, refine_one_reply, refine_list_reply, past_rows, dead_among, next_place, page_ids, next_view, page_view, page_of, match_view}
+unfoldable pub use Rattle.query_spec.specs.Queries.{matches, visited, refine_one_reply, refine_list_reply, past_rows, dead_among, next_place, page_ids, next_view, page_view, page_of}
 pub use Rattle.query_spec.specs.inner.Tests.{Queryable, RefineRefused, MatchRefused, PageRefused}
 pub use Rattle.refusals.specs.Laws.Replies.{reply_refused, reply_accepted}
 pub use Rattle.refusals.specs.Refusals.{refused, accepted, reply}
 pub use Rattle.table.specs.declared.Header.{Header}
 pub use Rattle.std.specs.Prelude.{Option as Maybe, Some, None}
-pub use Rattle.query_spec.specs.declared.MatchAnswer.{MatchAnswer}
 pub use mathlib.Core.Option.{Option}
-pub use Rattle.query_spec.specs.declared.PageAnswer.{PageAnswer}
+pub use Rattle.query_spec.specs.declared.Page.{Page as Read}
 pub use Rattle.query_scan.specs.Visits.{QueryKind, Refine, Match, Page}
 pub use native.Mathlib.Numerals.{add-one}
 pub use lib.Seq.{drop-cons, get_or-drop, take_all, take-suc}

@@ -94,12 +94,11 @@ module _ (h : Header) (rows : List ℕ) (id : ℕ) where
 
 module _ (h : Header) (rows : List ℕ) (subset : Subset) (s : Scan) (output : List ℕ) (n : ℕ) (e : n ≡ dead_among h rows (s.id ∷ [])) where
   abbrev counted : Scan
-  counted = record { refused = s.refused; next = s.next; end = s.end; id = s.id; most = s.most; dead = s.dead + n; found = s.found }
+  counted = record { next = s.next; end = s.end; id = s.id; most = s.most; dead = s.dead + n; found = s.found }
 
   pub steps_miss : (hit : Bool) → hit ≡ false → (s' : Scan) → Moves subset counted s' → ScanSteps h rows subset s hit output s' output
   steps_miss hit z s' m =
       record {
-        refused_is = m.refused_is;
         next_is = m.next_is;
         most_is = m.most_is;
         dead_is = m.dead_is ∙ ap (λ (k : ℕ). s.dead + k) e;
@@ -113,7 +112,6 @@ module _ (h : Header) (rows : List ℕ) (subset : Subset) (s : Scan) (output : L
   pub steps_hit : (hit : Bool) → hit ≡ true → (t s' : Scan) (output' : List ℕ) → Keeps counted output t output' → Moves subset t s' → ScanSteps h rows subset s hit output s' output'
   steps_hit hit z t s' output' k m =
       record {
-        refused_is = m.refused_is ∙ k.refused_is;
         next_is = m.next_is ∙ ap (λ (i : ℕ). i + 1) k.next_is;
         most_is = m.most_is ∙ k.most_is;
         dead_is = m.dead_is ∙ k.dead_is ∙ ap (λ (i : ℕ). s.dead + i) e;
@@ -157,7 +155,6 @@ scanned_begin h rows subset test s output w =
     let n = w.none_found.nothing in
     let m : s.most - s.found.count ≡ s.most = omega arith in
     record {
-      refused_is = refl;
       most_is = refl;
       from = omega arith;
       upto = w.order;
@@ -215,7 +212,7 @@ module _ (h : Header) (rows : List ℕ) (subset : Subset) (test : ℕ → Bool) 
         }
       where
         after : Scan
-        after = record { refused = 0; next = s.next + 1; end = 0; id = 0; most = 0; dead = 0; found = s.found }
+        after = record { next = s.next + 1; end = 0; id = 0; most = 0; dead = 0; found = s.found }
 
     pub can_step : (hit : Bool) → hit ≡ test s.id → CanStep h (length rows) subset s hit output
     can_step hit e =
@@ -245,7 +242,6 @@ module _ (h : Header) (rows : List ℕ) (subset : Subset) (test : ℕ → Bool) 
           let n = v.wants m in
           let wanted : s.most - s.found.count ≡ s'.most - s'.found.count = ap₂ (λ (i : ℕ) (g : RetainBuilder). i - g.count) (sym t.most_is) (sym k.0) in
           record {
-            refused_is = t.refused_is ∙ v.refused_is;
             most_is = t.most_is ∙ v.most_is;
             from = omega (arith, t.next_is, v.from);
             upto = omega (arith, t.next_is, k.2);
@@ -264,7 +260,6 @@ module _ (h : Header) (rows : List ℕ) (subset : Subset) (test : ℕ → Bool) 
           let n = v.wants m in
           let c = a.one_more in
           record {
-            refused_is = t.refused_is ∙ v.refused_is;
             most_is = t.most_is ∙ v.most_is;
             from = omega (arith, t.next_is, v.from);
             upto = ends.0;
@@ -306,7 +301,6 @@ module _ (h : Header) (rows : List ℕ) (subset : Subset) (test : ℕ → Bool) 
       let p : places subset s ≡ [] = unfold places in visited_none subset s.next (s.end - s.next) (omega arith) in
       let all_hold : up_to s₀.most test (places subset s₀) ≡ so_far = v.visits_is ∙ rw (p, up_to_nil test (s.most - s.found.count)) (append-nil so_far) in
       record {
-        refused_is = v.refused_is;
         next_is = rw all_hold (omega (arith, long, v.from));
         grows = rw all_hold v.grows;
         dead_is = rw all_hold v.dead_is;

@@ -16,19 +16,17 @@ ghost use Rattle.query_scan.specs.inner.Scanning.{RowInStore, BeginsAt, CanMove,
 
 use constraints::Constraint;
 use offsets::retain::RetainBuilder;
-use offsets::{Subset, SubsetAnswer};
-use query_spec::refusing::{match_refusal, page_refusal, refine_refusal};
-use query_spec::{MatchAnswer, Page, PageAnswer};
-use refusals::ACCEPTED;
+use offsets::{Subset, SubsetForm};
+use query_spec::Page;
+use query_spec::refusing::{check_match, check_page, check_refine};
+use refusals::Refusal;
 use row_buffer::row_start;
 use table::Header;
 
 // The state of a scan. It continues at place `next`, whose id is `id`, up to `end` or until `most` ids are kept. `dead` is the
-// number of visited ids whose rows are dead. A refused query has its number, and no places. All fields are plain numbers, which a
-// loop holds in registers.
+// number of visited ids whose rows are dead. All fields are plain numbers, which a loop holds in registers.
 #[derive(Clone, Copy)]
 pub struct Scan {
-    pub refused: u32,
     pub next: u32,
     pub end: u32,
     pub id: u32,
@@ -84,12 +82,11 @@ fn dead_at(h: Header, rows: &[u32], id: u32) -> u32
 // ---- places
 
 // The state at the start of a scan. Without places it has no id.
-fn at_place(subset: Subset, refused: u32, next: u32, end: u32, most: u32) -> Scan
+fn at_place(subset: Subset, next: u32, end: u32, most: u32) -> Scan
     requires { end ≤ subsets.size (subset_of subset) }
-    ensures { BeginsAt (subset_of subset.entry) refused next end most result }
+    ensures { BeginsAt (subset_of subset.entry) next end most result }
 {
     let mut s = Scan {
-        refused: refused,
         next: next,
         end: end,
         id: 0,
@@ -122,24 +119,19 @@ fn move_on(subset: Subset, s: Scan) -> Scan
     requires { CanMove (subset_of subset) s }
     ensures { Moves (subset_of subset.entry) s result }
 {
-    let next = s.next + 1;
+    let mut n = s;
+    n.next = s.next + 1;
     match subset {
-        Subset::Range(..) => Scan {
-            next,
-            id: s.id + 1,
-            ..s
-        },
+        Subset::Range(..) => {
+            n.id = s.id + 1;
+        }
         Subset::List(ids) => {
-            if next < s.end {
-                return Scan {
-                    next,
-                    id: ids[next as usize],
-                    ..s
-                };
+            if n.next < s.end {
+                n.id = ids[n.next as usize];
             }
-            Scan { next, ..s }
         }
     }
+    n
 }
 
 // Visits the row at the next place. `hit` is whether it matches.
@@ -172,27 +164,27 @@ fn retain(h: Header, rows: &[u32], subset: Subset, c: Constraint, s: Scan, out: 
 // ---- the start
 
 // Starts a refine: refused, or over all places.
-pub fn open_refine(h: Header, rows: usize, subset: Subset, known: bool, output: usize) -> Scan
+pub fn open_refine(
+    h: Header,
+    rows: usize,
+    subset: Subset,
+    known: bool,
+    output: usize,
+) -> Result<Scan, Refusal>
     ensures { ScanStarts visits.Refine h rows (subset_of subset.entry) known output result }
 {
-    let number = refine_refusal(h, rows, subset, known, output);
-    if number != ACCEPTED {
-        return at_place(subset, number, 0, 0, 0);
-    }
+    check_refine(h, rows, subset, known, output)?;
     let size = subset.size() as u32;
-    at_place(subset, ACCEPTED, 0, size, size)
+    Ok(at_place(subset, 0, size, size))
 }
 
 // Starts a search for a match: refused, or over all places up to the first match.
-pub fn open_match(h: Header, rows: usize, subset: Subset, known: bool) -> Scan
+pub fn open_match(h: Header, rows: usize, subset: Subset, known: bool) -> Result<Scan, Refusal>
     ensures { (output : ℕ) → ScanStarts visits.Match h rows (subset_of subset.entry) known output result }
 {
-    let number = match_refusal(h, rows, subset, known);
-    if number != ACCEPTED {
-        return at_place(subset, number, 0, 0, 0);
-    }
+    check_match(h, rows, subset, known)?;
     let size = subset.size() as u32;
-    at_place(subset, ACCEPTED, 0, size, 1)
+    Ok(at_place(subset, 0, size, 1))
 }
 
 // Starts a page: refused, or over n places from the start place on, as far as they exist.
@@ -204,25 +196,28 @@ pub fn open_page(
     n: usize,
     known: bool,
     output: usize,
-) -> Scan
+) -> Result<Scan, Refusal>
     ensures { ScanStarts (visits.Page start n) h rows (subset_of subset.entry) known output result }
 {
-    let number = page_refusal(h, rows, subset, start, n, known, output);
-    if number != ACCEPTED {
-        return at_place(subset, number, 0, 0, 0);
-    }
+    check_page(h, rows, subset, start, n, known, output)?;
     let left = subset.size() - start as usize;
     let places = n.min(left) as u32;
-    at_place(subset, ACCEPTED, start, start + places, places)
+    Ok(at_place(subset, start, start + places, places))
 }
 
 // Refine by one: refused, or all places scanned by the condition.
-pub fn scan_one(h: Header, rows: &[u32], subset: Subset, c: Constraint, out: &mut [u32]) -> Scan
+pub fn scan_one(
+    h: Header,
+    rows: &[u32],
+    subset: Subset,
+    c: Constraint,
+    out: &mut [u32],
+) -> Result<Scan, Refusal>
     ensures { ScanAnswered visits.Refine h rows.now (subset_of subset.entry) (c ∷ []) out.old result out.new }
 {
     let known = constraints::known(c, h.columns);
-    let begun = open_refine(h, rows.len(), subset, known, out.len());
-    retain(h, rows, subset, c, begun, out)
+    let begun = open_refine(h, rows.len(), subset, known, out.len())?;
+    Ok(retain(h, rows, subset, c, begun, out))
 }
 
 // ---- the end
@@ -238,22 +233,19 @@ pub fn write_found(g: RetainBuilder, out: &mut [u32]) -> u32
     g.count
 }
 
-// Ends a refine by a list: refused, the unchanged range, or a list.
-pub fn close_refine(subset: Subset, s: Scan, out: &mut [u32]) -> SubsetAnswer
-    requires { s.refused ≡ 0 → CanWrite out.old s.found }
+// Ends a refine by a list: the unchanged range, or a list.
+pub fn close_refine(subset: Subset, s: Scan, out: &mut [u32]) -> SubsetForm
+    requires { CanWrite out.old s.found }
     ensures { RefineClosed (subset_of subset.entry) s out.old result out.new }
 {
-    if s.refused != ACCEPTED {
-        return SubsetAnswer::Refused(s.refused);
-    }
     match subset {
         Subset::Range(start, end) => {
             if s.found.count == end.saturating_sub(start) {
-                return SubsetAnswer::Range(start, end);
+                return SubsetForm::Range(start, end);
             }
-            SubsetAnswer::List(write_found(s.found, out))
+            SubsetForm::List(write_found(s.found, out))
         }
-        Subset::List(_) => SubsetAnswer::List(write_found(s.found, out)),
+        Subset::List(_) => SubsetForm::List(write_found(s.found, out)),
     }
 }
 
@@ -268,28 +260,22 @@ fn next_place(subset: Subset, next: u32) -> Option<u32>
 }
 
 // Ends a page: writes its ids.
-pub fn close_page(subset: Subset, s: Scan, out: &mut [u32]) -> PageAnswer
-    requires { s.refused ≡ 0 → CanWrite out.old s.found }
+pub fn close_page(subset: Subset, s: Scan, out: &mut [u32]) -> Page
+    requires { CanWrite out.old s.found }
     ensures { PageClosed (subset_of subset.entry) s out.old result out.new }
 {
-    if s.refused != ACCEPTED {
-        return PageAnswer::Refused(s.refused);
-    }
     let next = next_place(subset, s.next);
     let written = write_found(s.found, out);
-    PageAnswer::Page(Page {
+    Page {
         written: written,
         dead: s.dead,
         next: next,
-    })
+    }
 }
 
-// Ends a search for a match: refused, or whether there is one.
-pub fn close_match(s: Scan) -> MatchAnswer
+// Ends a search for a match: whether there is one.
+pub fn close_match(s: Scan) -> bool
     ensures { MatchClosed s result }
 {
-    if s.refused != ACCEPTED {
-        return MatchAnswer::Refused(s.refused);
-    }
-    MatchAnswer::Match(s.found.count != 0)
+    s.found.count != 0
 }

@@ -1,20 +1,18 @@
 -- Queries on rows (document 01, "Operations": refine by one and by a list, any match, page). They use only the header and the row
 -- store, so their contracts hold for any table. A store without a primed name is lent shared and does not change. Assumes nothing.
-use Rattle.std.specs.Prelude.{ℕ, ◌+◌, ◌-◌, min, ◌≡◌, Bool, cond, not, ◌||◌, List, [], ◌∷◌, ◌++◌, length, take, drop, ltb, Option as Maybe, Some, None}
+use Rattle.refusals.specs.declared.Refusal.{Refusal}
+use Rattle.std.specs.Prelude.{ℕ, ◌+◌, ◌-◌, min, ◌≡◌, Bool, cond, not, ◌||◌, List, [], ◌∷◌, ◌++◌, length, take, drop, ltb, Option as Maybe, Some, None, Result, Ok, Err}
 use Rattle.std.proofs.Math.Option.{Option, none, some}
 use Rattle.lists.specs.Lists.{splice, filter, count, all, any, row_at}
-use Rattle.refusals.specs.Refusals.{Check, check, first_refusal, Reply, refused, accepted, reply, Effect}
-use Rattle.offsets.specs.declared.SubsetAnswer.{SubsetAnswer}
+use Rattle.refusals.specs.Refusals.{Check, check, first_refusal, Reply, refused, accepted, reply, Effect, number, answer_view}
+use Rattle.offsets.specs.declared.SubsetForm.{SubsetForm}
 use Rattle.offsets.specs.Subsets.{Subset, well_formed, members, size, end_of, retain, narrowed}
 use Rattle.offsets.specs.Answers.{Answered}
 use Rattle.constraints.specs.declared.Constraint.{Constraint}
 use Rattle.constraints.specs.Constraints.{known, is_live, meets}
 use Rattle.table.specs.declared.Header.{Header}
 use Rattle.table.specs.Refusing.{outside, rows_short}
-use Rattle.query_spec.specs.declared.MatchAnswer.{MatchAnswer}
-use Rattle.query_spec.specs.declared.MatchAnswer.TheVariants.{Refused as MatchRefused, Match}
-use Rattle.query_spec.specs.declared.PageAnswer.{PageAnswer}
-use Rattle.query_spec.specs.declared.PageAnswer.TheVariants.{Refused as PageRefused, Page as Paged}
+use Rattle.query_spec.specs.declared.Page.{Page}
 
 -- row `id` is live and meets the conditions
 unfoldable pub matches : Header → List ℕ → List Constraint → ℕ → Bool
@@ -85,30 +83,26 @@ unfoldable pub page_of : Header → List ℕ → Subset → ℕ → ℕ → List
 page_of h rows subset start n conditions =
     record { written = length (page_ids h rows subset start n conditions); dead = dead_among h rows (visited subset start n); next = next_place subset start n }
 
--- the views of the answers
-unfoldable pub match_view : MatchAnswer → Reply Bool
-match_view (MatchRefused n) = refused n
-match_view (Match answer) = accepted answer
-
+-- the view of a page
 unfoldable pub next_view : Maybe ℕ → Option ℕ
 next_view None = none
 next_view (Some place) = some place
 
-unfoldable pub page_view : PageAnswer → Reply PageResult
-page_view (PageRefused n) = refused n
-page_view (Paged page) = accepted (record { written = page.written; dead = page.dead; next = next_view page.next })
+unfoldable pub page_view : Result Page Refusal → Reply PageResult
+page_view (Err refusal) = refused (number refusal)
+page_view (Ok page) = accepted (record { written = page.written; dead = page.dead; next = next_view page.next })
 
 -- the contracts
 
-pub record RefinedOne (h : Header) (rows : List ℕ) (subset : Subset) (c : Constraint) (output : List ℕ) (answer : SubsetAnswer) (output' : List ℕ) : Type 0 where
+pub record RefinedOne (h : Header) (rows : List ℕ) (subset : Subset) (c : Constraint) (output : List ℕ) (answer : Result SubsetForm Refusal) (output' : List ℕ) : Type 0 where
   pub answered : Answered (refine_one_reply h rows subset c (length output)) output answer output'
 
-pub record RefinedList (h : Header) (rows : List ℕ) (subset : Subset) (conditions : List Constraint) (output : List ℕ) (answer : SubsetAnswer) (output' : List ℕ) : Type 0 where
+pub record RefinedList (h : Header) (rows : List ℕ) (subset : Subset) (conditions : List Constraint) (output : List ℕ) (answer : Result SubsetForm Refusal) (output' : List ℕ) : Type 0 where
   pub answered : Answered (refine_list_reply h rows subset conditions (length output)) output answer output'
 
-pub record Matched (h : Header) (rows : List ℕ) (subset : Subset) (conditions : List Constraint) (answer : MatchAnswer) : Type 0 where
-  pub answers : match_view answer ≡ reply (match_refusal h (length rows) subset conditions) (any (matches h rows conditions) (members subset))
+pub record Matched (h : Header) (rows : List ℕ) (subset : Subset) (conditions : List Constraint) (answer : Result Bool Refusal) : Type 0 where
+  pub answers : answer_view answer ≡ reply (match_refusal h (length rows) subset conditions) (any (matches h rows conditions) (members subset))
 
-pub record PageRead (h : Header) (rows : List ℕ) (subset : Subset) (start n : ℕ) (conditions : List Constraint) (output : List ℕ) (answer : PageAnswer) (output' : List ℕ) : Type 0 where
+pub record PageRead (h : Header) (rows : List ℕ) (subset : Subset) (start n : ℕ) (conditions : List Constraint) (output : List ℕ) (answer : Result Page Refusal) (output' : List ℕ) : Type 0 where
   pub effect : Effect (page_refusal h (length rows) subset start n conditions (length output)) (page_view answer) (page_of h rows subset start n conditions)
       output output' (splice output 0 (page_ids h rows subset start n conditions))

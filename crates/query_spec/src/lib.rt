@@ -4,23 +4,10 @@
 
 pub mod refusing; // refusing.rt: the refusals of each query
 
-// Whether a row matches.
-#[derive(Clone, Copy)]
-pub enum MatchAnswer {
-    Refused(u32),
-    Match(bool),
-}
-
 // A page: how many ids were written, how many of those visited have a dead row, and the next place, if any.
 #[derive(Clone, Copy)]
 pub struct Page {
     pub written: u32,
     pub dead: u32,
     pub next: Option<u32>,
-}
-
-#[derive(Clone, Copy)]
-pub enum PageAnswer {
-    Refused(u32),
-    Page(Page),
 }

@@ -1,14 +1,13 @@
 // The refusals of the queries: the checks of specs/Queries.antt, over the header, lengths, the subset and whether the conditions
-// are known. Each function returns `ACCEPTED` if nothing is refused.
+// are known.
 ghost use Rattle.std.specs.Prelude.{◌≡◌};
+ghost use Rattle.refusals.specs.Refusals.{refusal_number};
 ghost use Rattle.offsets.specs.Answers.{subset_of};
 ghost use Rattle.query_spec.specs.Queries.{past_rows};
 ghost use Rattle.query_spec.specs.inner.Tests.{subset_refusal, RefineRefused, MatchRefused, PageRefused};
 
 use offsets::Subset;
-use refusals::{
-    ACCEPTED, MALFORMED_SUBSET, NO_SUCH_COLUMN, OUT_OF_BOUNDS, PAST_THE_ROWS, TOO_SHORT,
-};
+use refusals::Refusal;
 use table::Header;
 
 // Test 5: the range's end or the last id plus one is above the row count.
@@ -22,57 +21,57 @@ fn is_past_rows(h: Header, subset: Subset) -> bool
 }
 
 // The tests that all queries share.
-fn subset_refusal(h: Header, rows: usize, subset: Subset) -> u32
-    ensures { result ≡ subset_refusal h rows (subset_of subset.entry) }
+fn check_subset(h: Header, rows: usize, subset: Subset) -> Result<(), Refusal>
+    ensures { refusal_number result ≡ subset_refusal h rows (subset_of subset.entry) }
 {
     if table::refusing::is_outside(h) {
-        return OUT_OF_BOUNDS;
+        return Err(Refusal::OutOfBounds);
     }
     if table::refusing::is_rows_short(h, rows) {
-        return TOO_SHORT;
+        return Err(Refusal::TooShort);
     }
     if !subset.is_well_formed() {
-        return MALFORMED_SUBSET;
+        return Err(Refusal::MalformedSubset);
     }
     if is_past_rows(h, subset) {
-        return PAST_THE_ROWS;
+        return Err(Refusal::PastTheRows);
     }
-    ACCEPTED
+    Ok(())
 }
 
 // *Refine by one, by a list*
-pub fn refine_refusal(h: Header, rows: usize, subset: Subset, known: bool, output: usize) -> u32
-    ensures { RefineRefused h rows (subset_of subset.entry) known output result }
+pub fn check_refine(
+    h: Header,
+    rows: usize,
+    subset: Subset,
+    known: bool,
+    output: usize,
+) -> Result<(), Refusal>
+    ensures { RefineRefused h rows (subset_of subset.entry) known output (refusal_number result) }
 {
-    let number = subset_refusal(h, rows, subset);
-    if number != ACCEPTED {
-        return number;
-    }
+    check_subset(h, rows, subset)?;
     if !known {
-        return NO_SUCH_COLUMN;
+        return Err(Refusal::NoSuchColumn);
     }
     if output < subset.size() {
-        return TOO_SHORT;
+        return Err(Refusal::TooShort);
     }
-    ACCEPTED
+    Ok(())
 }
 
 // *Any match*
-pub fn match_refusal(h: Header, rows: usize, subset: Subset, known: bool) -> u32
-    ensures { MatchRefused h rows (subset_of subset.entry) known result }
+pub fn check_match(h: Header, rows: usize, subset: Subset, known: bool) -> Result<(), Refusal>
+    ensures { MatchRefused h rows (subset_of subset.entry) known (refusal_number result) }
 {
-    let number = subset_refusal(h, rows, subset);
-    if number != ACCEPTED {
-        return number;
-    }
+    check_subset(h, rows, subset)?;
     if !known {
-        return NO_SUCH_COLUMN;
+        return Err(Refusal::NoSuchColumn);
     }
-    ACCEPTED
+    Ok(())
 }
 
 // *Page*
-pub fn page_refusal(
+pub fn check_page(
     h: Header,
     rows: usize,
     subset: Subset,
@@ -80,23 +79,20 @@ pub fn page_refusal(
     n: usize,
     known: bool,
     output: usize,
-) -> u32
-    ensures { PageRefused h rows (subset_of subset.entry) start n known output result }
+) -> Result<(), Refusal>
+    ensures { PageRefused h rows (subset_of subset.entry) start n known output (refusal_number result) }
 {
-    let number = subset_refusal(h, rows, subset);
-    if number != ACCEPTED {
-        return number;
-    }
+    check_subset(h, rows, subset)?;
     let first = start as usize;
     let size = subset.size();
     if size < first {
-        return PAST_THE_ROWS;
+        return Err(Refusal::PastTheRows);
     }
     if !known {
-        return NO_SUCH_COLUMN;
+        return Err(Refusal::NoSuchColumn);
     }
     if output < n.min(size - first) {
-        return TOO_SHORT;
+        return Err(Refusal::TooShort);
     }
-    ACCEPTED
+    Ok(())
 }

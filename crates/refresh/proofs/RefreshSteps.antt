@@ -1,10 +1,13 @@
 -- The results of a refresh: refused before the search for its rows, refused because the records do not fit, or done.
 -- Assumes nothing.
-use Rattle.refresh.proofs.Prelude.{ℕ, zero, suc, ◌+◌, ◌*◌, ◌≤◌, ◌<◌, ◌≡◌, refl, sym, ap, ◌∙◌, inl, inr, Bool, true, false, List, [], ◌∷◌, map, mul-le-mul, mul-le-mul_right, arith, ltb, length, replicate, ltb-false, lt-ltb, le-ltb, splice, flatten, or_right, or_no_left, or_no_right, split, reply_refused, reply_accepted, count_to, bitmap_none, summarised_none, count_to_le, Staged, words_all, Numbered, Refresh, refreshed, Header, opening_of, outside, record_words, outside_inside, Refreshed, IndexSound, mentions_at, Lendable, CaughtUp, UpToDate, early_refusal, RowsFound, usable_index}
-use Rattle.refusals.specs.Refusals.{check, first_refusal, accepted}
+use Rattle.refusals.specs.declared.Refusal.TheVariants.{PendingFull}
+use Rattle.refusals.specs.Laws.Numbers.{err_replies, ok_replies, number_some}
+use Rattle.refusals.specs.declared.Refusal.{Refusal}
+use Rattle.std.specs.Prelude.{Ok, Err}
+use Rattle.refresh.proofs.Prelude.{ℕ, zero, suc, ◌+◌, ◌*◌, ◌≤◌, ◌<◌, ◌≡◌, refl, sym, ap, ◌∙◌, inl, inr, Bool, true, false, List, [], ◌∷◌, map, mul-le-mul, mul-le-mul_right, arith, ltb, length, replicate, ltb-false, lt-ltb, le-ltb, splice, flatten, or_right, or_no_left, or_no_right, split, count_to, bitmap_none, summarised_none, count_to_le, Staged, words_all, Numbered, Refresh, refreshed, Header, opening_of, outside, record_words, outside_inside, Refreshed, IndexSound, mentions_at, Lendable, CaughtUp, UpToDate, early_refusal, RowsFound, usable_index}
+use Rattle.refusals.specs.Refusals.{check, first_refusal, answer_view, number}
 use Rattle.plain_table.specs.Refusing.{overfull}
-use Rattle.refresh_spec.specs.declared.RefreshAnswer.TheVariants.{Refused, Refreshed as RefreshDone}
-use Rattle.refresh_spec.specs.Refreshes.{refresh_view, refresh_refusal, records_found, answered, Refreshing}
+use Rattle.refresh_spec.specs.Refreshes.{refresh_refusal, records_found, answered, Refreshing}
 use Rattle.refresh.specs.inner.Staging.{marked_rows, rows_words, row_words, Stageable, RowsStaged}
 use Rattle.refresh.proofs.TestSteps.{refused_before_seven, Passed, only_seven, lendable}
 use Rattle.refresh.proofs.FindSteps.{FoundRows, found_rows, there_below, found, records_found_lem}
@@ -37,28 +40,27 @@ twice zero = refl
 twice (suc n) = lt-ltb 0 (suc n) (omega arith) ∙ sym (lt-ltb 0 (2 * suc n) (omega arith))
 
 module _ (h : Header) (rows pending index : List ℕ) (r : Refresh) where
-  abbrev number : List Staged → ℕ
-  number records = refresh_refusal h (length rows) (length pending) (length index) r records
+  abbrev refusal_of : List Staged → ℕ
+  refusal_of records = refresh_refusal h (length rows) (length pending) (length index) r records
 
-  refused_as : (n : ℕ) (found : ℕ → Bool) → (IndexSound h rows r.columns index → (row : ℕ) → found row ≡ true) → n ≡ number (records_found h rows r found) → (n ≡ 0 → ⊥)
-      → Refreshing h rows pending index r (Refused n) pending index
-  refused_as n found all e some =
+  refused_as : (q : Refusal) (found : ℕ → Bool) → (IndexSound h rows r.columns index → (row : ℕ) → found row ≡ true) → number q ≡ refusal_of (records_found h rows r found)
+      → Refreshing h rows pending index r (Err q) pending index
+  refused_as q found all e =
       record {
         found = found;
         all_found = all;
-        effect = record { answers = reply_refused (refresh_view (Refused n)) _ n _ (unfold refresh_view in refl) e some; unchanged = λ k. refl; written = λ z. absurd (some (e ∙ z)) };
+        effect = record { answers = err_replies q _ e; unchanged = λ k. refl; written = λ z. absurd (number_some q (e ∙ z)) };
         index_unchanged = λ k. refl;
-        written = λ z. absurd (some (e ∙ z));
-        current = λ z. absurd (some (e ∙ z));
+        written = λ z. absurd (number_some q (e ∙ z));
+        current = λ z. absurd (number_some q (e ∙ z));
         past = refl;
         length_same = refl;
       }
 
   -- by the tests before 7
-  pub refused_early : (n : ℕ) → n ≡ early_refusal h (length rows) (length pending) (length index) r.columns r.stamp → (n ≡ 0 → ⊥)
-      → Refreshing h rows pending index r (Refused n) pending index
-  refused_early n e some =
-      refused_as n (λ row. true) (λ sound row. refl) (e ∙ refused_before_seven h (length rows) (length pending) (length index) r _ (λ z. some (e ∙ z))) some
+  pub refused_early : (q : Refusal) → number q ≡ early_refusal h (length rows) (length pending) (length index) r.columns r.stamp → Refreshing h rows pending index r (Err q) pending index
+  refused_early q e =
+      refused_as q (λ row. true) (λ sound row. refl) (e ∙ refused_before_seven h (length rows) (length pending) (length index) r _ (λ z. number_some q (e ∙ z)))
 
   module _ (p : Passed h (length rows) (length pending) (length index) r) {words : List ℕ} {count : ℕ} (marks : RowsFound h rows index r.columns r.values (replicate 1040 0) words count) where
     lent : Lendable h rows r.columns index
@@ -106,14 +108,14 @@ module _ (h : Header) (rows pending index : List ℕ) (r : Refresh) where
       | inr m ↦ or_right (f.test row) _ (rw m)
     ]
 
-    seven : number records ≡ first_refusal (check (overfull h.pending (length pending) (count * (h.keys + 3) + count * (h.columns + 2))) 7 ∷ [])
+    seven : refusal_of records ≡ first_refusal (check (overfull h.pending (length pending) (count * (h.keys + 3) + count * (h.columns + 2))) 7 ∷ [])
     seven = only_seven h (length rows) (length pending) (length index) r p records ∙ rw records_words
 
     -- the records do not fit
     pub refused_full : overfull h.pending (length pending) (count * (h.keys + 3) + count * (h.columns + 2)) ≡ true
-        → Refreshing h rows pending index r (Refused 7) pending index
+        → Refreshing h rows pending index r (Err PendingFull) pending index
     refused_full full =
-        refused_as 7 (found h rows r f.test f.mention) all_found (sym (seven ∙ unfold first_refusal in rw full)) (λ z. omega arith)
+        refused_as PendingFull (found h rows r f.test f.mention) all_found (sym (seven ∙ unfold first_refusal in rw full))
 
     -- where the records of all rows fit, these do
     pub found_fit : overfull h.pending (length pending) (h.rows * (h.keys + 3) + h.rows * (h.columns + 2)) ≡ false
@@ -159,18 +161,18 @@ module _ (h : Header) (rows pending index : List ℕ) (r : Refresh) where
           rw n (twice count)
 
       pub done : {answer : Refreshed} {pending' index' : List ℕ} → CaughtUp h rows r.columns index index' × UpToDate h r.columns index'
-          → RowsStaged h rows pending words count r.stamp answer pending' → Refreshing h rows pending index r (RefreshDone answer) pending' index'
-      unfolding stageable rows_words refresh_view
+          → RowsStaged h rows pending words count r.stamp answer pending' → Refreshing h rows pending index r (Ok answer) pending' index'
+      unfolding stageable rows_words answer_view
       done {answer} up all =
           let w = all.written.on stageable in
-          let none : number records ≡ 0 = seven ∙ unfold first_refusal in rw free in
+          let none : refusal_of records ≡ 0 = seven ∙ unfold first_refusal in rw free in
           let u : all.used ≡ h.pending + words_all (opening_of h) records = w.words_used ∙ ap (λ (k : ℕ). h.pending + k) (total ∙ sym records_words) in
           let a : answer ≡ answered h records = all.answers ∙ rw (u, some_staged) in
           record {
             found = found h rows r f.test f.mention;
             all_found = all_found;
             effect = record {
-              answers = reply_accepted (refresh_view (RefreshDone _)) _ (answered h records) (ap accepted a) none;
+              answers = ok_replies a none;
               unchanged = λ k. absurd (omega (arith, none));
               written = λ z. w.words ∙ ap (λ (rs : List Staged). splice pending h.pending (flatten (map (record_words h.keys) rs))) (sym records_are);
             };

@@ -12,9 +12,9 @@ ghost use Rattle.table.specs.Numbers.{opening_of};
 ghost use Rattle.table.specs.Refusing.{outside};
 ghost use Rattle.table.specs.Stores.{record_words};
 ghost use Rattle.bitmap.specs.inner.Bitmaps.{Bitmap};
-ghost use Rattle.refresh_spec.specs.declared.RefreshAnswer.TheVariants.{Refreshed as RefreshDone};
 ghost use Rattle.refresh_spec.specs.Refreshes.{Refreshing};
 ghost use Rattle.refresh_spec.specs.inner.Finding.{Lendable, usable};
+ghost use Rattle.refusals.specs.Refusals.{refusal_number};
 ghost use Rattle.refresh.specs.inner.Testing.{early_refusal, Accepted};
 ghost use Rattle.refresh.specs.inner.Finding.{RowsFound};
 ghost use Rattle.refresh.specs.inner.Staging.{RowInStore, row_words, rows_words, numbered, Block, BlockWritten, Group, GroupWritten, Stageable, AllWritten, RowsStaged};
@@ -22,11 +22,8 @@ ghost use Rattle.refresh.specs.inner.Staging.{RowInStore, row_words, rows_words,
 use bitmap::{ROW_WORDS, WORDS};
 use refresh_index::{FRONT, ROWS_SEEN, catch_up, is_usable, mark_listed};
 use refresh_scan::mark_unlisted;
-use refresh_spec::{RefreshAnswer, Refreshed};
-use refusals::{
-    ACCEPTED, NO_SUCH_COLUMN, OLD_SORT_VALUE, OUT_OF_BOUNDS, PENDING_FULL, TOO_MANY_COLUMNS,
-    TOO_SHORT,
-};
+use refresh_spec::Refreshed;
+use refusals::Refusal;
 use row_buffer::{BITMAP_WORD_BITS, row_start};
 use table::refusing::{is_old, is_pending_outside, is_rows_short};
 use table::{Header, INSERT, RECORD_HEAD, ROW_RECORD_HEAD};
@@ -57,35 +54,35 @@ fn is_index_short(h: Header, index: usize, columns: &[u32]) -> bool
 }
 
 // The tests before test 7.
-fn refresh_refusal(
+fn check_refresh(
     h: Header,
     rows: usize,
     pending: usize,
     index: usize,
     columns: &[u32],
     stamp: u32,
-) -> u32
-    ensures { result ≡ early_refusal h rows pending index columns.now stamp }
+) -> Result<(), Refusal>
+    ensures { refusal_number result ≡ early_refusal h rows pending index columns.now stamp }
 {
     if is_pending_outside(h, pending) {
-        return OUT_OF_BOUNDS;
+        return Err(Refusal::OutOfBounds);
     }
     if is_rows_short(h, rows) {
-        return TOO_SHORT;
+        return Err(Refusal::TooShort);
     }
     if MOST_COLUMNS < columns.len() {
-        return TOO_MANY_COLUMNS;
+        return Err(Refusal::TooManyColumns);
     }
     if !are_columns_there(h, columns) {
-        return NO_SUCH_COLUMN;
+        return Err(Refusal::NoSuchColumn);
     }
     if is_index_short(h, index, columns) {
-        return TOO_SHORT;
+        return Err(Refusal::TooShort);
     }
     if is_old(h, stamp) {
-        return OLD_SORT_VALUE;
+        return Err(Refusal::OldSortValue);
     }
-    ACCEPTED
+    Ok(())
 }
 
 // Sets the bits of the live rows that mention a value, and returns their number. Rows that the index store has seen are looked up
@@ -269,7 +266,7 @@ fn refresh_by_index(
     goes_on: bool,
 ) -> Refreshed
     requires { Accepted h rows.now pending.old index.old columns.now stamp goes_on × (overfull h.pending (length pending.old) (h.rows * (h.keys + 3) + h.rows * (h.columns + 2)) ≡ false) }
-    ensures { Refreshing h rows.now pending.old index.old (record { columns = columns.entry.now; values = values.now; stamp = stamp }) (RefreshDone result) pending.new index.new }
+    ensures { Refreshing h rows.now pending.old index.old (record { columns = columns.entry.now; values = values.now; stamp = stamp }) (Ok result) pending.new index.new }
 {
     catch_up(h, rows, index, columns, goes_on);
     let mut words = [0u64; WORDS];
@@ -287,7 +284,7 @@ fn refresh_by_scan(
     values: &[u32],
     stamp: u32,
     goes_on: bool,
-) -> RefreshAnswer
+) -> Result<Refreshed, Refusal>
     requires { Accepted h rows.now pending.old index.old columns.now stamp goes_on }
     ensures { Refreshing h rows.now pending.old index.old (record { columns = columns.entry.now; values = values.now; stamp = stamp }) result pending.new index.new }
 {
@@ -296,10 +293,10 @@ fn refresh_by_scan(
     let removals = count * (h.keys + ROW_RECORD_HEAD);
     let inserts = count * (h.columns + RECORD_HEAD);
     if is_overfull(h.pending, pending.len(), removals, inserts) {
-        return RefreshAnswer::Refused(PENDING_FULL);
+        return Err(Refusal::PendingFull);
     }
     catch_up(h, rows, index, columns, goes_on);
-    RefreshAnswer::Refreshed(stage_marked(h, rows, pending, &words, count, stamp))
+    Ok(stage_marked(h, rows, pending, &words, count, stamp))
 }
 
 // Stages each live row with one of the values in one of the columns for removal and, with the stamp as its sort cell, for
@@ -312,17 +309,14 @@ pub fn refresh_rows_for_values(
     columns: &[u32],
     values: &[u32],
     stamp: u32,
-) -> RefreshAnswer
+) -> Result<Refreshed, Refusal>
     ensures { Refreshing h rows.now pending.old index.old (record { columns = columns.entry.now; values = values.now; stamp = stamp }) result pending.new index.new }
 {
-    let refusal = refresh_refusal(h, rows.len(), pending.len(), index.len(), columns, stamp);
-    if refusal != ACCEPTED {
-        return RefreshAnswer::Refused(refusal);
-    }
+    check_refresh(h, rows.len(), pending.len(), index.len(), columns, stamp)?;
     let goes_on = is_usable(h, index, columns);
     if is_tight(h, pending.len()) {
         return refresh_by_scan(h, rows, pending, index, columns, values, stamp, goes_on);
     }
     let refreshed = refresh_by_index(h, rows, pending, index, columns, values, stamp, goes_on);
-    RefreshAnswer::Refreshed(refreshed)
+    Ok(refreshed)
 }

@@ -9,9 +9,3 @@ pub struct Refreshed {
     pub header: Header,
     pub staged: bool,
 }
-
-#[derive(Clone, Copy)]
-pub enum RefreshAnswer {
-    Refused(u32),
-    Refreshed(Refreshed),
-}

@@ -1,6 +1,7 @@
 -- Refusals: "a refusal gives its number". An operation has a list of checks, in the paper's order; the first that applies gives the
 -- number. Assumes nothing.
-use Rattle.std.specs.Prelude.{ℕ, zero, suc, ◌<◌, ◌≡◌, Bool, cond, List, [], ◌∷◌, Result, Ok, Err}
+use Rattle.std.specs.Prelude.{ℕ, zero, suc, ◌<◌, ◌≡◌, Bool, cond, List, [], ◌∷◌, Result, Ok, Err, Option as Optional, Some, None}
+use Rattle.std.proofs.Math.Option.{Option, none, some}
 use Rattle.refusals.specs.declared.Refusal.{Refusal}
 use Rattle.refusals.specs.declared.Refusal.TheVariants.{OutOfBounds, TooShort, WrongWidth, MalformedSubset, PastTheRows, NoSuchColumn, PendingFull, OldSortValue, LastGeneration, NoListing, TooManyColumns, BrokenRow, PairCount, UnknownSequence, PastTheLast, MissingRow, OldNote, NoImage, UnsoundImage, TextTooLong}
 
@@ -72,3 +73,9 @@ refusal_number (Err refusal) = number refusal
 unfoldable pub answer_view : {A : Type 0} → Result A Refusal → Reply A
 answer_view (Ok value) = accepted value
 answer_view (Err refusal) = refused (number refusal)
+
+-- the same for a result whose value may be absent
+unfoldable pub found_view : {A : Type 0} → Result (Optional A) Refusal → Reply (Option A)
+found_view (Ok None) = accepted none
+found_view (Ok (Some value)) = accepted (some value)
+found_view (Err refusal) = refused (number refusal)

@@ -1,18 +1,17 @@
 // Decodes a request from words, and executes it by its entry point on lent stores.
 ghost use Rattle.std.specs.Prelude.{◌≡◌, [], ◌∷◌};
-ghost use Rattle.refusals.specs.Refusals.{if_accepted};
-ghost use Rattle.table.specs.Numbers.{table_view, merge_view};
+ghost use Rattle.refusals.specs.Refusals.{if_accepted, answer_view};
 ghost use Rattle.table.specs.Outcomes.{stores, compaction_words, lengths};
-ghost use Rattle.refresh_spec.specs.Refreshes.{refresh_view};
 ghost use Rattle.replay.specs.Encoding.{refresh_in, request_of};
 ghost use Rattle.replay.specs.inner.Making.{Made};
 ghost use Rattle.replay.specs.inner.Decoding.{request_is, requested};
 
 use merge::merge;
 use refresh::refresh_rows_for_values;
-use refresh_spec::RefreshAnswer;
+use refresh_spec::Refreshed;
+use refusals::Refusal;
 use replay_frames::Frame;
-use table::{Header, MergeAnswer, TableAnswer};
+use table::{Header, Merge};
 use table_compact::compact;
 use table_open::clear;
 use table_stage::{stage_insert, stage_remove, stage_remove_row};
@@ -62,30 +61,30 @@ pub fn decode(frame: Frame<'_>) -> Option<Request<'_>>
 }
 
 // The header after a call. A refused call leaves it unchanged.
-fn header_after(h: Header, answer: TableAnswer) -> Header
-    ensures { result ≡ if_accepted (table_view answer) (λ h. h) h }
+fn header_after(h: Header, answer: Result<Header, Refusal>) -> Header
+    ensures { result ≡ if_accepted (answer_view answer) (λ h. h) h }
 {
     match answer {
-        TableAnswer::Refused(_) => h,
-        TableAnswer::Table(n) => n,
+        Err(_) => h,
+        Ok(n) => n,
     }
 }
 
-fn header_merged(h: Header, answer: MergeAnswer) -> Header
-    ensures { result ≡ if_accepted (merge_view answer) (λ m. m.header) h }
+fn header_merged(h: Header, answer: Result<Merge, Refusal>) -> Header
+    ensures { result ≡ if_accepted (answer_view answer) (λ m. m.header) h }
 {
     match answer {
-        MergeAnswer::Refused(_) => h,
-        MergeAnswer::Merged(m) => m.header,
+        Err(_) => h,
+        Ok(m) => m.header,
     }
 }
 
-fn header_refreshed(h: Header, answer: RefreshAnswer) -> Header
-    ensures { result ≡ if_accepted (refresh_view answer) (λ a. a.header) h }
+fn header_refreshed(h: Header, answer: Result<Refreshed, Refusal>) -> Header
+    ensures { result ≡ if_accepted (answer_view answer) (λ a. a.header) h }
 {
     match answer {
-        RefreshAnswer::Refused(_) => h,
-        RefreshAnswer::Refreshed(a) => a.header,
+        Err(_) => h,
+        Ok(refreshed) => refreshed.header,
     }
 }
 

@@ -9,8 +9,9 @@ ghost use Rattle.replay.specs.Encoding.{request_of};
 ghost use Rattle.replay_frames.specs.Frames.{framed};
 
 use calls::{decode, make_call};
+use refusals::Refusal;
 use replay_frames::Frames;
-use table::{Header, TableAnswer};
+use table::Header;
 use table_open::open_table;
 
 mod calls; // calls.rt: one request decoded and executed
@@ -54,7 +55,7 @@ pub fn replay(
     live: &mut [u64],
     base: &mut [u32],
     index: &mut [u32],
-) -> TableAnswer
+) -> Result<Header, Refusal>
     ensures { Replayed (record { columns = columns; keys = key_columns; sort = sort; rule = rule; capacity = capacity }) generation (framed request_of calls.now) (body rows.old keys.old sorts.old) pending.old (compaction_words live.old base.old) index.old result (body rows.new keys.new sorts.new) pending.new (compaction_words live.new base.new) index.new }
 {
     let opened = open_table(
@@ -69,11 +70,7 @@ pub fn replay(
         sorts,
         pending,
     );
-    match opened {
-        TableAnswer::Refused(n) => TableAnswer::Refused(n),
-        TableAnswer::Table(h) => {
-            let n = make_calls(h, calls, rows, keys, sorts, pending, live, base, index);
-            TableAnswer::Table(n)
-        }
-    }
+    let h = opened?;
+    let n = make_calls(h, calls, rows, keys, sorts, pending, live, base, index);
+    Ok(n)
 }

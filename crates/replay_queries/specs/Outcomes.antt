@@ -1,13 +1,14 @@
 -- The ids left, as an answer encodes them; and the result of a list of queries, each run on the subset that the last accepted query
 -- returned, with an output of this many ids. Assumes nothing.
-use Rattle.std.specs.Prelude.{ℕ, ◌≡◌, cond, List, [], ◌∷◌, ◌++◌, take, eqb}
+use Rattle.sort_entries.specs.declared.Range.{Range}
+use Rattle.refusals.specs.declared.Refusal.{Refusal}
+use Rattle.std.specs.Prelude.{ℕ, ◌≡◌, cond, List, [], ◌∷◌, ◌++◌, take, eqb, Result, Option as Optional}
 use Rattle.std.proofs.Math.Option.{Option, none, Option-elim}
 use Rattle.refusals.specs.Refusals.{Reply, if_accepted}
 use Rattle.offsets.specs.Subsets.{Subset, range, list}
 use Rattle.offsets.specs.Answers.{intersect_reply}
 use Rattle.constraints.specs.declared.Constraint.{Constraint}
 use Rattle.table.specs.declared.Header.{Header}
-use Rattle.table.specs.declared.RangeAnswer.{RangeAnswer}
 use Rattle.table.specs.Numbers.{range_view}
 use Rattle.table.specs.Outcomes.{RangeRead}
 use Rattle.query_spec.specs.Queries.{refine_one_reply, refine_list_reply}
@@ -39,7 +40,7 @@ module _ (h : Header) (rows : List ℕ) (output : ℕ) where
 -- the queries, in order; each range step has the result of `fast_subset` for its condition
 pub data QueriedAll (h : Header) (rows sorts : List ℕ) (output : ℕ) : Subset → List Query → Outcome → Type 0 where
   end : (a : Subset) → QueriedAll h rows sorts output a [] (outcome a [])
-  next : {a : Subset} {q : Query} {qs : List Query} {rest : Outcome} (range : RangeAnswer)
+  next : {a : Subset} {q : Query} {qs : List Query} {rest : Outcome} (range : Result (Optional Range) Refusal)
       → ((c : Constraint) → q ≡ intersect_range c → RangeRead h sorts c range)
       → QueriedAll h rows sorts output (queried h rows output a q (range_view range)).ids qs rest
       → QueriedAll h rows sorts output a (q ∷ qs) (outcome rest.ids ((queried h rows output a q (range_view range)).accepted ++ rest.accepted))

@@ -8,12 +8,13 @@ ghost use Rattle.replay_queries.specs.inner.Executing.{counted, apply_answer, Ex
 
 use constraints::Constraint;
 use constraints::decode::{CONDITION_WORDS, MOST_CONDITIONS, read_condition, read_conditions};
-use offsets::{Subset, SubsetAnswer};
+use offsets::{Subset, SubsetForm};
 use offsets_intersect::intersect;
 use query::array::refine_first;
 use query::refine_one;
+use refusals::Refusal;
 use replay_frames::Frame;
-use table::{Header, RangeAnswer};
+use table::Header;
 use table_read::fast_subset;
 
 pub mod run; // run.rt: a list of queries
@@ -64,14 +65,19 @@ fn count_one(l: RunAnswer) -> RunAnswer
 }
 
 // The ids left after the answer to a query that refines or intersects. `place` is the list that its output went to.
-fn apply_answer(l: RunAnswer, place: u32, refines: bool, answer: SubsetAnswer) -> RunAnswer
+fn apply_answer(
+    l: RunAnswer,
+    place: u32,
+    refines: bool,
+    answer: Result<SubsetForm, Refusal>,
+) -> RunAnswer
     requires { l.taken < 18446744073709551615 }
     ensures { result ≡ apply_answer l place refines answer }
 {
     let refined = refines | l.refined;
     match answer {
-        SubsetAnswer::Refused(_) => count_one(l),
-        SubsetAnswer::Range(start, end) => RunAnswer {
+        Err(_) => count_one(l),
+        Ok(SubsetForm::Range(start, end)) => RunAnswer {
             dense: true,
             start: start,
             end: end,
@@ -80,7 +86,7 @@ fn apply_answer(l: RunAnswer, place: u32, refines: bool, answer: SubsetAnswer) -
             refined: refined,
             taken: l.taken + 1,
         },
-        SubsetAnswer::List(count) => RunAnswer {
+        Ok(SubsetForm::List(count)) => RunAnswer {
             dense: false,
             start: 0,
             end: 0,
@@ -107,10 +113,10 @@ fn execute_range(
 {
     let found = fast_subset(h, sorts, c);
     match found {
-        RangeAnswer::Refused(_) => count_one(l),
-        RangeAnswer::None => count_one(l),
-        RangeAnswer::Range(start, end) => {
-            let range = Subset::Range(start, end);
+        Err(_) => count_one(l),
+        Ok(None) => count_one(l),
+        Ok(Some(found)) => {
+            let range = Subset::Range(found.start, found.end);
             apply_answer(l, place, false, intersect(subset, range, out))
         }
     }

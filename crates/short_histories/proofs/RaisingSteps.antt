@@ -1,7 +1,8 @@
 -- The odometer: the steps of its loops, and the law that the sequence it gives is at the next position. Assumes nothing.
 use Rattle.short_histories.proofs.Prelude.{ℕ, zero, suc, ◌+◌, ◌-◌, ◌≤◌, ◌<◌, ◌≡◌, ◌≢◌, refl, sym, ap, ◌∙◌, Bool, true, List, [], ◌∷◌, ◌++◌, append-nil, dec_lt, arith, length, take, drop, drop_of_length-le, get_or, set, replicate, length-append, append_assoc, length-drop, set_at, length-replicate, length-take-le, take-append-drop, append_snoc, take-suc, ltb, ltb-true, lt-ltb, all_append, all_cons, all_get_d, all_of, Steps, number, number_more, number_none, number_short, known, position_of, sequence_at, known_of, known_steps, position_below, position_number, sequence_at_position_of, next_none, next_written, sequence_no_room, sequence_written}
 use Rattle.lists.specs.Lists.{splice}
-use Rattle.short_histories.specs.declared.SequenceAnswer.TheVariants.{Refused, None, Written}
+use Rattle.std.specs.Prelude.{Ok, Err, Some, None}
+use Rattle.refusals.specs.declared.Refusal.TheVariants.{TooShort}
 use Rattle.short_histories.specs.Sequences.{NextFound}
 use Rattle.short_histories.specs.inner.Raised.{RaisedEnd, raised, ToRaise}
 use Rattle.short_histories.proofs.LoopSteps.{every_take}
@@ -112,7 +113,7 @@ module _ (s : List ℕ) (end : ℕ) (t : ToRaise s end) where
 
   module _ (output : List ℕ) (steps : ℕ) (is : steps ≡ length (raised s end)) where
     -- after the last sequence
-    pub raised_none : 6 < steps → NextFound s output None output
+    pub raised_none : 6 < steps → NextFound s output (Ok None) output
     raised_none h =
         next_none s output t.is_known (position_of s) refl
         (elim (dec_lt (number (raised s end)) 137257) [
@@ -127,14 +128,14 @@ module _ (s : List ℕ) (end : ℕ) (t : ToRaise s end) where
       steps_are : steps ≡ length (sequence_at (position_of s + 1))
       steps_are = is ∙ ap length (sym (next_is few))
 
-      pub raised_no_room : length output < steps → NextFound s output (Refused 2) output
+      pub raised_no_room : length output < steps → NextFound s output (Err TooShort) output
       raised_no_room k =
-          next_written s output t.is_known (position_of s) refl (next_below few) (Refused 2) output
+          next_written s output t.is_known (position_of s) refl (next_below few) (Err TooShort) output
           (sequence_no_room (position_of s + 1) output (next_below few) steps steps_are k)
 
-      pub raised_written : steps ≤ length output → (output' : List ℕ) → output' ≡ splice output 0 (raised s end) → NextFound s output (Written steps) output'
+      pub raised_written : steps ≤ length output → (output' : List ℕ) → output' ≡ splice output 0 (raised s end) → NextFound s output (Ok (Some steps)) output'
       raised_written k output' w =
-          next_written s output t.is_known (position_of s) refl (next_below few) (Written steps) output'
+          next_written s output t.is_known (position_of s) refl (next_below few) (Ok (Some steps)) output'
           (sequence_written (position_of s + 1) output (next_below few) steps steps_are k output' (w ∙ ap (splice output 0) (sym (next_is few))))
 
 -- ---- `write_raised`

@@ -1,18 +1,15 @@
 -- Every short history (document 02, change 10): the seven steps, all sequences of at most six of them in one list, and the maps
 -- between a sequence and its place in that list. Assumes nothing.
-use Rattle.std.specs.Prelude.{ℕ, zero, suc, ◌-◌, ◌≡◌, Bool, not, cond, ◌&&◌, List, [], ◌∷◌, map, length, get_or, leb, ltb}
+use Rattle.std.specs.Prelude.{ℕ, zero, suc, ◌-◌, ◌≡◌, Bool, not, cond, ◌&&◌, List, [], ◌∷◌, map, length, get_or, leb, ltb, Result, Ok, Err, Option as Optional}
 use Rattle.std.proofs.Math.Option
 use Rattle.std.proofs.Math.Option.{Option, none, some}
 use Rattle.lists.specs.Lists.{splice, all, flatten, iota, same}
-use Rattle.refusals.specs.Refusals.{check, first_refusal, Reply, refused, accepted, reply, Effect}
+use Rattle.refusals.specs.Refusals.{check, first_refusal, Reply, refused, accepted, reply, number, answer_view, found_view, Effect}
+use Rattle.refusals.specs.declared.Refusal.{Refusal}
 use Rattle.plain_table.specs.Staged.{insert, remove_key}
 use Rattle.plain_table.specs.Calls.{Call, staging, merging}
-use Rattle.short_histories.specs.declared.StepAnswer.{StepAnswer}
-use Rattle.short_histories.specs.declared.StepAnswer.TheVariants.{Refused as StepRefused, Insert, Remove, Merge}
-use Rattle.short_histories.specs.declared.PositionAnswer.{PositionAnswer}
-use Rattle.short_histories.specs.declared.PositionAnswer.TheVariants.{Refused as PositionRefused, Position}
-use Rattle.short_histories.specs.declared.SequenceAnswer.{SequenceAnswer}
-use Rattle.short_histories.specs.declared.SequenceAnswer.TheVariants.{Refused as SequenceRefused, None as NoSequence, Written}
+use Rattle.short_histories.specs.declared.Step.{Step}
+use Rattle.short_histories.specs.declared.Step.TheVariants.{Insert, Remove, Merge}
 
 -- ---- the steps
 
@@ -80,37 +77,31 @@ next_refusal sequence output =
 
 -- ---- answers
 
-unfoldable pub step_view : StepAnswer → Reply Call
-step_view (StepRefused n) = refused n
-step_view (Insert key stamp third) = accepted (staging (insert (key ∷ stamp ∷ third ∷ [])))
-step_view (Remove key) = accepted (staging (remove_key (key ∷ [])))
-step_view Merge = accepted merging
+-- the call of a step
+unfoldable pub call_of : Step → Call
+call_of (Insert key stamp third) = staging (insert (key ∷ stamp ∷ third ∷ []))
+call_of (Remove key) = staging (remove_key (key ∷ []))
+call_of Merge = merging
 
-unfoldable pub position_view : PositionAnswer → Reply ℕ
-position_view (PositionRefused n) = refused n
-position_view (Position position) = accepted position
-
--- the number of steps written, if a sequence was written
-unfoldable pub sequence_view : SequenceAnswer → Reply (Option ℕ)
-sequence_view (SequenceRefused n) = refused n
-sequence_view NoSequence = accepted none
-sequence_view (Written n) = accepted (some n)
+unfoldable pub step_view : Result Step Refusal → Reply Call
+step_view (Ok step) = accepted (call_of step)
+step_view (Err refusal) = refused (number refusal)
 
 -- ---- contracts
 
 -- "15, .. an unknown step"
-abbrev pub StepAnswered : ℕ → StepAnswer → Type 0
+abbrev pub StepAnswered : ℕ → Result Step Refusal → Type 0
 StepAnswered step answer = step_view answer ≡ reply (first_refusal (check (leb 7 step) 15 ∷ [])) (get_or steps step merging)
 
-abbrev pub PositionAnswered : List ℕ → PositionAnswer → Type 0
-PositionAnswered sequence answer = position_view answer ≡ reply (first_refusal (check (not (known sequence)) 15 ∷ [])) (position_of sequence)
+abbrev pub PositionAnswered : List ℕ → Result ℕ Refusal → Type 0
+PositionAnswered sequence answer = answer_view answer ≡ reply (first_refusal (check (not (known sequence)) 15 ∷ [])) (position_of sequence)
 
--- The sequence found is at the start of the output, and nothing is changed past it; on refusal nothing is changed at all.
-pub record SequenceAnswered (refusal : ℕ) (found : Option (List ℕ)) (output : List ℕ) (answer : SequenceAnswer) (output' : List ℕ) : Type 0 where
-  pub effect : Effect refusal (sequence_view answer) (Option.map length found) output output' (splice output 0 (Option.get_or found []))
+-- The answer is the number of steps of the sequence found, if there is one. It is at the start of the output, and nothing is changed past it; on refusal nothing is changed at all.
+pub record SequenceAnswered (refusal : ℕ) (found : Option (List ℕ)) (output : List ℕ) (answer : Result (Optional ℕ) Refusal) (output' : List ℕ) : Type 0 where
+  pub effect : Effect refusal (found_view answer) (Option.map length found) output output' (splice output 0 (Option.get_or found []))
 
-abbrev pub SequenceFound : ℕ → List ℕ → SequenceAnswer → List ℕ → Type 0
+abbrev pub SequenceFound : ℕ → List ℕ → Result (Optional ℕ) Refusal → List ℕ → Type 0
 SequenceFound position output = SequenceAnswered (sequence_refusal position (length output)) (some (sequence_at position)) output
 
-abbrev pub NextFound : List ℕ → List ℕ → SequenceAnswer → List ℕ → Type 0
+abbrev pub NextFound : List ℕ → List ℕ → Result (Optional ℕ) Refusal → List ℕ → Type 0
 NextFound sequence output = SequenceAnswered (next_refusal sequence (length output)) (next_after sequence) output

@@ -8,7 +8,7 @@ ghost use Rattle.lists.specs.Lists.{splice};
 ghost use Rattle.short_histories.specs.Sequences.{sequence_at, position_of, known, StepAnswered, PositionAnswered, SequenceFound, NextFound};
 ghost use Rattle.short_histories.specs.inner.Raised.{RaisedEnd, raised, ToRaise};
 
-use refusals::{PAST_THE_LAST, TOO_SHORT, UNKNOWN_SEQUENCE};
+use refusals::Refusal;
 
 // The number of sequences: 1 + 7 + 49 + ... + 117649.
 const SEQUENCES: u32 = 137257;
@@ -19,42 +19,43 @@ const LAST_STEP: u32 = STEPS - 1;
 
 const LONGEST: usize = 6;
 
-#[derive(Clone, Copy)]
-pub enum StepAnswer {
-    Refused(u32),
-    // key, stamp, third cell
-    Insert(u32, u32, u32),
-    Remove(u32),
+// The call of a step.
+#[derive(Clone, Copy, Debug, PartialEq, Eq, Hash)]
+pub enum Step {
+    Insert { key: u32, stamp: u32, third: u32 },
+    Remove { key: u32 },
     Merge,
 }
 
-#[derive(Clone, Copy)]
-pub enum PositionAnswer {
-    Refused(u32),
-    Position(u32),
-}
-
-#[derive(Clone, Copy)]
-pub enum SequenceAnswer {
-    Refused(u32),
-    None,
-    // number of steps
-    Written(u32),
-}
-
-// The call of a step.
-pub fn step_at(step: u32) -> StepAnswer
+// The step of a number.
+pub fn step_at(step: u32) -> Result<Step, Refusal>
     ensures { StepAnswered step result }
 {
     match step {
-        0 => StepAnswer::Insert(0, 0, 0),
-        1 => StepAnswer::Insert(0, 1, 1),
-        2 => StepAnswer::Insert(1, 0, 1),
-        3 => StepAnswer::Insert(1, 1, 0),
-        4 => StepAnswer::Remove(0),
-        5 => StepAnswer::Remove(1),
-        6 => StepAnswer::Merge,
-        _ => StepAnswer::Refused(UNKNOWN_SEQUENCE),
+        0 => Ok(Step::Insert {
+            key: 0,
+            stamp: 0,
+            third: 0,
+        }),
+        1 => Ok(Step::Insert {
+            key: 0,
+            stamp: 1,
+            third: 1,
+        }),
+        2 => Ok(Step::Insert {
+            key: 1,
+            stamp: 0,
+            third: 1,
+        }),
+        3 => Ok(Step::Insert {
+            key: 1,
+            stamp: 1,
+            third: 0,
+        }),
+        4 => Ok(Step::Remove { key: 0 }),
+        5 => Ok(Step::Remove { key: 1 }),
+        6 => Ok(Step::Merge),
+        _ => Err(Refusal::UnknownSequence),
     }
 }
 
@@ -104,28 +105,28 @@ fn write_sequence(position: u32, steps: usize, output: &mut [u32])
 }
 
 // Returns the position of a sequence, or its refusal.
-pub fn position_of(sequence: &[u32]) -> PositionAnswer
+pub fn position_of(sequence: &[u32]) -> Result<u32, Refusal>
     ensures { PositionAnswered sequence.now result }
 {
     if !is_known(sequence) {
-        return PositionAnswer::Refused(UNKNOWN_SEQUENCE);
+        return Err(Refusal::UnknownSequence);
     }
-    PositionAnswer::Position(known_position(sequence))
+    Ok(known_position(sequence))
 }
 
 // Writes the sequence at a position to the start of the output, and returns its number of steps.
-pub fn sequence_at(position: u32, output: &mut [u32]) -> SequenceAnswer
+pub fn sequence_at(position: u32, output: &mut [u32]) -> Result<Option<u32>, Refusal>
     ensures { SequenceFound position output.old result output.new }
 {
     if position >= SEQUENCES {
-        return SequenceAnswer::Refused(PAST_THE_LAST);
+        return Err(Refusal::PastTheLast);
     }
     let steps = length_at(position);
     if output.len() < steps {
-        return SequenceAnswer::Refused(TOO_SHORT);
+        return Err(Refusal::TooShort);
     }
     write_sequence(position, steps, output);
-    SequenceAnswer::Written(steps as u32)
+    Ok(Some(steps as u32))
 }
 
 // ---- the next sequence, as an odometer counts
@@ -165,20 +166,20 @@ fn write_raised(sequence: &[u32], end: usize, steps: usize, output: &mut [u32])
 
 // Writes the sequence after this one to the start of the output, and returns its number of steps; none after the last. From the
 // empty sequence on it generates all others.
-pub fn next_sequence(sequence: &[u32], output: &mut [u32]) -> SequenceAnswer
+pub fn next_sequence(sequence: &[u32], output: &mut [u32]) -> Result<Option<u32>, Refusal>
     ensures { NextFound sequence.now output.old result output.new }
 {
     if !is_known(sequence) {
-        return SequenceAnswer::Refused(UNKNOWN_SEQUENCE);
+        return Err(Refusal::UnknownSequence);
     }
     let end = raised_end(sequence);
     let steps = raised_length(sequence, end);
     if LONGEST < steps {
-        return SequenceAnswer::None;
+        return Ok(None);
     }
     if output.len() < steps {
-        return SequenceAnswer::Refused(TOO_SHORT);
+        return Err(Refusal::TooShort);
     }
     write_raised(sequence, end, steps, output);
-    SequenceAnswer::Written(steps as u32)
+    Ok(Some(steps as u32))
 }

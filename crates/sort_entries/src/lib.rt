@@ -169,6 +169,7 @@ fn advance(sorts: &[u32], entries: u32, from: u32, row: u32) -> u32
     ensures { Advanced sorts.now entries from row result }
 {
     let mut at = from;
+    // No `for`: the next row goes on from the entry where this one stops.
     while at + 1 < entries {
         let word = (2 * at + 3) as usize;
         if row < sorts[word] {

@@ -3,7 +3,10 @@
 -- consists of these records.
 -- A store without a primed name is lent shared, or not lent, and does not change. First come the stores as records, and when they
 -- represent a plain table (`Represents`). Assumes nothing.
-use Rattle.std.specs.Prelude.{ℕ, ◌+◌, ◌*◌, ◌/◌, ◌<◌, ◌≡◌, true, false, cond, not, ◌||◌, List, [], length, drop, get_or, eqb}
+use Rattle.table.specs.declared.Version.{Version}
+use Rattle.sort_entries.specs.declared.Range.{Range}
+use Rattle.refusals.specs.declared.Refusal.{Refusal}
+use Rattle.std.specs.Prelude.{ℕ, ◌+◌, ◌*◌, ◌/◌, ◌<◌, ◌≡◌, true, false, cond, not, ◌||◌, List, [], length, drop, get_or, eqb, Result, Option as Optional, Bool}
 use Rattle.std.proofs.Math.Option.{Option, none, some, map}
 use Rattle.lists.specs.Lists.{splice, rows_of}
 use Rattle.refusals.specs.Refusals.{accepted, reply, outcome}
@@ -16,15 +19,9 @@ use Rattle.plain_table.specs.Refusing.{Lengths, stores_short, open_refusal}
 use Rattle.plain_table.specs.Plain.{Plain, lookup, opened, applied, added, compacts_after, merged, merge_keeps, merge_drops, compacted, cleared}
 use Rattle.plain_table.specs.Proper.{Proper}
 use Rattle.table.specs.declared.Header.{Header}
-use Rattle.table.specs.declared.TableAnswer.{TableAnswer}
 use Rattle.table.specs.declared.Merge.{Merge}
-use Rattle.table.specs.declared.MergeAnswer.{MergeAnswer}
-use Rattle.table.specs.declared.RowAnswer.{RowAnswer}
-use Rattle.table.specs.declared.CellAnswer.{CellAnswer}
-use Rattle.table.specs.declared.RangeAnswer.{RangeAnswer}
-use Rattle.table.specs.declared.VersionAnswer.{VersionAnswer}
-use Rattle.table.specs.declared.SoundAnswer.{SoundAnswer}
-use Rattle.table.specs.Numbers.{opening_of, largest_view, header, table_view, merge_view, row_view, cell_view, range_view, version_view, sound_view}
+use Rattle.refusals.specs.Refusals.{answer_view, found_view}
+use Rattle.table.specs.Numbers.{opening_of, largest_view, header, range_view}
 use Rattle.table.specs.Refusing.{stage_refusal, merge_refusal, compact_refusal, clear_refusal, lookup_refusal, cell_refusal, fast_refusal, version_refusal, since_refusal, noted_refusal, sound_refusal}
 use Rattle.table.specs.Stores.{header_of, row_store, sort_store, record_words, rows_in, Shows}
 use Rattle.table.specs.Sound.{index_shape_of, KeysDiffer, Sound}
@@ -98,8 +95,8 @@ abbrev pub open_refusal_on : Opening → Body → List ℕ → ℕ
 open_refusal_on o b pending = open_refusal o (lengths b.rows b.keys b.sorts pending [] [])
 
 -- *Open*: lent rows, keys, sort entries and pending; all but keys are lent shared, so they do not change
-pub record Opened (o : Opening) (generation : ℕ) (b : Body) (pending : List ℕ) (answer : TableAnswer) (keys' : List ℕ) : Type 0 where
-  pub answers : table_view answer ≡ reply (open_refusal_on o b pending) (header_of (opened o generation))
+pub record Opened (o : Opening) (generation : ℕ) (b : Body) (pending : List ℕ) (answer : Result Header Refusal) (keys' : List ℕ) : Type 0 where
+  pub answers : answer_view answer ≡ reply (open_refusal_on o b pending) (header_of (opened o generation))
   pub unchanged : 0 < open_refusal_on o b pending → keys' ≡ b.keys
   pub past : SamePast (2 * o.capacity) b.keys keys'
   pub represents : open_refusal_on o b pending ≡ 0 → Represents (opened o generation) (stores (header_of (opened o generation)) b.rows keys' b.sorts pending)
@@ -108,8 +105,8 @@ pub record Opened (o : Opening) (generation : ℕ) (b : Body) (pending : List �
 abbrev pub with_pending : Header → ℕ → Header
 with_pending h pending = header (opening_of h) h.rows h.dead h.entries pending h.generation h.largest
 
-pub record Staging (h : Header) (pending : List ℕ) (r : Staged) (answer : TableAnswer) (pending' : List ℕ) : Type 0 where
-  pub answers : table_view answer ≡ reply (stage_refusal h (length pending) r) (with_pending h (h.pending + words_of (opening_of h) r))
+pub record Staging (h : Header) (pending : List ℕ) (r : Staged) (answer : Result Header Refusal) (pending' : List ℕ) : Type 0 where
+  pub answers : answer_view answer ≡ reply (stage_refusal h (length pending) r) (with_pending h (h.pending + words_of (opening_of h) r))
   pub unchanged : 0 < stage_refusal h (length pending) r → pending' ≡ pending
   pub written : stage_refusal h (length pending) r ≡ 0 → pending' ≡ splice pending h.pending (record_words h.keys r)
 
@@ -126,9 +123,9 @@ merge_of p =
 unfoldable pub merged_store : Plain → (List ℕ → List ℕ) → List ℕ → List ℕ
 merged_store p compaction written = cond (compacts_after (applied p).status (applied p).table) (compaction written) written
 
-module _ (s : Stores) (w : CompactionWords) (answer : MergeAnswer) (b' : Body) (w' : CompactionWords) where
+module _ (s : Stores) (w : CompactionWords) (answer : Result Merge Refusal) (b' : Body) (w' : CompactionWords) where
   pub record MergedTable (p : Plain) : Type 0 where
-    pub answers : merge_view answer ≡ accepted (merge_of p)
+    pub answers : answer_view answer ≡ accepted (merge_of p)
     pub rows_after : b'.rows
         ≡ merged_store p (row_store (merged p).table []) (row_store (applied p).table (rows_of s.header.columns s.header.rows s.rows) s.rows)
     pub sorts_after : b'.sorts ≡ merged_store p (sort_store (merged p).table) (sort_store (applied p).table s.sorts)
@@ -137,22 +134,22 @@ module _ (s : Stores) (w : CompactionWords) (answer : MergeAnswer) (b' : Body) (
     pub words : (merged p).table.generation ≡ p.generation → w' ≡ w
 
   pub record Merging : Type 0 where
-    pub refusal : outcome (merge_view answer) ≡ reply (merge_refusal s.header (lengths_lent s w)) tt
+    pub refusal : outcome (answer_view answer) ≡ reply (merge_refusal s.header (lengths_lent s w)) tt
     pub unchanged : 0 < merge_refusal s.header (lengths_lent s w) → (b' ≡ body_of s) × (w' ≡ w)
     pub past : SamePast (2 * s.header.capacity) s.keys b'.keys
     pub words_past : WordsPast s.header.capacity w w'
     pub table : merge_refusal s.header (lengths_lent s w) ≡ 0 → (p : Plain) → Represents p s → MergedTable p
 
 -- *Compact*: lent rows, keys, sort entries and compaction words
-module _ (h : Header) (b : Body) (w : CompactionWords) (answer : TableAnswer) (b' : Body) (w' : CompactionWords) where
+module _ (h : Header) (b : Body) (w : CompactionWords) (answer : Result Header Refusal) (b' : Body) (w' : CompactionWords) where
   pub record CompactedTable (pending : List ℕ) (p : Plain) : Type 0 where
-    pub answers : table_view answer ≡ accepted (header_of (compacted p))
+    pub answers : answer_view answer ≡ accepted (header_of (compacted p))
     pub rows_after : b'.rows ≡ row_store (compacted p) [] b.rows
     pub sorts_after : b'.sorts ≡ sort_store (compacted p) b.sorts
     pub represents : Represents (compacted p) (joined (header_of (compacted p)) b' pending)
 
   pub record Compacting : Type 0 where
-    pub refusal : outcome (table_view answer) ≡ reply (compact_refusal h (lengths_lent (joined h b []) w)) tt
+    pub refusal : outcome (answer_view answer) ≡ reply (compact_refusal h (lengths_lent (joined h b []) w)) tt
     pub unchanged : 0 < compact_refusal h (lengths_lent (joined h b []) w) → (b' ≡ b) × (w' ≡ w)
     pub past : SamePast (2 * h.capacity) b.keys b'.keys
     pub words_past : WordsPast h.capacity w w'
@@ -160,13 +157,13 @@ module _ (h : Header) (b : Body) (w : CompactionWords) (answer : TableAnswer) (b
         → (pending : List ℕ) (p : Plain) → Represents p (joined h b pending) → CompactedTable pending p
 
 -- *Clear*: lent keys
-module _ (h : Header) (keys : List ℕ) (answer : TableAnswer) (keys' : List ℕ) where
+module _ (h : Header) (keys : List ℕ) (answer : Result Header Refusal) (keys' : List ℕ) where
   pub record ClearedTable (rows sorts pending : List ℕ) (p : Plain) : Type 0 where
-    pub answers : table_view answer ≡ accepted (header_of (cleared p))
+    pub answers : answer_view answer ≡ accepted (header_of (cleared p))
     pub represents : Represents (cleared p) (stores (header_of (cleared p)) rows keys' sorts pending)
 
   pub record Clearing : Type 0 where
-    pub refusal : outcome (table_view answer) ≡ reply (clear_refusal h (length keys)) tt
+    pub refusal : outcome (answer_view answer) ≡ reply (clear_refusal h (length keys)) tt
     pub unchanged : 0 < clear_refusal h (length keys) → keys' ≡ keys
     pub past : SamePast (2 * h.capacity) keys keys'
     pub table : clear_refusal h (length keys) ≡ 0
@@ -177,15 +174,15 @@ module _ (h : Header) (keys : List ℕ) (answer : TableAnswer) (keys' : List ℕ
 abbrev pub of_rows : Header → List ℕ → Plain
 of_rows h rows = record { opening = opening_of h; generation = h.generation; rows = rows_in h rows; staged = []; largest = largest_view h.largest }
 
-pub record LookedUp (h : Header) (rows keys key : List ℕ) (answer : RowAnswer) : Type 0 where
-  pub refusal : outcome (row_view answer) ≡ reply (lookup_refusal h (length rows) (length keys) (length key)) tt
+pub record LookedUp (h : Header) (rows keys key : List ℕ) (answer : Result (Optional ℕ) Refusal) : Type 0 where
+  pub refusal : outcome (found_view answer) ≡ reply (lookup_refusal h (length rows) (length keys) (length key)) tt
   pub table : lookup_refusal h (length rows) (length keys) (length key) ≡ 0 → KeysSound (index_shape_of h) rows keys → KeysDiffer h rows
-      → row_view answer ≡ accepted (map (λ row. row.number) (lookup (of_rows h rows) key))
+      → found_view answer ≡ accepted (map (λ row. row.number) (lookup (of_rows h rows) key))
 
-pub record CellRead (h : Header) (rows keys key : List ℕ) (column : ℕ) (answer : CellAnswer) : Type 0 where
-  pub refusal : outcome (cell_view answer) ≡ reply (cell_refusal h (length rows) (length keys) (length key) column) tt
+pub record CellRead (h : Header) (rows keys key : List ℕ) (column : ℕ) (answer : Result (Optional ℕ) Refusal) : Type 0 where
+  pub refusal : outcome (found_view answer) ≡ reply (cell_refusal h (length rows) (length keys) (length key) column) tt
   pub table : cell_refusal h (length rows) (length keys) (length key) column ≡ 0 → KeysSound (index_shape_of h) rows keys → KeysDiffer h rows
-      → cell_view answer ≡ accepted (map (λ row. get_or row.cells column 0) (lookup (of_rows h rows) key))
+      → found_view answer ≡ accepted (map (λ row. get_or row.cells column 0) (lookup (of_rows h rows) key))
 
 -- *Fast range*: lent sort entries. "answers *none* for kind 0 and for any column but the sort column"
 unfoldable pub fast_among : ℕ → List Entry → ℕ → Constraint → Option Subset
@@ -195,24 +192,24 @@ fast_among sort es count c =
 unfoldable pub fast_subset : Header → List ℕ → Constraint → Option Subset
 fast_subset h sorts c = fast_among h.sort (entries_of h.entries sorts) h.rows c
 
-pub record RangeRead (h : Header) (sorts : List ℕ) (c : Constraint) (answer : RangeAnswer) : Type 0 where
+pub record RangeRead (h : Header) (sorts : List ℕ) (c : Constraint) (answer : Result (Optional Range) Refusal) : Type 0 where
   pub refusal : outcome (range_view answer) ≡ reply (fast_refusal h (length sorts) c) tt
   pub table : fast_refusal h (length sorts) c ≡ 0 → entries_sound (entries_of h.entries sorts) h.rows ≡ true
       → range_view answer ≡ accepted (fast_subset h sorts c)
 
 -- *Version*, *Rows since*: for any table
-pub record VersionRead (h : Header) (answer : VersionAnswer) : Type 0 where
-  pub answers : version_view answer ≡ reply (version_refusal h) (record { generation = h.generation; rows = h.rows })
+pub record VersionRead (h : Header) (answer : Result Version Refusal) : Type 0 where
+  pub answers : answer_view answer ≡ reply (version_refusal h) (record { generation = h.generation; rows = h.rows })
 
-pub record RowsSince (h : Header) (row : ℕ) (answer : RangeAnswer) : Type 0 where
+pub record RowsSince (h : Header) (row : ℕ) (answer : Result (Optional Range) Refusal) : Type 0 where
   pub answers : range_view answer ≡ reply (since_refusal h row) (some (range row h.rows))
 
 -- "Given that version, the table answers the rows since then": for any table
-pub record RowsSinceVersion (h : Header) (generation count : ℕ) (answer : RangeAnswer) : Type 0 where
+pub record RowsSinceVersion (h : Header) (generation count : ℕ) (answer : Result (Optional Range) Refusal) : Type 0 where
   pub answers : range_view answer ≡ reply (noted_refusal h generation count) (some (range count h.rows))
 
 -- the soundness check: lent all stores. It "says yes exactly for sound stores"
-pub record Checked (h : Header) (rows keys sorts pending : List ℕ) (answer : SoundAnswer) : Type 0 where
-  pub refusal : outcome (sound_view answer) ≡ reply (sound_refusal h (length rows) (length keys) (length sorts) (length pending)) tt
-  pub sound : sound_view answer ≡ accepted true → (staged : List Staged) × Sound h rows keys sorts pending staged
-  pub unsound : sound_view answer ≡ accepted false → (staged : List Staged) → Sound h rows keys sorts pending staged → ⊥
+pub record Checked (h : Header) (rows keys sorts pending : List ℕ) (answer : Result Bool Refusal) : Type 0 where
+  pub refusal : outcome (answer_view answer) ≡ reply (sound_refusal h (length rows) (length keys) (length sorts) (length pending)) tt
+  pub sound : answer_view answer ≡ accepted true → (staged : List Staged) × Sound h rows keys sorts pending staged
+  pub unsound : answer_view answer ≡ accepted false → (staged : List Staged) → Sound h rows keys sorts pending staged → ⊥

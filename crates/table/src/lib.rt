@@ -61,13 +61,6 @@ pub struct Lent {
     pub base: usize,
 }
 
-// Opening, the three stagings, compact and clear: the header after the call.
-#[derive(Clone, Copy)]
-pub enum TableAnswer {
-    Refused(u32),
-    Table(Header),
-}
-
 // The result of a merge: the header, the stop's number and the place of its insert (both 0 if it did not stop), whether a row was
 // appended, and how many rows its own compaction kept and dropped (both 0 if there was none).
 #[derive(Clone, Copy)]
@@ -81,52 +74,9 @@ pub struct Merge {
 }
 
 #[derive(Clone, Copy)]
-pub enum MergeAnswer {
-    Refused(u32),
-    Merged(Merge),
-}
-
-// Key lookup: the number of the key's live row.
-#[derive(Clone, Copy)]
-pub enum RowAnswer {
-    Refused(u32),
-    None,
-    Row(u32),
-}
-
-// One cell of the key's live row.
-#[derive(Clone, Copy)]
-pub enum CellAnswer {
-    Refused(u32),
-    None,
-    Cell(u32),
-}
-
-// Fast range and rows since.
-#[derive(Clone, Copy)]
-pub enum RangeAnswer {
-    Refused(u32),
-    None,
-    Range(u32, u32),
-}
-
-#[derive(Clone, Copy)]
 pub struct Version {
     pub generation: u32,
     pub rows: u32,
-}
-
-#[derive(Clone, Copy)]
-pub enum VersionAnswer {
-    Refused(u32),
-    Version(Version),
-}
-
-// The soundness check.
-#[derive(Clone, Copy)]
-pub enum SoundAnswer {
-    Refused(u32),
-    Sound(bool),
 }
 
 // The numbers that the key index uses.

@@ -1,6 +1,7 @@
 // The refusals of each operation, "on any numbers at all": one function for each list of checks of specs/Refusing.antt, over the
-// header and the lengths of the lent stores. Each returns `ACCEPTED` if nothing is refused.
+// header and the lengths of the lent stores. Each returns the first refusal that applies.
 ghost use Rattle.std.specs.Prelude.{◌≡◌, false};
+ghost use Rattle.refusals.specs.Refusals.{refusal_number};
 ghost use Rattle.plain_table.specs.Staged.{openable};
 ghost use Rattle.plain_table.specs.Plain.{below};
 ghost use Rattle.plain_table.specs.Refusing.{stores_short, words_short, open_refusal};
@@ -12,10 +13,7 @@ ghost use Rattle.table.specs.inner.Lent.{lengths_of};
 use super::{Header, LAST_RULE, Lent, MOST_COLUMNS};
 use constraints::Constraint;
 use key_index::MOST_ROWS;
-use refusals::{
-    ACCEPTED, AT_LAST_GENERATION, NO_SUCH_COLUMN, OLD_NOTE, OUT_OF_BOUNDS, PAST_THE_ROWS,
-    TOO_SHORT, WRONG_WIDTH,
-};
+use refusals::Refusal;
 use row_buffer::{BITMAP_WORD_BITS, LAST_BIT};
 
 pub const LAST_GENERATION: u32 = 0xffff_ffff;
@@ -133,168 +131,168 @@ pub fn is_old(h: Header, value: u32) -> bool
 }
 
 // *Open*, of a header with no rows.
-pub fn open_refusal(h: Header, l: Lent) -> u32
+pub fn check_open(h: Header, l: Lent) -> Result<(), Refusal>
     requires { (h.rows ≡ 0) × (h.dead ≡ 0) × (h.entries ≡ 0) }
-    ensures { result ≡ open_refusal (opening_of h) (lengths_of l) }
+    ensures { refusal_number result ≡ open_refusal (opening_of h) (lengths_of l) }
 {
     if is_outside(h) {
-        return OUT_OF_BOUNDS;
+        return Err(Refusal::OutOfBounds);
     }
     if !is_stores_short(h, l) {
-        return ACCEPTED;
+        return Ok(());
     }
-    TOO_SHORT
+    Err(Refusal::TooShort)
 }
 
 // The soundness check.
-pub fn sound_refusal(h: Header, l: Lent) -> u32
-    ensures { result ≡ rules.sound_refusal h l.rows l.keys l.sorts l.pending }
+pub fn check_sound(h: Header, l: Lent) -> Result<(), Refusal>
+    ensures { refusal_number result ≡ rules.sound_refusal h l.rows l.keys l.sorts l.pending }
 {
     if is_pending_outside(h, l.pending) {
-        return OUT_OF_BOUNDS;
+        return Err(Refusal::OutOfBounds);
     }
     if is_stores_short(h, l) {
-        return TOO_SHORT;
+        return Err(Refusal::TooShort);
     }
-    ACCEPTED
+    Ok(())
 }
 
 // *Merge*: the tests of the soundness check, then those of the compaction words.
-pub fn merge_refusal(h: Header, l: Lent) -> u32
-    ensures { result ≡ rules.merge_refusal h (lengths_of l) }
+pub fn check_merge(h: Header, l: Lent) -> Result<(), Refusal>
+    ensures { refusal_number result ≡ rules.merge_refusal h (lengths_of l) }
 {
-    let stores = sound_refusal(h, l);
-    if stores != ACCEPTED {
-        return stores;
-    }
+    check_sound(h, l)?;
     if is_words_short(h, l) {
-        return TOO_SHORT;
+        return Err(Refusal::TooShort);
     }
-    ACCEPTED
+    Ok(())
 }
 
 // *Compact*
-pub fn compact_refusal(h: Header, l: Lent) -> u32
-    ensures { result ≡ rules.compact_refusal h (lengths_of l) }
+pub fn check_compact(h: Header, l: Lent) -> Result<(), Refusal>
+    ensures { refusal_number result ≡ rules.compact_refusal h (lengths_of l) }
 {
     if is_outside(h) {
-        return OUT_OF_BOUNDS;
+        return Err(Refusal::OutOfBounds);
     }
     if is_stores_short(h, l) {
-        return TOO_SHORT;
+        return Err(Refusal::TooShort);
     }
     if is_words_short(h, l) {
-        return TOO_SHORT;
+        return Err(Refusal::TooShort);
     }
     if h.generation == LAST_GENERATION {
-        return AT_LAST_GENERATION;
+        return Err(Refusal::LastGeneration);
     }
-    ACCEPTED
+    Ok(())
 }
 
 // *Clear*
-pub fn clear_refusal(h: Header, keys: usize) -> u32
-    ensures { result ≡ rules.clear_refusal h keys }
+pub fn check_clear(h: Header, keys: usize) -> Result<(), Refusal>
+    ensures { refusal_number result ≡ rules.clear_refusal h keys }
 {
     if is_outside(h) {
-        return OUT_OF_BOUNDS;
+        return Err(Refusal::OutOfBounds);
     }
     if is_pairs_short(h, keys) {
-        return TOO_SHORT;
+        return Err(Refusal::TooShort);
     }
     if h.generation != LAST_GENERATION {
-        return ACCEPTED;
+        return Ok(());
     }
     if h.rows == 0 {
-        return ACCEPTED;
+        return Ok(());
     }
-    AT_LAST_GENERATION
+    Err(Refusal::LastGeneration)
 }
 
 // *Key lookup*
-pub fn lookup_refusal(h: Header, rows: usize, keys: usize, cells: usize) -> u32
-    ensures { result ≡ rules.lookup_refusal h rows keys cells }
+pub fn check_lookup(h: Header, rows: usize, keys: usize, cells: usize) -> Result<(), Refusal>
+    ensures { refusal_number result ≡ rules.lookup_refusal h rows keys cells }
 {
     if is_outside(h) {
-        return OUT_OF_BOUNDS;
+        return Err(Refusal::OutOfBounds);
     }
     if is_rows_short(h, rows) {
-        return TOO_SHORT;
+        return Err(Refusal::TooShort);
     }
     if is_pairs_short(h, keys) {
-        return TOO_SHORT;
+        return Err(Refusal::TooShort);
     }
     if cells != h.keys as usize {
-        return WRONG_WIDTH;
+        return Err(Refusal::WrongWidth);
     }
-    ACCEPTED
+    Ok(())
 }
 
 // *One cell*
-pub fn cell_refusal(h: Header, rows: usize, keys: usize, cells: usize, column: u32) -> u32
-    ensures { result ≡ rules.cell_refusal h rows keys cells column }
+pub fn check_cell(
+    h: Header,
+    rows: usize,
+    keys: usize,
+    cells: usize,
+    column: u32,
+) -> Result<(), Refusal>
+    ensures { refusal_number result ≡ rules.cell_refusal h rows keys cells column }
 {
-    let lookup = lookup_refusal(h, rows, keys, cells);
-    if lookup != ACCEPTED {
-        return lookup;
-    }
+    check_lookup(h, rows, keys, cells)?;
     if h.columns <= column {
-        return NO_SUCH_COLUMN;
+        return Err(Refusal::NoSuchColumn);
     }
-    ACCEPTED
+    Ok(())
 }
 
 // *Fast range*
-pub fn fast_refusal(h: Header, sorts: usize, c: Constraint) -> u32
-    ensures { result ≡ rules.fast_refusal h sorts c }
+pub fn check_fast(h: Header, sorts: usize, c: Constraint) -> Result<(), Refusal>
+    ensures { refusal_number result ≡ rules.fast_refusal h sorts c }
 {
     if is_outside(h) {
-        return OUT_OF_BOUNDS;
+        return Err(Refusal::OutOfBounds);
     }
     if is_pairs_short(h, sorts) {
-        return TOO_SHORT;
+        return Err(Refusal::TooShort);
     }
     if !constraints::known(c, h.columns) {
-        return NO_SUCH_COLUMN;
+        return Err(Refusal::NoSuchColumn);
     }
-    ACCEPTED
+    Ok(())
 }
 
 // *Version*
-pub fn version_refusal(h: Header) -> u32
-    ensures { result ≡ rules.version_refusal h }
+pub fn check_version(h: Header) -> Result<(), Refusal>
+    ensures { refusal_number result ≡ rules.version_refusal h }
 {
     if !is_outside(h) {
-        return ACCEPTED;
+        return Ok(());
     }
-    OUT_OF_BOUNDS
+    Err(Refusal::OutOfBounds)
 }
 
 // *The rows since a noted version*
-pub fn noted_refusal(h: Header, generation: u32, count: u32) -> u32
-    ensures { result ≡ rules.noted_refusal h generation count }
+pub fn check_noted(h: Header, generation: u32, count: u32) -> Result<(), Refusal>
+    ensures { refusal_number result ≡ rules.noted_refusal h generation count }
 {
     if is_outside(h) {
-        return OUT_OF_BOUNDS;
+        return Err(Refusal::OutOfBounds);
     }
     if generation != h.generation {
-        return OLD_NOTE;
+        return Err(Refusal::OldNote);
     }
     if h.rows < count {
-        return OLD_NOTE;
+        return Err(Refusal::OldNote);
     }
-    ACCEPTED
+    Ok(())
 }
 
 // *Rows since*
-pub fn since_refusal(h: Header, row: u32) -> u32
-    ensures { result ≡ rules.since_refusal h row }
+pub fn check_since(h: Header, row: u32) -> Result<(), Refusal>
+    ensures { refusal_number result ≡ rules.since_refusal h row }
 {
     if is_outside(h) {
-        return OUT_OF_BOUNDS;
+        return Err(Refusal::OutOfBounds);
     }
     if h.rows < row {
-        return PAST_THE_ROWS;
+        return Err(Refusal::PastTheRows);
     }
-    ACCEPTED
+    Ok(())
 }

@@ -1,15 +1,17 @@
 -- The steps of checking.rt, by the laws of specs/Laws/Checks.antt: one law for each way that a function answers, and what
 -- holds at the head of the loop over the pending words. Assumes nothing.
-use Rattle.table_check.proofs.Prelude.{ℕ, ◌+◌, ◌-◌, ◌*◌, ◌≤◌, ◌<◌, ◌≡◌, refl, sym, ap, ◌∙◌, Bool, true, false, not, false≢true, List, [], ◌∷◌, add-zero, ℕ_discrete, arith, leb, length, take, drop, get_or, length-drop, get_or-drop, drop-drop, le-leb, leb-true, outcome_refused, count_append, count_le, length_rows_of, rows_of_snoc, is_live, live_first, IndexShape, entries_of, entries_sound, Decides, decides_yes, decides_no, cells_sound, cells_live, cells_of, last_entries_of, last_none, sound_climb, last_all, Header, sound_refusal, index_shape_of, Checked, parts_sound, sound_rows, sound_index, sound_whole, begins_words, begins_hash, words_begin, holds_cons, holds_head, holds_tail, holds_none, holds_some, holds_pending, pending_holds, begins_kind}
+use Rattle.refusals.specs.Laws.Numbers.{err_outcome, ok_outcome}
+use Rattle.refusals.specs.declared.Refusal.{Refusal}
+use Rattle.std.specs.Prelude.{Ok, Err, Option as Optional, None, Some, MatchOption}
+use Rattle.table_check.proofs.Prelude.{ℕ, ◌+◌, ◌-◌, ◌*◌, ◌≤◌, ◌<◌, ◌≡◌, refl, sym, ap, ◌∙◌, Bool, true, false, not, false≢true, List, [], ◌∷◌, add-zero, ℕ_discrete, arith, leb, length, take, drop, get_or, length-drop, get_or-drop, drop-drop, le-leb, leb-true, count_append, count_le, length_rows_of, rows_of_snoc, is_live, live_first, IndexShape, entries_of, entries_sound, Decides, decides_yes, decides_no, cells_sound, cells_live, cells_of, last_entries_of, last_none, sound_climb, last_all, Header, sound_refusal, index_shape_of, Checked, parts_sound, sound_rows, sound_index, sound_whole, begins_words, begins_hash, words_begin, holds_cons, holds_head, holds_tail, holds_none, holds_some, holds_pending, pending_holds, begins_kind}
 use mathlib.Core.Option.{Option, none as no_value, some as a-value}
-use Rattle.refusals.specs.Refusals.{reply, outcome}
+use Rattle.refusals.specs.Refusals.{number}
 use Rattle.lists.specs.Lists.{all, count, row_at, rows_of}
 use Rattle.cells.specs.Cells.{is_dead, compact_hash, key_hash}
 use Rattle.plain_table.specs.Proper.{at_most}
 use Rattle.plain_table.specs.Staged.{Opening, Staged, words_of}
-use Rattle.std.specs.Prelude.{Option as StdOption, None, Some, MatchOption}
-use Rattle.table.specs.declared.SoundAnswer.TheVariants.{Refused, Sound as IsSound}
-use Rattle.table.specs.Numbers.{opening_of, largest_view, sound_view}
+use Rattle.refusals.specs.Refusals.{answer_view}
+use Rattle.table.specs.Numbers.{opening_of, largest_view}
 use Rattle.key_check.specs.inner.Check.{KeyStoreSound}
 use Rattle.table_check.specs.inner.Checks.{dead_rows, last_kept, RowsSound, key_place, key_words, Begins, RecordRead, HoldsFrom, PendingWhole, SoundStores}
 use Rattle.table.specs.inner.Records.{kind_words}
@@ -58,7 +60,7 @@ module _ (h : Header) (sorts : List ℕ) where
       let e : 2 * h.entries - 2 ≡ 2 * (h.entries - 1) = omega arith in
       rw e (last_entries_of (λ v. at_most v (largest_view h.largest)) h.entries sorts (omega arith))
 
-  compared : (largest : StdOption ℕ) (last : ℕ) (answer : Bool) (P : ℕ → Type 0) → MatchOption largest (answer ≡ false) P
+  compared : (largest : Optional ℕ) (last : ℕ) (answer : Bool) (P : ℕ → Type 0) → MatchOption largest (answer ≡ false) P
       → ((value : ℕ) → P value → answer ≡ leb last value) → answer ≡ at_most last (largest_view largest)
   unfolding at_most largest_view
   compared None last answer P e f = e
@@ -218,21 +220,21 @@ module _ (h : Header) (rows keys sorts pending : List ℕ) where
         }
 
   -- a refusal, and an answer
-  pub checked_refused : (n : ℕ) → n ≡ sound_refusal h (length rows) (length keys) (length sorts) (length pending) → (n ≡ 0 → ⊥) → Checked h rows keys sorts pending (Refused n)
-  unfolding sound_view outcome
-  checked_refused n e some =
+  pub checked_refused : (r : Refusal) → number r ≡ sound_refusal h (length rows) (length keys) (length sorts) (length pending) → Checked h rows keys sorts pending (Err r)
+  unfolding answer_view
+  checked_refused r e =
       record {
-        refusal = outcome_refused (sound_view (Refused n)) _ n refl e some;
+        refusal = err_outcome _ r e;
         sound = λ q. absurd (let z : ◌≡◌ {A = ℕ} 0 1 = cc in omega arith);
         unsound = λ q. absurd (let z : ◌≡◌ {A = ℕ} 0 1 = cc in omega arith);
       }
 
-  pub checked_answered : (n : ℕ) → n ≡ sound_refusal h (length rows) (length keys) (length sorts) (length pending) → n ≡ 0 → (r : Bool)
-      → Decides (SoundStores h rows keys sorts pending) r → Checked h rows keys sorts pending (IsSound r)
-  unfolding sound_view outcome reply
-  checked_answered n e z r w =
+  pub checked_answered : sound_refusal h (length rows) (length keys) (length sorts) (length pending) ≡ 0 → (r : Bool)
+      → Decides (SoundStores h rows keys sorts pending) r → Checked h rows keys sorts pending (Ok r)
+  unfolding answer_view
+  checked_answered accepts r w =
       record {
-        refusal = rw (sym e ∙ z);
+        refusal = ok_outcome r accepts;
         sound = λ q. let k : r ≡ true = cc in w.yes k;
         unsound = λ q staged s. let k : r ≡ false = cc in w.no k (staged, s);
       }

@@ -11,11 +11,9 @@ ghost use Rattle.table.specs.Refusing.{sound_refusal};
 ghost use Rattle.table.specs.Outcomes.{Checked};
 ghost use Rattle.table_check.specs.inner.Checks.{dead_rows, last_kept, RowsSound, PendingIn, key_place, RecordRead, PendingWhole, SoundStores};
 
-use refusals::ACCEPTED;
+use refusals::Refusal;
 use row_buffer::row_start;
-use table::{
-    HASH_AT, Header, Lent, RECORD_HEAD, REMOVE_ROW, ROW_RECORD_HEAD, SoundAnswer, refusing,
-};
+use table::{HASH_AT, Header, Lent, RECORD_HEAD, REMOVE_ROW, ROW_RECORD_HEAD, refusing};
 
 // The number of dead rows.
 fn dead_rows(h: Header, rows: &[u32]) -> u32
@@ -100,6 +98,7 @@ pub fn pending_whole(h: Header, pending: &[u32]) -> bool
     ensures { Decides (PendingWhole h pending.now) result }
 {
     let mut at: u32 = 0;
+    // No `for`: each turn goes on by the words of a record.
     while at < h.pending {
         let words = record_words(h, pending, at);
         if words == 0 {
@@ -131,7 +130,7 @@ pub fn is_sound(
     keys: &[u32],
     sorts: &[u32],
     pending: &[u32],
-) -> SoundAnswer
+) -> Result<bool, Refusal>
     ensures { Checked h rows.now keys.now sorts.now pending.now result }
 {
     let lent = Lent {
@@ -142,9 +141,6 @@ pub fn is_sound(
         live: 0,
         base: 0,
     };
-    let refused = refusing::sound_refusal(h, lent);
-    if refused != ACCEPTED {
-        return SoundAnswer::Refused(refused);
-    }
-    SoundAnswer::Sound(stores_sound(h, rows, keys, sorts, pending))
+    refusing::check_sound(h, lent)?;
+    Ok(stores_sound(h, rows, keys, sorts, pending))
 }

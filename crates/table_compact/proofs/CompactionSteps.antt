@@ -1,12 +1,14 @@
 -- The steps of a compaction: a row kept, the turns of the loops over the rows, and what the entry point answers. Assumes nothing.
+use Rattle.refusals.specs.Laws.Numbers.{err_outcome, ok_replies, ok_outcome, number_some}
+use Rattle.refusals.specs.declared.Refusal.{Refusal}
+use Rattle.std.specs.Prelude.{Ok, Err}
 use Rattle.table_compact.proofs.Prelude.{ℕ, ◌+◌, ◌-◌, ◌*◌, ◌/◌, ◌%◌, ◌≤◌, ◌<◌, min, ◌≡◌, refl, sym, ap, ap₂, ◌∙◌, Bool, true, false, List, [], ◌∷◌, ◌++◌, add-zero, add-mul, mul-le-mul_right, arith, bit_and, count_trailing_zeros, length, take, drop, get_or, set, length-take, length-drop, length-set, length-append, drop-set-lt, map_front, splice_nil, get_d_splice_in, length_filter, is_live, live_first, Append, push, push_few, bitmap_word_same, onward, onward_all, Next, next_bit, no_more, IndexShape, slots, Fits, rows_in_lem, Inside, row_inside, fits_stores, size_class_most, fits_fewer, Rebuilt, renumbered, Ranked, below_number, live_among, outcome_refused, outcome_accepted, Header, KeptCounts, Lengths, compact_refusal, index_shape_of, full_index_shape_of, body, compaction_words, SamePast, lengths, Compacting, inside_full_shape, full_shape_fits, compact_accepted, Lendable, KeysUpdated, next_generation, Compaction, length_live, live_one, live_skip, later_row, close_one, entries_one, rebuild_one, Words, words_begin, words_next, words_number, compaction, none_compaction}
 use Rattle.lists.specs.Lists.{splice, filter, row_at, rows_of, flatten}
 use Rattle.cells.specs.Cells.{is_dead}
 use Rattle.sort_entries.specs.Entries.{Entry, entry_words, rebuilt_from, rebuilt}
 use Rattle.row_buffer.specs.Ranks.{live_at, live_word, bitmap_word, new_number}
 use Rattle.bitmap.specs.inner.Marking.{Spaced, other_at}
-use Rattle.table.specs.declared.TableAnswer.TheVariants.{Refused as TableRefused, Table}
-use Rattle.table.specs.Numbers.{table_view}
+use Rattle.refusals.specs.Refusals.{accepted, number, answer_view}
 use Rattle.table_compact.specs.inner.ClosingUp.{Movable, Closable, Keepable, RowKept, Closing, block_word, Block, BlockKept, Closed, live_stored, entries_for, closed_header}
 
 -- ---- a row is kept
@@ -366,28 +368,27 @@ module _ (h n : Header) {rows keys live base keys' : List ℕ} (t : IndexShape) 
 -- ---- the entry point
 
 -- there is a next generation
-pub compact_next : (h : Header) (l : Lengths) (n : ℕ) → n ≡ compact_refusal h l → n ≡ 0 → h.generation ≤ 4294967295 → h.generation < 4294967295
-compact_next h l n e z g = omega (arith, (compact_accepted h l (sym e ∙ z)).not_last)
+pub compact_next : (h : Header) (l : Lengths) → compact_refusal h l ≡ 0 → h.generation ≤ 4294967295 → h.generation < 4294967295
+compact_next h l accepts g = omega (arith, (compact_accepted h l accepts).not_last)
 
 module _ (h : Header) (rows keys sorts live base : List ℕ) where
   -- a refused compaction
-  pub compact_refused : (n : ℕ) → n ≡ compact_refusal h (lengths rows keys sorts [] live base) → (n ≡ 0 → ⊥)
-      → Compacting h (body rows keys sorts) (compaction_words live base) (TableRefused n) (body rows keys sorts) (compaction_words live base)
-  unfolding table_view
-  compact_refused n e some =
+  pub compact_refused : (r : Refusal) → number r ≡ compact_refusal h (lengths rows keys sorts [] live base)
+      → Compacting h (body rows keys sorts) (compaction_words live base) (Err r) (body rows keys sorts) (compaction_words live base)
+  compact_refused r e =
       record {
-        refusal = outcome_refused (table_view (TableRefused n)) _ n refl e some;
+        refusal = err_outcome _ r e;
         unchanged = λ k. (refl, refl);
         past = refl;
         words_past = (refl, refl);
-        table = λ z. absurd (some (e ∙ z));
+        table = λ z. absurd (number_some r (e ∙ z));
       }
 
-  module _ (n : ℕ) (number : n ≡ compact_refusal h (lengths rows keys sorts [] live base)) (taken : n ≡ 0) where
+  module _ (accepts : compact_refusal h (lengths rows keys sorts [] live base) ≡ 0) where
     -- what it requires
     pub compact_lendable : h.generation ≤ 4294967295 → Lendable h rows keys sorts live base × (h.generation < 4294967295)
     compact_lendable g =
-        let k = compact_accepted h (lengths rows keys sorts [] live base) (sym number ∙ taken) in (
+        let k = compact_accepted h (lengths rows keys sorts [] live base) (accepts) in (
           record {
             fits = inside_full_shape h rows keys k.inside k.long.rows_long k.long.keys_long;
             sort_column = k.inside.bounds.sort_column;
@@ -395,29 +396,28 @@ module _ (h : Header) (rows keys sorts live base : List ℕ) where
             live_long = k.words.live_long;
             base_long = k.words.base_long;
           },
-          compact_next h _ n number taken g,
+          compact_next h _ accepts g,
         )
 
     -- without dead rows
     pub compact_none : h.dead ≡ 0 → h.generation ≤ 4294967295 → (h' : Header) → h' ≡ next_generation h
         → Compaction h rows keys sorts live base h' rows keys sorts live base
-    compact_none none g h' e = rw e (none_compaction h rows keys sorts none (compact_next h _ n number taken g) live base)
+    compact_none none g h' e = rw e (none_compaction h rows keys sorts none (compact_next h _ accepts g) live base)
 
     -- it is done
     pub compact_done : (h' : Header) (rows' keys' sorts' live' base' : List ℕ) → Compaction h rows keys sorts live base h' rows' keys' sorts' live' base'
-        → Compacting h (body rows keys sorts) (compaction_words live base) (Table h') (body rows' keys' sorts') (compaction_words live' base')
-    unfolding table_view
+        → Compacting h (body rows keys sorts) (compaction_words live base) (Ok h') (body rows' keys' sorts') (compaction_words live' base')
+    unfolding answer_view
     compact_done h' rows' keys' sorts' live' base' c =
-        let e = sym number ∙ taken in
         record {
-          refusal = outcome_accepted (table_view (Table h')) _ h' refl e;
-          unchanged = λ k. absurd (omega (arith, e));
+          refusal = ok_outcome h' accepts;
+          unchanged = λ k. absurd (omega (arith, accepts));
           past = c.past;
           words_past = c.words_past;
           table = λ z pending p r.
               let k = c.table pending p r in
               record {
-                answers = ap (λ (x : Header). table_view (Table x)) k.header;
+                answers = ap accepted k.header;
                 rows_after = k.rows_after;
                 sorts_after = k.sorts_after;
                 represents = rw k.header at k.represents;

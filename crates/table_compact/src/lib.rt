@@ -12,10 +12,10 @@ ghost use Rattle.table.specs.Outcomes.{body, compaction_words, Compacting};
 ghost use Rattle.table_compact.specs.inner.Compaction.{Lendable, KeysUpdated, next_generation, Compaction};
 ghost use Rattle.table_compact.specs.inner.ClosingUp.{Keepable, RowKept, Block, BlockKept, Closable, Closed};
 
-use refusals::ACCEPTED;
+use refusals::Refusal;
 use row_buffer::{BITMAP_WORD_BITS, row_start};
-use table::refusing::compact_refusal;
-use table::{Header, Lent, TableAnswer, index_shape};
+use table::refusing::check_compact;
+use table::{Header, Lent, index_shape};
 
 // The numbers of rows and of sort entries that a compaction has kept so far.
 #[derive(Clone, Copy)]
@@ -154,7 +154,7 @@ pub fn compact(
     sorts: &mut [u32],
     live: &mut [u64],
     base: &mut [u32],
-) -> TableAnswer
+) -> Result<Header, Refusal>
     ensures { Compacting h (body rows.old keys.old sorts.old) (compaction_words live.old base.old) result (body rows.new keys.new sorts.new) (compaction_words live.new base.new) }
 {
     let l = Lent {
@@ -165,12 +165,9 @@ pub fn compact(
         live: live.len(),
         base: base.len(),
     };
-    let refusal = compact_refusal(h, l);
-    if refusal != ACCEPTED {
-        return TableAnswer::Refused(refusal);
-    }
+    check_compact(h, l)?;
     if h.dead == 0 {
-        return TableAnswer::Table(next_generation(h));
+        return Ok(next_generation(h));
     }
-    TableAnswer::Table(compact_rows(h, rows, keys, sorts, live, base))
+    Ok(compact_rows(h, rows, keys, sorts, live, base))
 }

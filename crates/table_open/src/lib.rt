@@ -5,9 +5,9 @@ ghost use Rattle.std.specs.Prelude.{◌≡◌, true};
 ghost use Rattle.table.specs.Refusing.{outside};
 ghost use Rattle.table.specs.Outcomes.{body, Opened, Clearing};
 
-use refusals::ACCEPTED;
-use table::refusing::{clear_refusal, open_refusal};
-use table::{Header, Lent, TableAnswer};
+use refusals::Refusal;
+use table::refusing::{check_clear, check_open};
+use table::{Header, Lent};
 
 // The header before the first opening. Every operation refuses it.
 pub fn no_table() -> Header
@@ -40,7 +40,7 @@ pub fn open_table(
     keys: &mut [u32],
     sorts: &[u32],
     pending: &[u32],
-) -> TableAnswer
+) -> Result<Header, Refusal>
     ensures { Opened (record { columns = columns; keys = key_columns; sort = sort; rule = rule; capacity = capacity }) generation (body rows.now keys.old sorts.now) pending.now result keys.new }
 {
     let h = Header {
@@ -64,26 +64,20 @@ pub fn open_table(
         live: 0,
         base: 0,
     };
-    let refusal = open_refusal(h, l);
-    if refusal != ACCEPTED {
-        return TableAnswer::Refused(refusal);
-    }
+    check_open(h, l)?;
     key_index::empty(key_index::size_class_for(capacity, 0), keys);
-    TableAnswer::Table(h)
+    Ok(h)
 }
 
 // Empties pending and, if there are rows, the table.
-pub fn clear(h: Header, keys: &mut [u32]) -> TableAnswer
+pub fn clear(h: Header, keys: &mut [u32]) -> Result<Header, Refusal>
     ensures { Clearing h keys.old result keys.new }
 {
-    let refusal = clear_refusal(h, keys.len());
-    if refusal != ACCEPTED {
-        return TableAnswer::Refused(refusal);
-    }
+    check_clear(h, keys.len())?;
     let mut n = h;
     n.pending = 0;
     if h.rows == 0 {
-        return TableAnswer::Table(n);
+        return Ok(n);
     }
     key_index::empty(key_index::size_class_for(h.capacity, 0), keys);
     n.rows = 0;
@@ -91,5 +85,5 @@ pub fn clear(h: Header, keys: &mut [u32]) -> TableAnswer
     n.entries = 0;
     n.generation = h.generation + 1;
     n.largest = None;
-    TableAnswer::Table(n)
+    Ok(n)
 }

@@ -1,8 +1,10 @@
 -- The results of each function of this crate, and what its calls require. Assumes nothing.
+use Rattle.refusals.specs.Laws.Numbers.{err_replies, none_outcome, ok_replies, number_some}
+use Rattle.refusals.specs.declared.Refusal.{Refusal}
+use Rattle.std.specs.Prelude.{Ok, Err, Some, None, Option as Optional}
 use Prim.Native.Nat.{ℕ, ◌+◌, ◌*◌, ◌≤◌, ◌<◌}
-use mathlib.Core.Path.{◌≡◌, refl, sym, ◌∙◌}
+use mathlib.Core.Path.{◌≡◌, refl, ◌∙◌}
 use mathlib.Core.Option.{none, some as one}
-use Rattle.std.specs.Prelude.{Option, Some, None}
 use mathlib.Core.List.{List}
 use native.Mathlib.Nat.{mul-le-mul}
 use native.Mathlib.Omega.{arith}
@@ -22,11 +24,8 @@ use Rattle.key_index.specs.Slots.{KeysSound}
 use Rattle.key_index.specs.inner.Index.{Fits, FoundIs}
 use Rattle.plain_table.specs.Plain.{lookup}
 use Rattle.table.specs.declared.Header.{Header}
-use Rattle.table.specs.declared.RowAnswer.TheVariants.{Refused as RowRefused, None as NoRow, Row}
-use Rattle.table.specs.declared.CellAnswer.TheVariants.{Refused as CellRefused, None as NoCell, Cell}
-use Rattle.table.specs.declared.RangeAnswer.TheVariants.{Refused as RangeRefused, None as NoRange, Range}
-use Rattle.table.specs.declared.VersionAnswer.TheVariants.{Refused as VersionRefused, Version as Versioned}
-use Rattle.table.specs.Numbers.{row_view, cell_view, range_view, version_view}
+use Rattle.refusals.specs.Refusals.{found_view, number}
+use Rattle.table.specs.Numbers.{range_view}
 use Rattle.table.specs.Refusing.{lookup_refusal, cell_refusal, fast_refusal, version_refusal, since_refusal, noted_refusal}
 use Rattle.table.specs.Sound.{index_shape_of, KeysDiffer}
 use Rattle.table.specs.Outcomes.{of_rows, LookedUp, CellRead, fast_subset, fast_among, RangeRead, VersionRead, RowsSince, RowsSinceVersion}
@@ -46,23 +45,19 @@ module _ (h : Header) (rows keys key : List ℕ) where
   lookup_fits t e a = rw e (inside_fits h rows keys a.inside a.rows_long a.keys_long, a.key_width)
 
   -- what the lookup by hash requires
-  pub lookup_pre : (t : IndexShape) (n : ℕ) → t ≡ index_shape_of h → n ≡ lookup_refusal h (length rows) (length keys) (length key) → n ≡ 0 → Fits t rows keys × (length key ≡ t.keys)
-  lookup_pre t n e number zero_is = lookup_fits t e (lookup_accepted h _ _ _ (sym number ∙ zero_is))
+  pub lookup_pre : (t : IndexShape) → t ≡ index_shape_of h → lookup_refusal h (length rows) (length keys) (length key) ≡ 0 → Fits t rows keys × (length key ≡ t.keys)
+  lookup_pre t e accepts = lookup_fits t e (lookup_accepted h _ _ _ accepts)
 
-  pub cell_pre : (t : IndexShape) (n column : ℕ) → t ≡ index_shape_of h → n ≡ cell_refusal h (length rows) (length keys) (length key) column → n ≡ 0 → Fits t rows keys × (length key ≡ t.keys)
-  cell_pre t n column e number zero_is = lookup_fits t e (cell_accepted h _ _ _ column (sym number ∙ zero_is)).lookable
+  pub cell_pre : (t : IndexShape) (column : ℕ) → t ≡ index_shape_of h → cell_refusal h (length rows) (length keys) (length key) column ≡ 0 → Fits t rows keys × (length key ≡ t.keys)
+  cell_pre t column e accepts = lookup_fits t e (cell_accepted h _ _ _ column accepts).lookable
 
-  pub row_refused : (n : ℕ) → n ≡ lookup_refusal h (length rows) (length keys) (length key) → (n ≡ 0 → ⊥) → LookedUp h rows keys key (RowRefused n)
-  unfolding row_view
-  row_refused n number some =
-      record { refusal = outcome_refused _ _ n refl number some; table = λ accepts. absurd (some (number ∙ accepts)) }
+  pub row_refused : (r : Refusal) → number r ≡ lookup_refusal h (length rows) (length keys) (length key) → LookedUp h rows keys key (Err r)
+  row_refused r e = record { refusal = none_outcome _ r e; table = λ accepts. absurd (number_some r (e ∙ accepts)) }
 
-  pub cell_refused : (n column : ℕ) → n ≡ cell_refusal h (length rows) (length keys) (length key) column → (n ≡ 0 → ⊥) → CellRead h rows keys key column (CellRefused n)
-  unfolding cell_view
-  cell_refused n column number some =
-      record { refusal = outcome_refused _ _ n refl number some; table = λ accepts. absurd (some (number ∙ accepts)) }
+  pub cell_refused : (r : Refusal) (column : ℕ) → number r ≡ cell_refusal h (length rows) (length keys) (length key) column → CellRead h rows keys key column (Err r)
+  cell_refused r column e = record { refusal = none_outcome _ r e; table = λ accepts. absurd (number_some r (e ∙ accepts)) }
 
-  module _ (t : IndexShape) (hash : ℕ) (found : Option Hit) (e : t ≡ index_shape_of h) (hashed : hash ≡ compact_hash (key_hash key)) (f : FoundIs t rows keys key hash found) where
+  module _ (t : IndexShape) (hash : ℕ) (found : Optional Hit) (e : t ≡ index_shape_of h) (hashed : hash ≡ compact_hash (key_hash key)) (f : FoundIs t rows keys key hash found) where
     found_is : FoundIs (index_shape_of h) rows keys key hash found
     found_is = rw e at f
 
@@ -75,32 +70,32 @@ module _ (h : Header) (rows keys key : List ℕ) where
           let a = found_is.at hashed sound hit q in
           row_read h rows key differ hit.row a.live a.key_is
 
-    pub row_none : (n : ℕ) → n ≡ lookup_refusal h (length rows) (length keys) (length key) → n ≡ 0 → found ≡ None → LookedUp h rows keys key NoRow
-    unfolding row_view
-    row_none n number zero_is q =
+    pub row_none : lookup_refusal h (length rows) (length keys) (length key) ≡ 0 → found ≡ None → LookedUp h rows keys key (Ok None)
+    unfolding found_view
+    row_none accepts q =
         record {
-          refusal = outcome_accepted _ _ none refl (sym number ∙ zero_is);
-          table = λ accepts sound differ. rw (none_found sound differ q);
+          refusal = outcome_accepted _ _ none refl accepts;
+          table = λ _ sound differ. rw (none_found sound differ q);
         }
 
-    pub row_some : (n : ℕ) (hit : Hit) → n ≡ lookup_refusal h (length rows) (length keys) (length key) → n ≡ 0 → found ≡ Some hit → LookedUp h rows keys key (Row hit.row)
-    unfolding row_view
-    row_some n hit number zero_is q =
+    pub row_some : (hit : Hit) → lookup_refusal h (length rows) (length keys) (length key) ≡ 0 → found ≡ Some hit → LookedUp h rows keys key (Ok (Some hit.row))
+    unfolding found_view
+    row_some hit accepts q =
         record {
-          refusal = outcome_accepted _ _ (one hit.row) refl (sym number ∙ zero_is);
-          table = λ accepts sound differ. rw (row_found sound differ hit q);
+          refusal = outcome_accepted _ _ (one hit.row) refl accepts;
+          table = λ _ sound differ. rw (row_found sound differ hit q);
         }
 
-    module _ (n column : ℕ) (number : n ≡ cell_refusal h (length rows) (length keys) (length key) column) (zero_is : n ≡ 0) where
+    module _ (column : ℕ) (accepts : cell_refusal h (length rows) (length keys) (length key) column ≡ 0) where
       readable : Readable h (length rows) (length keys) (length key) column
-      readable = cell_accepted h _ _ _ column (sym number ∙ zero_is)
+      readable = cell_accepted h _ _ _ column accepts
 
-      pub cell_none : found ≡ None → CellRead h rows keys key column NoCell
-      unfolding cell_view
+      pub cell_none : found ≡ None → CellRead h rows keys key column (Ok None)
+      unfolding found_view
       cell_none q =
           record {
-            refusal = outcome_accepted _ _ none refl (sym number ∙ zero_is);
-            table = λ accepts sound differ. rw (none_found sound differ q);
+            refusal = outcome_accepted _ _ none refl accepts;
+            table = λ _ sound differ. rw (none_found sound differ q);
           }
 
       pub cell_in : (hit : Hit) → found ≡ Some hit → CellIn h rows hit.row column
@@ -116,77 +111,75 @@ module _ (h : Header) (rows keys key : List ℕ) where
             inside = omega (arith, a.column_there, a.lookable.rows_long);
           }
 
-      pub cell_found : (hit : Hit) → found ≡ Some hit → CellRead h rows keys key column (Cell (get_or rows (hit.row * h.columns + column) 0))
-      unfolding cell_view
+      pub cell_found : (hit : Hit) → found ≡ Some hit → CellRead h rows keys key column (Ok (Some (get_or rows (hit.row * h.columns + column) 0)))
+      unfolding found_view
       cell_found hit q =
           record {
-            refusal = outcome_accepted _ _ (one _) refl (sym number ∙ zero_is);
-            table = λ accepts sound differ. rw (row_found sound differ hit q, get_d_row_at h.columns hit.row rows column 0 readable.column_there);
+            refusal = outcome_accepted _ _ (one _) refl accepts;
+            table = λ _ sound differ. rw (row_found sound differ hit q, get_d_row_at h.columns hit.row rows column 0 readable.column_there);
           }
 
 -- ---- *Fast range*
 
-module _ (h : Header) (sorts : List ℕ) (c : Constraint) (n : ℕ) (number : n ≡ fast_refusal h (length sorts) c) where
-  pub range_refused : (n ≡ 0 → ⊥) → RangeRead h sorts c (RangeRefused n)
+module _ (h : Header) (sorts : List ℕ) (c : Constraint) where
+  pub range_refused : (r : Refusal) → number r ≡ fast_refusal h (length sorts) c → RangeRead h sorts c (Err r)
   unfolding range_view
-  range_refused some =
-      record { refusal = outcome_refused _ _ n refl number some; table = λ accepts. absurd (some (number ∙ accepts)) }
+  range_refused r e =
+      record { refusal = outcome_refused _ _ (number r) refl e (number_some r); table = λ accepts. absurd (number_some r (e ∙ accepts)) }
 
-  module _ (zero_is : n ≡ 0) where
+  module _ (accepts : fast_refusal h (length sorts) c ≡ 0) where
     -- what the search requires
     pub range_pre : EntriesFit sorts h.entries
     range_pre =
-        let a = fast_accepted h (length sorts) c (sym number ∙ zero_is) in
+        let a = fast_accepted h (length sorts) c accepts in
         let i = a.inside in
         record {
           few = omega (arith, i.entries_fit, i.rows_fit, i.bounds.capacity_few);
           words = omega (arith, i.entries_fit, i.rows_fit, a.sorts_long);
         }
 
-    pub range_columns : c.kind ≡ 0 → RangeRead h sorts c NoRange
+    pub range_columns : c.kind ≡ 0 → RangeRead h sorts c (Ok None)
     unfolding range_view fast_subset fast_among
     range_columns kind =
-        record { refusal = outcome_accepted _ _ none refl (sym number ∙ zero_is); table = λ accepts sound. rw (eq-eqb _ _ kind) }
+        record { refusal = outcome_accepted _ _ none refl accepts; table = λ _ sound. rw (eq-eqb _ _ kind) }
 
-    pub range_other : (c.kind ≡ 0 → ⊥) → (c.column ≡ h.sort → ⊥) → RangeRead h sorts c NoRange
+    pub range_other : (c.kind ≡ 0 → ⊥) → (c.column ≡ h.sort → ⊥) → RangeRead h sorts c (Ok None)
     unfolding range_view fast_subset fast_among
     range_other kind column =
         record {
-          refusal = outcome_accepted _ _ none refl (sym number ∙ zero_is);
-          table = λ accepts sound. rw (ne_eqb _ _ kind, ne_eqb _ _ column);
+          refusal = outcome_accepted _ _ none refl accepts;
+          table = λ _ sound. rw (ne_eqb _ _ kind, ne_eqb _ _ column);
         }
 
-    pub range_some : (c.kind ≡ 0 → ⊥) → c.column ≡ h.sort → (r : Rows) → Ranged sorts h.entries h.rows c.kind c.value r → RangeRead h sorts c (Range r.start r.end)
+    pub range_some : (c.kind ≡ 0 → ⊥) → c.column ≡ h.sort → (r : Rows) → Ranged sorts h.entries h.rows c.kind c.value r → RangeRead h sorts c (Ok (Some r))
     unfolding range_view fast_subset fast_among
     range_some kind column r ranged =
         record {
-          refusal = outcome_accepted _ _ (one (range r.start r.end)) refl (sym number ∙ zero_is);
-          table = λ accepts sound. rw (ne_eqb _ _ kind, eq-eqb _ _ column, ranged.is sound);
+          refusal = outcome_accepted _ _ (one (range r.start r.end)) refl accepts;
+          table = λ _ sound. rw (ne_eqb _ _ kind, eq-eqb _ _ column, ranged.is sound);
         }
 
 -- ---- *Version*, *Rows since*
 
-module _ (h : Header) (n : ℕ) where
-  pub version_refused : n ≡ version_refusal h → (n ≡ 0 → ⊥) → VersionRead h (VersionRefused n)
-  unfolding version_view
-  version_refused number some = record { answers = reply_refused _ _ n _ refl number some }
+module _ (h : Header) where
+  pub version_refused : (r : Refusal) → number r ≡ version_refusal h → VersionRead h (Err r)
+  version_refused r e = record { answers = err_replies r _ e }
 
-  pub version_answered : n ≡ version_refusal h → n ≡ 0 → VersionRead h (Versioned (record { generation = h.generation; rows = h.rows }))
-  unfolding version_view
-  version_answered number zero_is = record { answers = reply_accepted _ _ _ refl (sym number ∙ zero_is) }
+  pub version_answered : version_refusal h ≡ 0 → VersionRead h (Ok (record { generation = h.generation; rows = h.rows }))
+  version_answered accepts = record { answers = ok_replies refl accepts }
 
-  pub since_refused : (row : ℕ) → n ≡ since_refusal h row → (n ≡ 0 → ⊥) → RowsSince h row (RangeRefused n)
+  pub since_refused : (r : Refusal) (row : ℕ) → number r ≡ since_refusal h row → RowsSince h row (Err r)
   unfolding range_view
-  since_refused row number some = record { answers = reply_refused _ _ n _ refl number some }
+  since_refused r row e = record { answers = reply_refused _ _ (number r) _ refl e (number_some r) }
 
-  pub since_answered : (row : ℕ) → n ≡ since_refusal h row → n ≡ 0 → RowsSince h row (Range row h.rows)
+  pub since_answered : (row : ℕ) → since_refusal h row ≡ 0 → RowsSince h row (Ok (Some (record { start = row; end = h.rows })))
   unfolding range_view
-  since_answered row number zero_is = record { answers = reply_accepted _ _ _ refl (sym number ∙ zero_is) }
+  since_answered row accepts = record { answers = reply_accepted _ _ _ refl accepts }
 
-  pub noted_refused : (generation count : ℕ) → n ≡ noted_refusal h generation count → (n ≡ 0 → ⊥) → RowsSinceVersion h generation count (RangeRefused n)
+  pub noted_refused : (r : Refusal) (generation count : ℕ) → number r ≡ noted_refusal h generation count → RowsSinceVersion h generation count (Err r)
   unfolding range_view
-  noted_refused generation count number some = record { answers = reply_refused _ _ n _ refl number some }
+  noted_refused r generation count e = record { answers = reply_refused _ _ (number r) _ refl e (number_some r) }
 
-  pub noted_answered : (generation count : ℕ) → n ≡ noted_refusal h generation count → n ≡ 0 → RowsSinceVersion h generation count (Range count h.rows)
+  pub noted_answered : (generation count : ℕ) → noted_refusal h generation count ≡ 0 → RowsSinceVersion h generation count (Ok (Some (record { start = count; end = h.rows })))
   unfolding range_view
-  noted_answered generation count number zero_is = record { answers = reply_accepted _ _ _ refl (sym number ∙ zero_is) }
+  noted_answered generation count accepts = record { answers = reply_accepted _ _ _ refl accepts }

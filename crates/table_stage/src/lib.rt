@@ -6,14 +6,14 @@ ghost use Rattle.std.specs.Prelude.{◌≡◌, ◌+◌, ◌≤◌, [], ◌∷◌
 ghost use Rattle.lists.specs.Lists.{splice};
 ghost use Rattle.plain_table.specs.Staged.{insert, remove_key, remove_row};
 ghost use Rattle.plain_table.specs.Refusing.{overfull};
+ghost use Rattle.refusals.specs.Refusals.{refusal_number};
 ghost use Rattle.table_stage.specs.inner.Staging.{record_refusal};
 ghost use Rattle.table.specs.Outcomes.{Staging};
 
-use refusals::{ACCEPTED, OUT_OF_BOUNDS, PAST_THE_ROWS, PENDING_FULL, WRONG_WIDTH};
+use refusals::Refusal;
 use table::refusing::is_pending_outside;
 use table::{
     HASH_AT, Header, INSERT, RECORD_HEAD, REMOVE_KEY, REMOVE_ROW, ROW_AT, ROW_RECORD_HEAD,
-    TableAnswer,
 };
 
 // The most words in use that a header can hold.
@@ -36,24 +36,31 @@ pub fn is_overfull(used: u32, pending: usize, width: u32, more: u32) -> bool
     MOST_WORDS < after
 }
 
-// *Stage*: returns the first refusal of a record with `cells` cells where `width` are required, and with `more` words before them.
-// `gone` is whether the record names a row that does not exist.
-fn stage_refusal(h: Header, pending: usize, cells: usize, width: u32, gone: bool, more: u32) -> u32
-    ensures { result ≡ record_refusal h pending cells width gone more }
+// *Stage*: the checks of a record with `cells` cells where `width` are required, and with `more` words before them. `gone` is whether
+// the record names a row that does not exist.
+fn check_record(
+    h: Header,
+    pending: usize,
+    cells: usize,
+    width: u32,
+    gone: bool,
+    more: u32,
+) -> Result<(), Refusal>
+    ensures { refusal_number result ≡ record_refusal h pending cells width gone more }
 {
     if is_pending_outside(h, pending) {
-        return OUT_OF_BOUNDS;
+        return Err(Refusal::OutOfBounds);
     }
     if cells != width as usize {
-        return WRONG_WIDTH;
+        return Err(Refusal::WrongWidth);
     }
     if gone {
-        return PAST_THE_ROWS;
+        return Err(Refusal::PastTheRows);
     }
     if is_overfull(h.pending, pending, width, more) {
-        return PENDING_FULL;
+        return Err(Refusal::PendingFull);
     }
-    ACCEPTED
+    Ok(())
 }
 
 // Writes the words of a record that precede its cells.
@@ -94,53 +101,49 @@ pub fn write_row_record(pending: &mut [u32], at: usize, hash: u32, row: u32, key
 }
 
 // Stages an insert. The row is stored unchanged; the merge skips a row with a dead first cell.
-pub fn stage_insert(h: Header, pending: &mut [u32], cells: &[u32]) -> TableAnswer
+pub fn stage_insert(h: Header, pending: &mut [u32], cells: &[u32]) -> Result<Header, Refusal>
     ensures { Staging h pending.old (insert cells.now) result pending.new }
 {
-    let refusal = stage_refusal(h, pending.len(), cells.len(), h.columns, false, RECORD_HEAD);
-    if refusal != ACCEPTED {
-        return TableAnswer::Refused(refusal);
-    }
+    check_record(h, pending.len(), cells.len(), h.columns, false, RECORD_HEAD)?;
     let hash = cells::compact_hash(&cells[..h.keys as usize]);
     write_record(pending, h.pending as usize, INSERT, hash, cells);
     let mut n = h;
     n.pending = h.pending + (h.columns + RECORD_HEAD);
-    TableAnswer::Table(n)
+    Ok(n)
 }
 
 // Stages removal of the key's live row; no effect if there is none at merge time.
-pub fn stage_remove(h: Header, pending: &mut [u32], key: &[u32]) -> TableAnswer
+pub fn stage_remove(h: Header, pending: &mut [u32], key: &[u32]) -> Result<Header, Refusal>
     ensures { Staging h pending.old (remove_key key.now) result pending.new }
 {
-    let refusal = stage_refusal(h, pending.len(), key.len(), h.keys, false, RECORD_HEAD);
-    if refusal != ACCEPTED {
-        return TableAnswer::Refused(refusal);
-    }
+    check_record(h, pending.len(), key.len(), h.keys, false, RECORD_HEAD)?;
     let hash = cells::compact_hash(key);
     write_record(pending, h.pending as usize, REMOVE_KEY, hash, key);
     let mut n = h;
     n.pending = h.pending + (h.keys + RECORD_HEAD);
-    TableAnswer::Table(n)
+    Ok(n)
 }
 
 // Stages removal of a row; no effect unless the row is live and has this key at merge time.
-pub fn stage_remove_row(h: Header, pending: &mut [u32], row: u32, key: &[u32]) -> TableAnswer
+pub fn stage_remove_row(
+    h: Header,
+    pending: &mut [u32],
+    row: u32,
+    key: &[u32],
+) -> Result<Header, Refusal>
     ensures { Staging h pending.old (remove_row row key.now) result pending.new }
 {
-    let refusal = stage_refusal(
+    check_record(
         h,
         pending.len(),
         key.len(),
         h.keys,
         h.rows <= row,
         ROW_RECORD_HEAD,
-    );
-    if refusal != ACCEPTED {
-        return TableAnswer::Refused(refusal);
-    }
+    )?;
     let hash = cells::compact_hash(key);
     write_row_record(pending, h.pending as usize, hash, row, key);
     let mut n = h;
     n.pending = h.pending + (h.keys + ROW_RECORD_HEAD);
-    TableAnswer::Table(n)
+    Ok(n)
 }

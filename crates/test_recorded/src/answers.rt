@@ -10,10 +10,7 @@ pub struct Counts {
 }
 
 fn one_more(count: u64) -> u64 {
-    if count < 1000000 {
-        return count + 1;
-    }
-    count
+    count.saturating_add(1).min(1_000_000)
 }
 
 // The counts, and the offset after the answer's line.
@@ -36,22 +33,10 @@ fn counted(counts: Counts, is_compared: bool, agrees: bool) -> Counts {
 }
 
 // True if the numbers of an answer are those of a line.
-fn is_same(reply: Answer, out: &[u32], numbers: &[u32]) -> bool {
-    let first = [
-        reply.first,
-        reply.second,
-        reply.third,
-        reply.fourth,
-        reply.fifth,
-    ];
-    if numbers.len() != add_offset(reply.count, reply.more) {
-        return false;
-    }
-    if !row_buffer::same_cells(part(&first, 0, reply.count), part(numbers, 0, reply.count)) {
-        return false;
-    }
-    let more = part(out, 0, add_offset(0, reply.more));
-    row_buffer::same_cells(more, part(numbers, reply.count, numbers.len()))
+fn is_same(reply: &Answer, out: &[u32], numbers: &[u32]) -> bool {
+    numbers.len() == add_offset(reply.count, reply.more)
+        && part(&reply.first, 0, reply.count) == part(numbers, 0, reply.count)
+        && part(out, 0, add_offset(0, reply.more)) == part(numbers, reply.count, numbers.len())
 }
 
 // Compares the answer with the list's line at `place`.
@@ -64,10 +49,7 @@ pub fn compare(
 ) -> Comparison {
     let mut numbers = [0u32; 64];
     let line = read_line(text, place, &mut numbers);
-    let mut agrees = false;
-    if reply.letter == line.letter {
-        agrees = is_same(reply, out, part(&numbers, 0, line.count));
-    }
+    let agrees = reply.letter == line.letter && is_same(&reply, out, part(&numbers, 0, line.count));
     Comparison {
         counts: counted(counts, reply.letter != NOT_COMPARED, agrees),
         place: line.next,

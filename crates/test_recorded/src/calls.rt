@@ -1,38 +1,38 @@
 // Makes the calls of the recorded list on the library. Returns each answer in the list's form.
-use super::lines::{Answer, answer_bare, answer_three, number_at, part, refused};
-use abi::{encode_bool, places};
-use table::{Header, MergeAnswer, TableAnswer};
+use super::lines::{Answer, number_at, part};
+use abi::places;
+use refusals::Refusal;
+use table::{Header, Merge};
 
-fn answer_table(h: Header, answer: TableAnswer) -> Answer {
+fn answer_table(h: Header, answer: Result<Header, Refusal>) -> Answer {
     match answer {
-        TableAnswer::Refused(number) => refused(h, number),
-        TableAnswer::Table(after) => answer_bare(after, b'D'),
+        Err(refusal) => Answer::refused(h, refusal.into()),
+        Ok(after) => Answer::new(after, b'D', &[]),
     }
 }
 
 // I, R and K.
 fn stage(h: Header, letter: u8, numbers: &[u32], pending: &mut [u32]) -> Answer {
-    if letter == b'I' {
-        return answer_table(h, table_stage::stage_insert(h, pending, numbers));
-    }
-    if letter == b'R' {
-        return answer_table(h, table_stage::stage_remove(h, pending, numbers));
-    }
-    let row = number_at(numbers, 0);
-    let key = part(numbers, 1, numbers.len());
-    answer_table(h, table_stage::stage_remove_row(h, pending, row, key))
+    let staged = match letter {
+        b'I' => table_stage::stage_insert(h, pending, numbers),
+        b'R' => table_stage::stage_remove(h, pending, numbers),
+        _ => {
+            let row = number_at(numbers, 0);
+            let key = part(numbers, 1, numbers.len());
+            table_stage::stage_remove_row(h, pending, row, key)
+        }
+    };
+    answer_table(h, staged)
 }
 
-fn answer_merge(h: Header, answer: MergeAnswer) -> Answer {
+fn answer_merge(h: Header, answer: Result<Merge, Refusal>) -> Answer {
     match answer {
-        MergeAnswer::Refused(number) => refused(h, number),
-        MergeAnswer::Merged(m) => {
-            let mut reply = answer_three(m.header, b'M', m.status, encode_bool(m.added), m.place);
-            reply.fourth = m.kept;
-            reply.fifth = m.dropped;
-            reply.count = 5;
-            reply
-        }
+        Err(refusal) => Answer::refused(h, refusal.into()),
+        Ok(m) => Answer::new(
+            m.header,
+            b'M',
+            &[m.status, u32::from(m.added), m.place, m.kept, m.dropped],
+        ),
     }
 }
 
@@ -87,10 +87,7 @@ fn empty(
 }
 
 pub fn is_call(letter: u8) -> bool {
-    match letter {
-        b'O' | b'I' | b'R' | b'K' | b'M' | b'G' | b'C' => true,
-        _ => false,
-    }
+    matches!(letter, b'O' | b'I' | b'R' | b'K' | b'M' | b'G' | b'C')
 }
 
 // Makes a call, dispatched by its letter.

@@ -12,12 +12,29 @@ pub struct Answer {
     pub header: Header,
     pub letter: u8,
     pub count: usize,
-    pub first: u32,
-    pub second: u32,
-    pub third: u32,
-    pub fourth: u32,
-    pub fifth: u32,
+    pub first: [u32; 5],
     pub more: u32,
+}
+
+impl Answer {
+    // An answer of at most five numbers.
+    pub fn new(header: Header, letter: u8, numbers: &[u32]) -> Answer {
+        let mut first = [0; 5];
+        for (place, number) in first.iter_mut().zip(numbers) {
+            *place = *number;
+        }
+        Answer {
+            header,
+            letter,
+            count: numbers.len(),
+            first,
+            more: 0,
+        }
+    }
+
+    pub fn refused(header: Header, number: u32) -> Answer {
+        Answer::new(header, b'X', &[number])
+    }
 }
 
 // A line: its letter, how many numbers are at the start of the lent numbers, and the offset after the line's end.
@@ -29,81 +46,32 @@ pub struct Line {
 }
 
 pub fn number_at(numbers: &[u32], place: usize) -> u32 {
-    if place < numbers.len() {
-        return numbers[place];
-    }
-    0
+    numbers.get(place).copied().unwrap_or(0)
 }
 
 // The offset `place` + `count`; 0 if one of them is 1,000 or more. No line has that many numbers.
 pub fn add_offset(place: usize, count: u32) -> usize {
-    if place < 1000 {
-        if count < 1000 {
-            return place + count as usize;
-        }
+    if place < 1000 && count < 1000 {
+        return place + count as usize;
     }
     0
 }
 
 // The numbers from one offset up to another; none if there are no such numbers.
 pub fn part<'a>(numbers: &'a [u32], from: usize, to: usize) -> &'a [u32] {
-    if to <= numbers.len() {
-        if from <= to {
-            return &numbers[from..to];
-        }
+    match numbers.get(from..to) {
+        Some(found) => found,
+        None => &numbers[..0],
     }
-    &numbers[0..0]
-}
-
-pub fn answer_three(header: Header, letter: u8, first: u32, second: u32, third: u32) -> Answer {
-    Answer {
-        header,
-        letter,
-        count: 3,
-        first,
-        second,
-        third,
-        fourth: 0,
-        fifth: 0,
-        more: 0,
-    }
-}
-
-pub fn answer_two(header: Header, letter: u8, first: u32, second: u32) -> Answer {
-    let mut reply = answer_three(header, letter, first, second, 0);
-    reply.count = 2;
-    reply
-}
-
-pub fn answer_one(header: Header, letter: u8, number: u32) -> Answer {
-    let mut reply = answer_three(header, letter, number, 0, 0);
-    reply.count = 1;
-    reply
-}
-
-pub fn answer_bare(header: Header, letter: u8) -> Answer {
-    let mut reply = answer_three(header, letter, 0, 0, 0);
-    reply.count = 0;
-    reply
-}
-
-pub fn refused(header: Header, number: u32) -> Answer {
-    answer_one(header, b'X', number)
 }
 
 // A decimal with one more digit. Other bytes, and digits that do not fit, are skipped.
 fn with_digit(number: u32, byte: u8) -> u32 {
-    if byte < b'0' {
+    if !byte.is_ascii_digit() {
         return number;
     }
-    if b'9' < byte {
-        return number;
-    }
-    let longer = 10 * number as u64 + (byte - b'0') as u64;
-    if 0xffff_ffff < longer {
-        return number;
-    }
-    longer as u32
+    let longer = 10 * u64::from(number) + u64::from(byte - b'0');
+    u32::try_from(longer).unwrap_or(number)
 }
 
 // Processes one byte after the letter: a comma begins a number. Returns how many numbers there are.
@@ -115,12 +83,8 @@ fn feed(count: usize, byte: u8, numbers: &mut [u32]) -> usize {
         }
         return count;
     }
-    if count == 0 {
-        return 0;
-    }
-    let last = count - 1;
-    if last < numbers.len() {
-        numbers[last] = with_digit(numbers[last], byte);
+    if 0 < count && count <= numbers.len() {
+        numbers[count - 1] = with_digit(numbers[count - 1], byte);
     }
     count
 }
@@ -129,22 +93,21 @@ fn feed(count: usize, byte: u8, numbers: &mut [u32]) -> usize {
 pub fn read_line(text: &[u8], start: usize, numbers: &mut [u32]) -> Line {
     let mut letter = b'=';
     let mut count = 0;
-    let mut at = start;
-    while at < text.len() {
-        let byte = text[at];
-        at += 1;
-        if byte == b'\n' {
+    let mut next = start;
+    for byte in text.get(start..).unwrap_or(&[]) {
+        next = next.saturating_add(1);
+        if *byte == b'\n' {
             break;
         }
         if letter == b'=' {
-            letter = byte;
+            letter = *byte;
         } else {
-            count = feed(count, byte, numbers);
+            count = feed(count, *byte, numbers);
         }
     }
     Line {
         letter,
         count,
-        next: at,
+        next,
     }
 }

@@ -1,27 +1,21 @@
 // Makes the lookups, range queries and version queries of the recorded list on the library. Returns each answer in the list's form.
-use super::lines::{
-    Answer, add_offset, answer_bare, answer_one, answer_three, answer_two, number_at, part, refused,
-};
-use table::{CellAnswer, Header, RangeAnswer, RowAnswer, VersionAnswer};
+use super::lines::{Answer, add_offset, number_at, part};
+use refusals::Refusal;
+use sort_entries::Range;
+use table::Header;
 
 // The offset of a row's first cell: the row number times the number of columns.
 fn row_place(row: u32, columns: u32) -> usize {
-    let mut place = 0;
-    let mut left = columns;
-    while left > 0 {
-        place = add_offset(place, row);
-        left -= 1;
-    }
-    place
+    (0..columns).fold(0, |place, _| add_offset(place, row))
 }
 
 // A row's number, and its cells.
 fn answer_row(h: Header, row: u32, rows: &[u32], out: &mut [u32]) -> Answer {
     let from = row_place(row, h.columns);
     let cells = part(rows, from, add_offset(from, h.columns));
-    let mut reply = answer_one(h, b'R', row);
+    let mut reply = Answer::new(h, b'R', &[row]);
     if cells.len() <= out.len() {
-        row_buffer::write_row(out, 0, cells);
+        out[..cells.len()].copy_from_slice(cells);
         reply.more = h.columns;
     }
     reply
@@ -30,9 +24,9 @@ fn answer_row(h: Header, row: u32, rows: &[u32], out: &mut [u32]) -> Answer {
 // L: look up a row by key.
 pub fn look_up(h: Header, key: &[u32], rows: &[u32], keys: &[u32], out: &mut [u32]) -> Answer {
     match table_read::get_row(h, rows, keys, key) {
-        RowAnswer::Refused(number) => refused(h, number),
-        RowAnswer::None => answer_bare(h, b'N'),
-        RowAnswer::Row(row) => answer_row(h, row, rows, out),
+        Err(refusal) => Answer::refused(h, refusal.into()),
+        Ok(None) => Answer::new(h, b'N', &[]),
+        Ok(Some(row)) => answer_row(h, row, rows, out),
     }
 }
 
@@ -40,24 +34,24 @@ pub fn look_up(h: Header, key: &[u32], rows: &[u32], keys: &[u32], out: &mut [u3
 pub fn one_cell(h: Header, numbers: &[u32], rows: &[u32], keys: &[u32]) -> Answer {
     let key = part(numbers, 1, numbers.len());
     match table_read::get_row_column(h, rows, keys, key, number_at(numbers, 0)) {
-        CellAnswer::Refused(number) => refused(h, number),
-        CellAnswer::None => answer_bare(h, b'N'),
-        CellAnswer::Cell(cell) => answer_one(h, b'C', cell),
+        Err(refusal) => Answer::refused(h, refusal.into()),
+        Ok(None) => Answer::new(h, b'N', &[]),
+        Ok(Some(cell)) => Answer::new(h, b'C', &[cell]),
     }
 }
 
-pub fn answer_range(h: Header, answer: RangeAnswer) -> Answer {
+pub fn answer_range(h: Header, answer: Result<Option<Range>, Refusal>) -> Answer {
     match answer {
-        RangeAnswer::Refused(number) => refused(h, number),
-        RangeAnswer::None => answer_bare(h, b'N'),
-        RangeAnswer::Range(start, end) => answer_three(h, b'S', 0, start, end),
+        Err(refusal) => Answer::refused(h, refusal.into()),
+        Ok(None) => Answer::new(h, b'N', &[]),
+        Ok(Some(Range { start, end })) => Answer::new(h, b'S', &[0, start, end]),
     }
 }
 
 // V: version.
 pub fn version(h: Header) -> Answer {
     match table_read::version(h) {
-        VersionAnswer::Refused(number) => refused(h, number),
-        VersionAnswer::Version(v) => answer_two(h, b'V', v.generation, v.rows),
+        Err(refusal) => Answer::refused(h, refusal.into()),
+        Ok(v) => Answer::new(h, b'V', &[v.generation, v.rows]),
     }
 }

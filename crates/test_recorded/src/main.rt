@@ -49,16 +49,13 @@ fn main(rt: HostRuntime) -> io::Result<()> {
             compared: 0,
             agreed: 0,
         },
-        is_over: false,
     };
-    let mut steps = 65536u32;
-    while steps > 0 {
-        state = step(state, &text, &mut rows, &mut keys, &mut sorts, &mut pending);
-        if state.is_over {
+    for _ in 0..65536 {
+        let next = step(state, &text, &mut rows, &mut keys, &mut sorts, &mut pending);
+        let Some(after) = next else {
             break;
-        }
-        steps -= 1;
+        };
+        state = after;
     }
-    let counts = state.counts;
-    write_counts(&rt, counts)
+    write_counts(&rt, state.counts)
 }

@@ -1,11 +1,9 @@
 // Dispatches the queries of the recorded list by their letters, and makes those over subsets on the library.
-use super::lines::{
-    Answer, NOT_COMPARED, add_offset, answer_bare, answer_three, answer_two, number_at, part,
-    refused,
-};
+use super::lines::{Answer, NOT_COMPARED, add_offset, number_at, part};
 use super::lookups::{answer_range, look_up, one_cell, version};
 use constraints::Constraint;
-use offsets::{Subset, SubsetAnswer};
+use offsets::{Subset, SubsetForm};
+use refusals::Refusal;
 use table::Header;
 
 // Reads the condition that begins at `place`.
@@ -42,12 +40,12 @@ fn subset<'a>(numbers: &'a [u32], place: usize) -> LineSubset<'a> {
 }
 
 // The ids of a list are in the lent numbers.
-fn answer_subset(h: Header, answer: SubsetAnswer) -> Answer {
+fn answer_subset(h: Header, answer: Result<SubsetForm, Refusal>) -> Answer {
     match answer {
-        SubsetAnswer::Refused(number) => refused(h, number),
-        SubsetAnswer::Range(start, end) => answer_three(h, b'S', 0, start, end),
-        SubsetAnswer::List(count) => {
-            let mut reply = answer_two(h, b'S', 1, count);
+        Err(refusal) => Answer::refused(h, refusal.into()),
+        Ok(SubsetForm::Range(start, end)) => Answer::new(h, b'S', &[0, start, end]),
+        Ok(SubsetForm::List(count)) => {
+            let mut reply = Answer::new(h, b'S', &[1, count]);
             reply.more = count;
             reply
         }
@@ -92,6 +90,6 @@ pub fn run_query(
         ),
         b'N' => refine(h, numbers, rows, out),
         b'T' => intersect(h, numbers, out),
-        _ => answer_bare(h, NOT_COMPARED),
+        _ => Answer::new(h, NOT_COMPARED, &[]),
     }
 }

@@ -28,10 +28,9 @@ pub struct State {
     pub header: Header,
     pub place: usize,
     pub counts: Counts,
-    pub is_over: bool,
 }
 
-// Processes a call or query and its answer: two lines.
+// Processes a call or query and its answer: two lines. Nothing is left of a list after its last line.
 pub fn step(
     state: State,
     text: &[u8; 65536],
@@ -39,32 +38,28 @@ pub fn step(
     keys: &mut [u32; 128],
     sorts: &mut [u32; 128],
     pending: &mut [u32; 256],
-) -> State {
+) -> Option<State> {
     let mut numbers = [0u32; 64];
     let mut out = [0u32; 80];
-    let header = state.header;
-    let counts = state.counts;
-    let place = state.place;
-    let line = read_line(text, place, &mut numbers);
-    let letter = line.letter;
-    let answer = line.next;
-    if letter == 0 {
-        return State {
-            header: header,
-            place: place,
-            counts: counts,
-            is_over: true,
-        };
+    let line = read_line(text, state.place, &mut numbers);
+    if line.letter == 0 {
+        return None;
     }
     let given = part(&numbers, 0, line.count);
-    let reply = serve(header, letter, given, rows, keys, sorts, pending, &mut out);
-    let left = reply.header;
-    let comparison = compare(counts, reply, &out, text, answer);
-    let now = comparison.counts;
-    State {
-        header: left,
+    let reply = serve(
+        state.header,
+        line.letter,
+        given,
+        rows,
+        keys,
+        sorts,
+        pending,
+        &mut out,
+    );
+    let comparison = compare(state.counts, reply, &out, text, line.next);
+    Some(State {
+        header: reply.header,
         place: comparison.place,
-        counts: now,
-        is_over: false,
-    }
+        counts: comparison.counts,
+    })
 }

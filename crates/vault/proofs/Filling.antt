@@ -1,7 +1,7 @@
 -- The output filled cell by cell, column by column, block by block, and all of it. Assumes nothing.
-use Rattle.vault.proofs.Prelude.{ℕ, zero, suc, ◌+◌, ◌-◌, ◌*◌, ◌%◌, ◌^◌, ◌≤◌, ◌<◌, ◌≡◌, refl, sym, ap, subst, ◌∙◌, Bool, true, arith, List, zero-add, zero-mul, suc-mul, mul_comm, mul-le-mul_right, dec_lt, ℕ_discrete, add-one, length, get_or, set, length-set, get_or-set_same, get_or-set_other, ext_get_or, splice, length_splice, get_d_splice_in, get_d_splice_after, row_in, Cells, length_to, length_from, to_place, from_place}
+use Rattle.vault.proofs.Prelude.{ℕ, zero, suc, ◌+◌, ◌-◌, ◌*◌, ◌%◌, ◌^◌, ◌≤◌, ◌<◌, ◌≡◌, refl, sym, ap, subst, ◌∙◌, arith, List, zero-add, zero-mul, suc-mul, mul_comm, mul-le-mul_right, dec_lt, ℕ_discrete, add-one, length, get_or, set, length-set, get_or-set_same, get_or-set_other, ext_get_or, splice, length_splice, get_d_splice_in, get_d_splice_after, row_in, Cells, length_to, length_from, to_place, from_place}
 use Rattle.vault.specs.Columns.{minus, to_columns, from_columns}
-use Rattle.vault.specs.inner.Filling.{cell_above, Shaped, Within, by_columns, by_rows, Filled, ordered, placed, Begun}
+use Rattle.vault.specs.inner.Filling.{cell_above, Shaped, Within, by_columns, by_rows, Filled, Begun}
 
 module _ {target : List ℕ} {place : ℕ → ℕ → ℕ} where
   -- no row, or no column
@@ -124,7 +124,7 @@ module _ (width column row : ℕ) (cells : List ℕ) where
     above_inside h k = (at_least, omega (arith, at_least))
 
 -- rows that are there already
-pub above_summed : (width rows column row : ℕ) (cells output : List ℕ) → column < width → Begun true width rows row cells output
+pub above_summed : (width rows column row : ℕ) (cells output : List ℕ) → column < width → Begun from_columns by_rows width rows row cells output
     → cell_above width column output row ≡ cell_above width column (from_columns width cells) row
 unfolding cell_above
 above_summed width rows column zero cells output h s = refl
@@ -175,16 +175,16 @@ column_scan_end x h = rows_end x.filled x.before h
 -- to column order
 abbrev pub Differencing : ℕ → ℕ → ℕ → ℕ → ℕ → List ℕ → List ℕ → List ℕ → ℕ → ℕ → Type 0
 Differencing width rows start end column cells output output' above row =
-    ColumnScan cells (to_columns width cells) (by_columns rows) width start end column output output' above row
+    ColumnScan cells (to_columns width cells) (by_columns width rows) width start end column output output' above row
 
 minus_wraps : (r cell above : ℕ) → r < 2 ^ 32 → above < 2 ^ 32 → (r + above) % 2 ^ 32 ≡ cell → r ≡ minus cell above
 unfolding minus
 minus_wraps r cell above h k e = omega arith
 
 -- back to row order
-abbrev pub Summing : ℕ → ℕ → ℕ → ℕ → List ℕ → List ℕ → List ℕ → ℕ → ℕ → Type 0
-Summing width start end column cells output output' above row =
-    ColumnScan (from_columns width cells) (from_columns width cells) (by_rows width) width start end column output output' above row
+abbrev pub Summing : ℕ → ℕ → ℕ → ℕ → ℕ → List ℕ → List ℕ → List ℕ → ℕ → ℕ → Type 0
+Summing width rows start end column cells output output' above row =
+    ColumnScan (from_columns width cells) (from_columns width cells) (by_rows width rows) width start end column output output' above row
 
 module _ {width rows start end column : ℕ} {cells output : List ℕ} (s : Shaped width rows cells output) (w : Within start end rows) (k : column < width) (f : Cells cells)
     {output' : List ℕ} {above row r : ℕ} (h : row < end) where
@@ -204,8 +204,8 @@ module _ {width rows start end column : ℕ} {cells output : List ℕ} (s : Shap
             (omega (arith, to_inside s w h k)) (omega (arith, s.room)) x.filled;
       }
 
-  pub sum_more : Summing width start end column cells output output' above row → r ≡ (get_or cells (column * rows + row) 0 + above) % 2 ^ 32
-      → Summing width start end column cells output (set output' (row * width + column) r) r (row + 1)
+  pub sum_more : Summing width rows start end column cells output output' above row → r ≡ (get_or cells (column * rows + row) 0 + above) % 2 ^ 32
+      → Summing width rows start end column cells output (set output' (row * width + column) r) r (row + 1)
   sum_more x e =
       let n : row < rows = omega (arith, w.inside) in
       let l = length_from width rows s.some cells s.whole in
@@ -217,14 +217,3 @@ module _ {width rows start end column : ℕ} {cells output : List ℕ} (s : Shap
         cell = v ∙ sym (above_suc width column row (from_columns width cells));
         filled = filled_down r v (omega (arith, from_inside s w h k)) (omega (arith, s.room)) x.filled;
       }
-
--- ---- the direction
-
-module _ (back way : Bool) (e : back ≡ way) (width rows : ℕ) (cells output : List ℕ) where
-  pub direction_begun : (start : ℕ) → Begun back width rows start cells output → Begun way width rows start cells output
-  direction_begun start u = subst (λ (b : Bool). Begun b width rows start cells output) e u
-
-  pub direction_filled : (row row' column column' : ℕ) (output' : List ℕ) → Filled (ordered way width cells) (placed way width rows) row row' column column' output output'
-      → Filled (ordered back width cells) (placed back width rows) row row' column column' output output'
-  direction_filled row row' column column' output' x =
-      subst (λ (b : Bool). Filled (ordered b width cells) (placed b width rows) row row' column column' output output') (sym e) x

@@ -1,11 +1,10 @@
 -- Column order for the vault (document 02, change 5): a list of rows, column after column, each cell but a column's first replaced
 -- by its difference from the cell above; and the inverse. Over lists of cells, for every width at once. Assumes nothing.
-use Rattle.std.specs.Prelude.{◌≡◌, ℕ, ◌+◌, ◌-◌, ◌/◌, ◌%◌, ◌^◌, ◌<◌, not, ◌||◌, List, [], ◌∷◌, ◌++◌, map, length, take, drop, ◌==◌, nat_lt, slice_index}
+use Rattle.std.specs.Prelude.{◌≡◌, ℕ, ◌+◌, ◌-◌, ◌/◌, ◌%◌, ◌^◌, ◌<◌, not, ◌||◌, List, [], ◌∷◌, ◌++◌, map, length, take, drop, ◌==◌, nat_lt, slice_index, Result}
 use mathlib.Core.List.{zip_with}
 use Rattle.lists.specs.Lists.{splice, rows_of, flatten, iota}
-use Rattle.refusals.specs.Refusals.{check, first_refusal, Reply, refused, accepted, Effect}
-use Rattle.vault.specs.declared.ColumnsAnswer.{ColumnsAnswer}
-use Rattle.vault.specs.declared.ColumnsAnswer.TheVariants.{Refused, Written}
+use Rattle.refusals.specs.Refusals.{check, first_refusal, answer_view, Effect}
+use Rattle.refusals.specs.declared.Refusal.{Refusal}
 
 -- "its difference from the cell above, modulo 2^32"
 unfoldable pub minus : ℕ → ℕ → ℕ
@@ -42,15 +41,10 @@ unfoldable pub columns_refusal : ℕ → ℕ → ℕ → ℕ
 columns_refusal width cells output =
     first_refusal (check (nat_lt width 1 || nat_lt 8 width) 1 ∷ check (not (cells % width == 0)) 13 ∷ check (nat_lt output cells) 2 ∷ [])
 
--- the answer as a reply
-unfoldable pub columns_view : ColumnsAnswer → Reply (Unit {0})
-columns_view (Refused n) = refused n
-columns_view Written = accepted tt
-
 -- Contract of either direction: the cells in the other order at the start of the output, and nothing changed past them; on refusal
 -- nothing changed at all.
-pub record Rearranged (order : ℕ → List ℕ → List ℕ) (width : ℕ) (cells output : List ℕ) (answer : ColumnsAnswer) (output' : List ℕ) : Type 0 where
-  pub effect : Effect (columns_refusal width (length cells) (length output)) (columns_view answer) tt output output' (splice output 0 (order width cells))
+pub record Rearranged (order : ℕ → List ℕ → List ℕ) (width : ℕ) (cells output : List ℕ) (answer : Result (Unit {0}) Refusal) (output' : List ℕ) : Type 0 where
+  pub effect : Effect (columns_refusal width (length cells) (length output)) (answer_view answer) tt output output' (splice output 0 (order width cells))
 
 -- "Applying either after the other restores the cells for every list and every width from 1 to 8": for every width but 0 that
 -- divides the list's length, its cells being u32

@@ -3,11 +3,13 @@
 // columns are processed.
 #![tactic(auto)]
 
-ghost use Rattle.std.specs.Prelude.{◌≡◌, ◌+◌, ◌*◌, ◌<◌, ◌≤◌, true, false, length};
+ghost use Rattle.std.specs.Prelude.{ℕ, ◌≡◌, ◌+◌, ◌*◌, ◌<◌, ◌≤◌, List, length};
+ghost use Rattle.refusals.specs.Refusals.{refusal_number};
 ghost use Rattle.vault.specs.Columns.{to_columns, from_columns, columns_refusal, Rearranged};
-ghost use Rattle.vault.specs.inner.Filling.{cell_above, Shaped, Within, ordered, placed, Begun, Filled};
+ghost use Rattle.vault.specs.inner.Filling.{cell_above, Shaped, Within, by_columns, by_rows, DirectionLaws, Begun, Filled};
+ghost use Rattle.vault.specs.Laws.Directions.{to_columns_laws, from_columns_laws};
 
-use refusals::{ACCEPTED, BROKEN_ROW, OUT_OF_BOUNDS, TOO_SHORT};
+use refusals::Refusal;
 
 // The largest width of a row.
 const MOST_COLUMNS: u32 = 8;
@@ -15,30 +17,24 @@ const MOST_COLUMNS: u32 = 8;
 // The number of rows in a block.
 const BLOCK: usize = 256;
 
-#[derive(Clone, Copy)]
-pub enum ColumnsAnswer {
-    Refused(u32),
-    Written,
-}
-
-// The number of the first test that refuses a rearrangement, or `ACCEPTED`.
-fn columns_refusal(width: u32, cells: usize, output: usize) -> u32
-    ensures { result ≡ columns_refusal width cells output }
+// The tests of a rearrangement.
+fn check_columns(width: u32, cells: usize, output: usize) -> Result<(), Refusal>
+    ensures { refusal_number result ≡ columns_refusal width cells output }
 {
     if width < 1 {
-        return OUT_OF_BOUNDS;
+        return Err(Refusal::OutOfBounds);
     }
     if MOST_COLUMNS < width {
-        return OUT_OF_BOUNDS;
+        return Err(Refusal::OutOfBounds);
     }
     let rest = cells % (width as usize);
     if rest != 0 {
-        return BROKEN_ROW;
+        return Err(Refusal::BrokenRow);
     }
     if output < cells {
-        return TOO_SHORT;
+        return Err(Refusal::TooShort);
     }
-    ACCEPTED
+    Ok(())
 }
 
 // The end of the block that starts at this row.
@@ -61,73 +57,89 @@ fn cell_above(width: usize, column: usize, cells: &[u32], row: usize) -> u32
     cells[at - width]
 }
 
-// Rearranges a column of a block to column order.
-fn difference_column(
-    width: usize,
-    rows: usize,
-    start: usize,
-    end: usize,
-    column: usize,
-    cells: &[u32],
-    output: &mut [u32],
-)
-    requires { Shaped width rows cells.now output.old × Within start end rows × (column < width) }
-    ensures { Filled (ordered false width cells.now) (placed false width rows) start end column (column + 1) output.old output.new }
-{
-    let base = column * rows;
-    let mut above = cell_above(width, column, cells, start);
-    for row in start..end {
-        let cell = cells[row * width + column];
-        output[base + row] = cell.wrapping_sub(above);
-        above = cell;
+// A direction of the rearrangement.
+trait Direction {
+    // The cells as it writes them, for each width.
+    ghost order: { ℕ → List ℕ → List ℕ };
+
+    // Where it writes the cell of a row and column, for each width and number of rows.
+    ghost place: { ℕ → ℕ → ℕ → ℕ → ℕ };
+
+    ghost laws: { DirectionLaws order place };
+
+    // Rearranges a column of a block.
+    fn rearrange_column(
+        width: usize,
+        rows: usize,
+        start: usize,
+        end: usize,
+        column: usize,
+        cells: &[u32],
+        output: &mut [u32],
+    )
+        requires { Shaped width rows cells.now output.old × Within start end rows × (column < width) × Begun order place width rows start cells.now output.old }
+        ensures { Filled (order width cells.now) (place width rows) start end column (column + 1) output.old output.new };
+}
+
+// Row order to column order.
+struct ToColumns;
+
+impl Direction for ToColumns {
+    ghost order = { to_columns };
+
+    ghost place = { by_columns };
+
+    ghost laws = { to_columns_laws };
+
+    fn rearrange_column(
+        width: usize,
+        rows: usize,
+        start: usize,
+        end: usize,
+        column: usize,
+        cells: &[u32],
+        output: &mut [u32],
+    ) {
+        let base = column * rows;
+        let mut above = cell_above(width, column, cells, start);
+        for row in start..end {
+            let cell = cells[row * width + column];
+            output[base + row] = cell.wrapping_sub(above);
+            above = cell;
+        }
     }
 }
 
-// Rearranges a column of a block back to row order.
-fn sum_column(
-    width: usize,
-    rows: usize,
-    start: usize,
-    end: usize,
-    column: usize,
-    cells: &[u32],
-    output: &mut [u32],
-)
-    requires { Shaped width rows cells.now output.old × Within start end rows × (column < width) × Begun true width rows start cells.now output.old }
-    ensures { Filled (ordered true width cells.now) (placed true width rows) start end column (column + 1) output.old output.new }
-{
-    let base = column * rows;
-    let mut above = cell_above(width, column, output, start);
-    for row in start..end {
-        above = cells[base + row].wrapping_add(above);
-        output[row * width + column] = above;
-    }
-}
+// Column order to row order.
+struct FromColumns;
 
-// Rearranges a column of a block, in either direction.
-fn rearrange_column(
-    back: bool,
-    width: usize,
-    rows: usize,
-    start: usize,
-    end: usize,
-    column: usize,
-    cells: &[u32],
-    output: &mut [u32],
-)
-    requires { Shaped width rows cells.now output.old × Within start end rows × (column < width) × Begun back width rows start cells.now output.old }
-    ensures { Filled (ordered back width cells.now) (placed back width rows) start end column (column + 1) output.old output.new }
-{
-    if back {
-        sum_column(width, rows, start, end, column, cells, output);
-    } else {
-        difference_column(width, rows, start, end, column, cells, output);
+impl Direction for FromColumns {
+    ghost order = { from_columns };
+
+    ghost place = { by_rows };
+
+    ghost laws = { from_columns_laws };
+
+    fn rearrange_column(
+        width: usize,
+        rows: usize,
+        start: usize,
+        end: usize,
+        column: usize,
+        cells: &[u32],
+        output: &mut [u32],
+    ) {
+        let base = column * rows;
+        let mut above = cell_above(width, column, output, start);
+        for row in start..end {
+            above = cells[base + row].wrapping_add(above);
+            output[row * width + column] = above;
+        }
     }
 }
 
 // Rearranges a block, column by column.
-fn rearrange_block(
-    back: bool,
+fn rearrange_block<D: Direction>(
     width: usize,
     rows: usize,
     start: usize,
@@ -135,51 +147,49 @@ fn rearrange_block(
     cells: &[u32],
     output: &mut [u32],
 )
-    requires { Shaped width rows cells.now output.old × Within start end rows × Begun back width rows start cells.now output.old }
-    ensures { Filled (ordered back width cells.now) (placed back width rows) start end 0 width output.old output.new }
+    requires { Shaped width rows cells.now output.old × Within start end rows × Begun D.order D.place width rows start cells.now output.old }
+    ensures { Filled (D.order width cells.now) (D.place width rows) start end 0 width output.old output.new }
 {
     for column in 0..width {
-        rearrange_column(back, width, rows, start, end, column, cells, output);
+        D::rearrange_column(width, rows, start, end, column, cells, output);
     }
 }
 
 // Rearranges all rows, block by block.
-fn rearrange_rows(back: bool, width: usize, rows: usize, cells: &[u32], output: &mut [u32])
+fn rearrange_rows<D: Direction>(width: usize, rows: usize, cells: &[u32], output: &mut [u32])
     requires { Shaped width rows cells.now output.old }
-    ensures { Filled (ordered back width cells.now) (placed back width rows) 0 rows 0 width output.old output.new }
+    ensures { Filled (D.order width cells.now) (D.place width rows) 0 rows 0 width output.old output.new }
 {
     let mut start = 0;
+    // No `for`: each turn goes on by a block, and the last block may be shorter.
     while start < rows {
         let end = block_end(start, rows);
-        rearrange_block(back, width, rows, start, end, cells, output);
+        rearrange_block::<D>(width, rows, start, end, cells, output);
         start = end;
     }
 }
 
 // Rearranges in either direction, after the tests.
-fn rearrange(back: bool, width: u32, cells: &[u32], output: &mut [u32]) -> ColumnsAnswer
-    ensures { Rearranged (ordered back) width cells.now output.old result output.new }
+fn rearrange<D: Direction>(width: u32, cells: &[u32], output: &mut [u32]) -> Result<(), Refusal>
+    ensures { Rearranged D.order width cells.now output.old result output.new }
 {
-    let number = columns_refusal(width, cells.len(), output.len());
-    if number != ACCEPTED {
-        return ColumnsAnswer::Refused(number);
-    }
+    check_columns(width, cells.len(), output.len())?;
     let rows = cells.len() / (width as usize);
-    rearrange_rows(back, width as usize, rows, cells, output);
-    ColumnsAnswer::Written
+    rearrange_rows::<D>(width as usize, rows, cells, output);
+    Ok(())
 }
 
 // Writes rows of this width to the output, column after column, each cell but a column's first as its difference from the
 // cell above.
-pub fn to_columns(width: u32, cells: &[u32], output: &mut [u32]) -> ColumnsAnswer
+pub fn to_columns(width: u32, cells: &[u32], output: &mut [u32]) -> Result<(), Refusal>
     ensures { Rearranged to_columns width cells.now output.old result output.new }
 {
-    rearrange(false, width, cells, output)
+    rearrange::<ToColumns>(width, cells, output)
 }
 
 // The inverse: writes the rows of this width that `to_columns` rearranged.
-pub fn from_columns(width: u32, cells: &[u32], output: &mut [u32]) -> ColumnsAnswer
+pub fn from_columns(width: u32, cells: &[u32], output: &mut [u32]) -> Result<(), Refusal>
     ensures { Rearranged from_columns width cells.now output.old result output.new }
 {
-    rearrange(true, width, cells, output)
+    rearrange::<FromColumns>(width, cells, output)
 }

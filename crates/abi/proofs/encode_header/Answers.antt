@@ -4,4 +4,4 @@ use Rattle.abi.proofs.encode_header.Goals as goal
 
 pub returns : goal.returns
 unfolding encode_option encode_header
-returns c = rw c.encode_largest-words.ensures
+returns c = rw c.encode_option-words.ensures

@@ -6,14 +6,14 @@ use Rattle.refusals.specs.Refusals.{if_accepted}
 use mathlib.Core.Option.{Option-elim}
 use Rattle.abi.proofs.store_page.Goals as goal
 
-pub returns-in-Refused : goal.returns-in-Refused
+pub returns-in-Err : goal.returns-in-Err
 unfolding page_view next_view encode_option Option-elim encode_page returned if_accepted
-returns-in-Refused c = stored_as c.in-Refused.is refl refl
+returns-in-Err c = stored_as c.in-Err.is c.into.ensures refl
 
 pub returns-in-None : goal.returns-in-None
 unfolding page_view next_view encode_option Option-elim encode_page returned if_accepted
-returns-in-None c = stored_as c.in-Page.is refl (rw c.in-None.is refl)
+returns-in-None c = stored_as c.in-Ok.is refl (rw c.in-None.is refl)
 
 pub returns-in-Some : goal.returns-in-Some
 unfolding page_view next_view encode_option Option-elim encode_page returned if_accepted
-returns-in-Some c = stored_as c.in-Page.is refl (rw c.in-Some.is refl)
+returns-in-Some c = stored_as c.in-Ok.is refl (rw c.in-Some.is refl)

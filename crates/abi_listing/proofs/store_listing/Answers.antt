@@ -1,22 +1,14 @@
 -- `abi_listing::store_listing` meets its contract. Assumes nothing.
-use Rattle.abi_listing.proofs.Prelude.{refl, stored_as, rules}
+use Rattle.abi_listing.proofs.Prelude.{refl, stored_as}
 use Rattle.listing_spec.specs.Listings.{listing_view}
 use Rattle.abi.specs.Encoding.{returned}
 use Rattle.refusals.specs.Refusals.{if_accepted}
 use Rattle.abi_listing.proofs.store_listing.Goals as goal
 
-pub enum_known-answer : goal.enum_known-answer
+pub returns-in-Err : goal.returns-in-Err
 unfolding listing_view returned if_accepted
-enum_known-answer c = search rules
+returns-in-Err c = stored_as c.in-Err.is c.into.ensures refl
 
-pub enum_known-answer-in-Listing-1 : goal.enum_known-answer-in-Listing-1
+pub returns-in-Ok : goal.returns-in-Ok
 unfolding listing_view returned if_accepted
-enum_known-answer-in-Listing-1 c = search rules
-
-pub returns-in-Refused : goal.returns-in-Refused
-unfolding listing_view returned if_accepted
-returns-in-Refused c = stored_as c.in-Refused.is refl refl
-
-pub returns-in-Listing : goal.returns-in-Listing
-unfolding listing_view returned if_accepted
-returns-in-Listing c = stored_as c.in-Listing.is refl refl
+returns-in-Ok c = stored_as c.in-Ok.is refl refl

@@ -2,8 +2,9 @@
 -- determines its answer and those cells. Assumes nothing.
 use Rattle.std.specs.Prelude.{ℕ, ◌≡◌, Bool, true, false, List}
 use Rattle.refusals.specs.Laws.Determined.{Same}
+use Rattle.refusals.specs.Refusals.{answer_view}
 use Rattle.constraints.specs.declared.Constraint.{Constraint}
-use Rattle.listing_spec.specs.Listings.{listing_view, numbered_view, text_view, ListingRead, ListingConverted}
+use Rattle.listing_spec.specs.Listings.{listing_view, numbered_view, ListingRead, ListingConverted}
 use Rattle.listing_spec.specs.Laws.Determined as library
 use Rattle.listing_check.specs.Answers.{check_view, AnswersChecked}
 use Rattle.listing_check.specs.Laws.Determined.{checked_determined}
@@ -25,8 +26,8 @@ module _ {words words₁ words₂ : List ℕ} {r₁ r₂ : ℕ} (text : List ℕ
     read_numbered_determined = answers_determined (λ x y. library.numbered_determined)
 
     -- both conversions
-    pub convert_determined : (numbered : Bool) → Answers (λ a. ListingConverted numbered text output a output₁) text_view encode_number words r₁ words₁
-        → Answers (λ a. ListingConverted numbered text output a output₂) text_view encode_number words r₂ words₂ → SameOutcome text_view (λ x y. Same x y output₁ output₂) r₁ r₂ words₁ words₂
+    pub convert_determined : (numbered : Bool) → Answers (λ a. ListingConverted numbered text output a output₁) answer_view encode_number words r₁ words₁
+        → Answers (λ a. ListingConverted numbered text output a output₂) answer_view encode_number words r₂ words₂ → SameOutcome {A = ℕ} answer_view (λ x y. Same x y output₁ output₂) r₁ r₂ words₁ words₂
     convert_determined numbered = answers_determined (λ x y. library.convert_determined)
 
   pub check_answers_determined : (conditions : List Constraint) (given : List ℕ) → Answers (λ a. AnswersChecked text conditions given a) check_view encode_finding words r₁ words₁
@@ -34,6 +35,6 @@ module _ {words words₁ words₂ : List ℕ} {r₁ r₂ : ℕ} (text : List ℕ
   check_answers_determined conditions given = answers_determined (λ x y. checked_determined)
 
 module _ {words words₁ words₂ : List ℕ} {r₁ r₂ : ℕ} (numbered : Bool) (h : Header) (rows output output₁ output₂ : List ℕ) where
-  pub write_listing_determined : Answers (λ a. ListingWritten numbered h rows output a output₁) text_view encode_number words r₁ words₁
-      → Answers (λ a. ListingWritten numbered h rows output a output₂) text_view encode_number words r₂ words₂ → SameOutcome text_view (λ x y. Same x y output₁ output₂) r₁ r₂ words₁ words₂
+  pub write_listing_determined : Answers (λ a. ListingWritten numbered h rows output a output₁) answer_view encode_number words r₁ words₁
+      → Answers (λ a. ListingWritten numbered h rows output a output₂) answer_view encode_number words r₂ words₂ → SameOutcome {A = ℕ} answer_view (λ x y. Same x y output₁ output₂) r₁ r₂ words₁ words₂
   write_listing_determined = answers_determined (λ x y. written_determined)

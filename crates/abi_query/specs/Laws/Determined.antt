@@ -2,11 +2,13 @@
 -- determines its answer and those cells. Assumes nothing.
 use Rattle.std.specs.Prelude.{ℕ, ◌≡◌, List}
 use Rattle.constraints.specs.Encoding.{condition_in}
+use Rattle.std.specs.Prelude.{Bool}
+use Rattle.refusals.specs.Refusals.{answer_view}
 use Rattle.refusals.specs.Laws.Determined.{Same}
 use Rattle.offsets.specs.Subsets.{Subset}
 use Rattle.constraints.specs.declared.Constraint.{Constraint}
 use Rattle.table.specs.declared.Header.{Header}
-use Rattle.query_spec.specs.Queries.{match_view, page_view, Matched, PageRead, RefinedOne, RefinedList}
+use Rattle.query_spec.specs.Queries.{page_view, Matched, PageRead, RefinedOne, RefinedList}
 use Rattle.query_spec.proofs.Laws.Determined.{refined_one_determined, refined_list_determined, matched_determined, page_read_determined}
 use Rattle.abi.specs.Encoding.{encode_bool, subset_head_view, encode_subset, encode_page, Answers}
 use Rattle.abi.specs.Laws.Determined.{SameOutcome, answers_determined}
@@ -25,8 +27,8 @@ module _ {words words₁ words₂ : List ℕ} {r₁ r₂ : ℕ} (h : Header) (ro
         → SameOutcome subset_head_view (λ x y. Same x y output₁ output₂) r₁ r₂ words₁ words₂
     refine_ref_determined output output₁ output₂ = answers_determined (λ x y. refined_list_determined)
 
-    pub contains_match_determined : Answers (Matched h rows subset conditions) match_view encode_bool words r₁ words₁
-        → Answers (Matched h rows subset conditions) match_view encode_bool words r₂ words₂ → SameOutcome match_view (λ x y. x ≡ y) r₁ r₂ words₁ words₂
+    pub contains_match_determined : Answers (Matched h rows subset conditions) answer_view encode_bool words r₁ words₁
+        → Answers (Matched h rows subset conditions) answer_view encode_bool words r₂ words₂ → SameOutcome {A = Bool} answer_view (λ x y. x ≡ y) r₁ r₂ words₁ words₂
     contains_match_determined = answers_determined (λ x y. matched_determined)
 
     pub read_page_determined : (place n : ℕ) (output output₁ output₂ : List ℕ)

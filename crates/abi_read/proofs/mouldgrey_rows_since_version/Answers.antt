@@ -1,6 +1,6 @@
 -- `abi_read::mouldgrey_rows_since_version` meets its contract. Assumes nothing.
-use Rattle.abi_read.proofs.Prelude.{sym, answers}
+use Rattle.abi_read.proofs.Prelude.{sym, answers, stored_range}
 use Rattle.abi_read.proofs.mouldgrey_rows_since_version.Goals as goal
 
 pub returns : goal.returns
-returns c = rw (sym c.decode_header.ensures) (answers c.rows_since_version-answer.ensures c.store_range.ensures)
+returns c = rw (sym c.decode_header.ensures) (answers c.rows_since_version-answer.ensures (stored_range _ c.store.ensures.refused c.store.ensures.accepted))

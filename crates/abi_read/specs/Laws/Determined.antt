@@ -8,7 +8,9 @@ use Rattle.offsets.specs.Answers.{Answered, intersect_reply}
 use Rattle.offsets.specs.Laws.Subsets.{answered_determined}
 use Rattle.sort_entries.specs.Entries.{entries_of, entries_sound}
 use Rattle.table.specs.declared.Header.{Header}
-use Rattle.table.specs.Numbers.{cell_view, range_view, version_view}
+use Rattle.table.specs.declared.Version.{Version}
+use Rattle.refusals.specs.Refusals.{found_view, answer_view}
+use Rattle.table.specs.Numbers.{range_view}
 use Rattle.table.specs.Refusing.{cell_refusal, fast_refusal}
 use Rattle.table.specs.Outcomes.{CellRead, RangeRead, RowsSince, RowsSinceVersion, VersionRead}
 use Rattle.table.proofs.Laws.Determined as library
@@ -18,8 +20,8 @@ use Rattle.abi.specs.Laws.Determined.{SameOutcome, answers_determined}
 
 module _ {words words₁ words₂ : List ℕ} {r₁ r₂ : ℕ} where
   pub get_row_column_determined : (h : Header) (rows keys key : List ℕ) (column : ℕ)
-      → Answers (λ a. CellRead h rows keys key column a) cell_view encode_option words r₁ words₁ → Answers (λ a. CellRead h rows keys key column a) cell_view encode_option words r₂ words₂
-      → SameOutcome cell_view (SameAnswer cell_view (cell_refusal h (length rows) (length keys) (length key) column) (KnownKeys h rows keys)) r₁ r₂ words₁ words₂
+      → Answers (λ a. CellRead h rows keys key column a) found_view encode_option words r₁ words₁ → Answers (λ a. CellRead h rows keys key column a) found_view encode_option words r₂ words₂
+      → SameOutcome (found_view {A = ℕ}) (SameAnswer found_view (cell_refusal h (length rows) (length keys) (length key) column) (KnownKeys h rows keys)) r₁ r₂ words₁ words₂
   get_row_column_determined h rows keys key column = answers_determined (λ x y. cell_read_determined)
 
   pub fast_subset_determined : (h : Header) (sorts condition : List ℕ)
@@ -37,8 +39,8 @@ module _ {words words₁ words₂ : List ℕ} {r₁ r₂ : ℕ} where
       → SameOutcome range_view (λ x y. x ≡ y) r₁ r₂ words₁ words₂
   rows_since_version_determined h version = answers_determined (λ x y. library.rows_since_version_determined)
 
-  pub table_version_determined : (h : Header) → Answers (λ a. VersionRead h a) version_view encode_version words r₁ words₁ → Answers (λ a. VersionRead h a) version_view encode_version words r₂ words₂
-      → SameOutcome version_view (λ x y. x ≡ y) r₁ r₂ words₁ words₂
+  pub table_version_determined : (h : Header) → Answers (λ a. VersionRead h a) answer_view encode_version words r₁ words₁ → Answers (λ a. VersionRead h a) answer_view encode_version words r₂ words₂
+      → SameOutcome (answer_view {A = Version}) (λ x y. x ≡ y) r₁ r₂ words₁ words₂
   table_version_determined h = answers_determined (λ x y. version_read_determined)
 
   -- both intersections

@@ -1,6 +1,6 @@
 -- `abi_table::mouldgrey_stage_remove_row` meets its contract. Assumes nothing.
-use Rattle.abi_table.proofs.Prelude.{sym, answers}
+use Rattle.abi_table.proofs.Prelude.{sym, answers, stored_answer}
 use Rattle.abi_table.proofs.mouldgrey_stage_remove_row.Goals as goal
 
 pub returns : goal.returns
-returns c = rw (sym c.decode_header.ensures) (answers c.stage_remove_row-answer.ensures c.store_table.ensures)
+returns c = rw (sym c.decode_header.ensures) (answers c.stage_remove_row-answer.ensures (stored_answer _ c.store.ensures.refused c.store.ensures.accepted))

@@ -1,5 +1,5 @@
 -- The contents of a table depend on the words in use alone. Assumes nothing.
-use Rattle.archive.proofs.Laws.Prelude.{ℕ, ◌+◌, ◌*◌, ◌≤◌, ◌<◌, ◌≡◌, sym, ap, ◌∙◌, true, not, List, [], arith, length, take, drop, get_or, splice, count, row_at, rows_of, get_d_rows_of, rows_of_same, is_live, Entry, entries_of, entries_sound, value_at, entries_of_same, Staged, words_all, Header, opening_of, largest_view, SoundContents}
+use Rattle.archive.proofs.Laws.Prelude.{ℕ, ◌*◌, ◌<◌, ◌≡◌, sym, ap, ◌∙◌, not, List, [], take, get_or, count, row_at, get_d_rows_of, rows_of_same, is_live, entries_of, entries_of_same, Staged, Header, SoundContents}
 
 -- the words in use are the same in other stores
 pub record SameInUse (h : Header) (rows sorts pending rows' sorts' pending' : List ℕ) : Type 0 where

@@ -1,12 +1,12 @@
 -- An image changed within four neighbouring bytes is no image. Assumes nothing.
-use Rattle.archive.proofs.Laws.Prelude.{ℕ, zero, suc, ◌+◌, ◌<◌, ◌≡◌, refl, sym, ap, ◌∙◌, true, List, [], ◌∷◌, ◌++◌, ◌⊎◌, inl, inr, Option, none, some, arith, length, get_or, Below, bytes_of_append, bytes_of_below, bytes_of_cons, damage_shows, residue_of_crc, Header, TableAnswer, Table, table_view, Damaged, damaged, RefusedAsImage}
+use Rattle.archive.proofs.Laws.Prelude.{ℕ, zero, suc, ◌≡◌, refl, sym, ap, ◌∙◌, true, List, [], ◌∷◌, ◌++◌, ◌⊎◌, inl, inr, Option, none, some, arith, length, Below, bytes_of_append, bytes_of_below, damage_shows, residue_of_crc, Damaged, damaged, RefusedAsImage}
 use Rattle.std.proofs.Math.Option.{Option-elim}
 use Rattle.lists.specs.Lists.{flatten}
-use Rattle.refusals.specs.Refusals.{Reply, refused, accepted, reply, outcome}
+use Rattle.refusals.specs.Refusals.{reply, outcome}
 use Rattle.crc32.specs.Crc.{crc32, bytes_of, word_bytes}
 use Rattle.crc32.specs.Laws.Register.{register}
 use Rattle.image_spec.specs.Image.{Image, image_body, image_words, is_image, Reads, reads, reads_none}
-use Rattle.image_spec.specs.Outcomes.{length_view, check_reply, read_refusal, text_refusal, text_of, ImageChecked, ImageRead, TextRead}
+use Rattle.image_spec.specs.Outcomes.{check_reply, read_refusal, text_refusal, text_of}
 
 -- ---- bytes
 

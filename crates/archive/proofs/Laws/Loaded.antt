@@ -1,11 +1,14 @@
 -- Reading an image after writing it. Assumes nothing.
-use Rattle.archive.proofs.Laws.Prelude.{ℕ, zero, suc, ◌+◌, ◌*◌, ◌≤◌, ◌<◌, ◌≡◌, refl, sym, ap, ◌∙◌, Bool, true, false, cond, not, ◌||◌, List, [], ◌∷◌, ◌++◌, map, ⊎_elim, Option, none, some, mul-le-mul_right, arith, length, take, drop, get_or, take_at, ltb, eqb, ltb-false, le-leb, split, length_splice, or_no_left, or_no_right, Opening, openable, words_all, row_of, first_refusal_no, first_refusal_rest, bounds_openable, Header, TableAnswer, Table, outside, Stores, Body, joined, lengths, Represents, LongEnough, stores_long, Inside, outside_inside, Image, SoundImage, reads_unique, Saved, resized, ReadAfterWrite}
+use Rattle.refusals.specs.declared.Refusal.{Refusal}
+use Rattle.std.specs.Prelude.{Result, Ok}
+use Rattle.archive.proofs.Laws.Prelude.{ℕ, zero, suc, ◌<◌, ◌≡◌, refl, sym, ap, ◌∙◌, Bool, true, false, ◌||◌, List, [], ◌∷◌, ⊎_elim, some, mul-le-mul_right, arith, length, take, take_at, ltb, split, length_splice, or_no_left, words_all, row_of, first_refusal_no, first_refusal_rest, bounds_openable, Header, outside, Stores, Body, joined, lengths, Represents, stores_long, Inside, outside_inside, reads_unique, Saved, resized}
 use Rattle.std.proofs.Math.Option.{Option-elim}
-use Rattle.lists.specs.Lists.{splice, row_at, all}
-use Rattle.refusals.specs.Refusals.{check, first_refusal, Reply, refused, accepted, reply, outcome}
+use Rattle.lists.specs.Lists.{splice, row_at}
+use Rattle.refusals.specs.Refusals.{check, first_refusal, Reply, accepted, reply, outcome}
 use Rattle.plain_table.specs.Refusing.{stores_short}
 use Rattle.plain_table.specs.Plain.{Plain, dead}
-use Rattle.table.specs.Numbers.{opening_of, table_view}
+use Rattle.refusals.specs.Refusals.{answer_view}
+use Rattle.table.specs.Numbers.{opening_of}
 use Rattle.table.specs.Stores.{entries, header_of, RowShown}
 use Rattle.image_spec.specs.Outcomes.{with_capacity, read_refusal, Loaded, ImageRead}
 use Rattle.archive.proofs.Laws.Contents.{SameInUse, row_same, entries_same}
@@ -24,7 +27,7 @@ accepted_none a zero e = refl
 accepted_none a (suc n) e = absurd (let z : ◌≡◌ {A = ℕ} 0 1 = cc in omega arith)
 
 module _ {p : Plain} {s : Stores} (r : Represents p s) {words : List ℕ} (saved : Saved s words) (capacity : ℕ)
-    {b : Body} {pending : List ℕ} {answer : TableAnswer} {b' : Body} {pending' : List ℕ} (m : ImageRead words capacity b pending answer b' pending') where
+    {b : Body} {pending : List ℕ} {answer : Result Header Refusal} {b' : Body} {pending' : List ℕ} (m : ImageRead words capacity b pending answer b' pending') where
   image_is : m.decoded.image ≡ some (saved_image r saved)
   image_is = reads_unique words _ _ m.decoded.reads (saved_reads r saved)
 
@@ -44,19 +47,19 @@ module _ {p : Plain} {s : Stores} (r : Represents p s) {words : List ℕ} (saved
   unfolding read_refusal Option-elim first_refusal
   number_is = rw (image_is, sound_is)
 
-  pub refusal_is : outcome (table_view answer) ≡ reply left_number tt
+  pub refusal_is : outcome (answer_view answer) ≡ reply left_number tt
   refusal_is = rw (← number_is) m.refusal
 
-  module _ (h : Header) (e : answer ≡ Table h) where
+  module _ (h : Header) (e : answer ≡ Ok h) where
     none_left : left_number ≡ 0
-    unfolding table_view
+    unfolding answer_view
     none_left = accepted_none h left_number (rw e at refusal_is)
 
     loaded : Loaded (saved_image r saved) capacity b pending answer b' pending'
     loaded = m.loaded (saved_image r saved) image_is (number_is ∙ none_left)
 
     header_is : h ≡ after
-    unfolding table_view
+    unfolding answer_view
     header_is = let q : ◌≡◌ {A = Reply Header} (accepted h) (accepted after) = (rw e at loaded.answers) in cc
 
     inside : Inside after

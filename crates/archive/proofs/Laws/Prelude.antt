@@ -16,8 +16,6 @@ pub use Rattle.history.proofs.Laws.Narrowing.{narrowed_rising, narrowed_wanted}
 pub use Rattle.history.proofs.Laws.Theorem.{run_narrows}
 pub use Rattle.image_spec.specs.Image.{Image, SoundImage, image_of, image_words}
 pub use Rattle.image_spec.specs.Laws.Unique.{Parts, image_parts, length_encoded, length_packed, parts_image, reads_unique}
-pub use Rattle.image_spec.specs.declared.LengthAnswer.{LengthAnswer}
-pub use Rattle.image_spec.specs.declared.LengthAnswer.TheVariants.{Length}
 pub use Rattle.lists.specs.Laws.All.{or_no_left, or_no_right}
 pub use Rattle.lists.specs.Laws.Filter.{split}
 pub use Rattle.lists.specs.Laws.Parts.{length_splice}
@@ -39,9 +37,8 @@ pub use Rattle.table.proofs.Laws.Pending.{holds_fits}
 pub use Rattle.table.proofs.Laws.Refusals.{Inside, outside_inside}
 pub use Rattle.table.proofs.Laws.Shown.{LongEnough, represents_inside, represents_long, stores_long}
 pub use Rattle.table.proofs.Laws.Sound.{represents_sound, sound_represents}
-pub use Rattle.table.specs.Numbers.{largest_view, opening_of, table_view}
+pub use Rattle.refusals.specs.Refusals.{answer_view}
+pub use Rattle.table.specs.Numbers.{largest_view, opening_of}
 pub use Rattle.table.specs.Refusing.{outside}
 pub use Rattle.table.specs.Sound.{Sound, SoundContents}
 pub use Rattle.table.specs.declared.Header.{Header}
-pub use Rattle.table.specs.declared.TableAnswer.{TableAnswer}
-pub use Rattle.table.specs.declared.TableAnswer.TheVariants.{Table}

@@ -1,5 +1,5 @@
 -- A plain table with another capacity. Assumes nothing.
-use Rattle.archive.proofs.Laws.Prelude.{ℕ, zero, suc, ◌+◌, ◌≡◌, refl, ap, ap₂, ◌∙◌, Bool, not, ◌&&◌, List, [], ◌∷◌, Plain, resized}
+use Rattle.archive.proofs.Laws.Prelude.{ℕ, ◌+◌, ◌≡◌, refl, ap, ap₂, Bool, not, ◌&&◌, List, [], ◌∷◌}
 use Rattle.lists.specs.Lists.{all}
 use Rattle.plain_table.specs.Staged.{Opening, Staged, insert, remove_key, remove_row, words_of, words_all}
 use Rattle.plain_table.specs.Refusing.{wrong_width}

@@ -1,10 +1,10 @@
 -- The words that `write_image` leaves are an image of the table, of a sound one if the table is. Assumes nothing.
-use Rattle.archive.proofs.Laws.Prelude.{ℕ, zero, suc, ◌+◌, ◌*◌, ◌/◌, ◌≤◌, ◌≡◌, refl, sym, ap, ◌∙◌, true, false, List, [], ◌∷◌, ◌++◌, Option, none, some, le_refl, mul-le-mul_right, arith, length, take, drop, length-append, length-take-le, take-take, take_at, ltb-false, le-leb, eq-eqb, crc32, bytes_of, first_refusal_no, first_refusal_rest, Plain, Header, opening_of, SoundContents, Stores, Represents, represents_long, represents_inside, Inside, outside_inside, holds_fits, represents_sound, encode_header, Parts, image_parts, parts_image, length_encoded, length_packed, Saved}
+use Rattle.archive.proofs.Laws.Prelude.{ℕ, zero, suc, ◌*◌, ◌≤◌, ◌≡◌, refl, sym, ap, ◌∙◌, List, [], ◌∷◌, ◌++◌, some, le_refl, mul-le-mul_right, arith, length, take, length-append, length-take-le, take-take, take_at, ltb-false, crc32, bytes_of, first_refusal_no, first_refusal_rest, Plain, opening_of, Stores, Represents, represents_long, represents_inside, Inside, outside_inside, holds_fits, represents_sound, encode_header, Parts, parts_image, length_encoded, length_packed, Saved}
 use Rattle.lists.specs.Lists.{splice}
-use Rattle.refusals.specs.Refusals.{Reply, refused, accepted, reply}
-use Rattle.image_spec.specs.Image.{Image, packed, image_body, image_words, is_image, Reads, reads, SoundImage, image_of, image_length}
-use Rattle.image_spec.specs.Outcomes.{length_view, write_refusal}
-use Rattle.archive.proofs.Laws.Contents.{SameInUse, contents_same}
+use Rattle.refusals.specs.Refusals.{Reply, accepted, reply, answer_view}
+use Rattle.image_spec.specs.Image.{Image, packed, image_body, image_words, Reads, reads, SoundImage, image_of, image_length}
+use Rattle.image_spec.specs.Outcomes.{write_refusal}
+use Rattle.archive.proofs.Laws.Contents.{contents_same}
 
 -- ---- lengths
 
@@ -41,7 +41,7 @@ module _ {p : Plain} {s : Stores} (r : Represents p s) {words : List ℕ} (saved
   refusal = write_refusal s.header (length s.rows) (length s.sorts) (length s.pending) (length saved.text) (length saved.output)
 
   accepted_size : (refusal ≡ 0) × (saved.count ≡ image_length s.header (length saved.text))
-  unfolding refusal length_view
+  unfolding refusal answer_view
   accepted_size = accepted_number refusal _ _ saved.written.effect.answers
 
   inside : Inside s.header

@@ -1,9 +1,12 @@
 -- What archives guarantee. Assumes nothing but the contracts that the definitions cite.
-use Rattle.archive.proofs.Laws.Prelude.{ℕ, zero, suc, ◌*◌, ◌≤◌, ◌≡◌, refl, sym, ap, ◌∙◌, Bool, true, false, not, ◌||◌, List, [], ◌∷◌, ◌++◌, inl, inr, Option, none, some, mul-le-mul_right, arith, length, take, append-nil, ltb, eqb, take_all, ltb-false, ne_eqb, not-false, le-ltb, splice, or_no_left, or_no_right, length_splice, Opening, stores_short, Plain, opened, LentCall, after, after_all, first_refusal_no, first_refusal_rest, Header, TableAnswer, Table, Sound, Stores, stores, Body, body, body_of, joined, lengths, Represents, LongEnough, stores_long, Inside, outside_inside, sound_represents, live_shown, long_header, pending_part, pending_more, body_part, body_more, Length, LengthAnswer, Image, image_words, SoundImage, image_of, Parts, image_parts, reads_unique, behind, Step, step_represents, history_represents, narrowed_wanted, narrowed_rising, run_narrows, Saved, resized, ReadAfterWrite, ImageOfLoaded, Reloaded, reloaded, Archived, made, loads, goes_on, Archives}
-use Rattle.refusals.specs.Refusals.{check, first_refusal, Reply, refused, accepted, reply, outcome, Effect}
-use Rattle.table.specs.Numbers.{opening_of, table_view}
+use Rattle.refusals.specs.declared.Refusal.{Refusal}
+use Rattle.std.specs.Prelude.{Result, Ok}
+use Rattle.archive.proofs.Laws.Prelude.{ℕ, ◌*◌, ◌≤◌, ◌≡◌, refl, sym, ap, ◌∙◌, Bool, false, not, ◌||◌, List, [], ◌∷◌, inl, inr, Option, some, mul-le-mul_right, arith, length, take, append-nil, ltb, eqb, take_all, ltb-false, ne_eqb, not-false, le-ltb, splice, or_no_left, or_no_right, length_splice, stores_short, Plain, first_refusal_no, first_refusal_rest, Header, Sound, Stores, Body, body, joined, lengths, Represents, LongEnough, stores_long, Inside, outside_inside, sound_represents, live_shown, long_header, pending_part, pending_more, body_part, body_more, Image, image_words, SoundImage, image_of, Parts, image_parts, reads_unique, behind, step_represents, history_represents, narrowed_wanted, narrowed_rising, run_narrows, Saved, ReadAfterWrite, ImageOfLoaded, reloaded, Archived, made, loads, goes_on, Archives}
+use Rattle.refusals.specs.Refusals.{check, first_refusal, Reply, accepted, reply, Effect}
+use Rattle.refusals.specs.Refusals.{answer_view}
+use Rattle.table.specs.Numbers.{opening_of}
 use Rattle.table.specs.Refusing.{outside, pending_outside, rows_short, pairs_short, sound_refusal}
-use Rattle.image_spec.specs.Outcomes.{length_view, write_refusal, with_capacity, read_refusal, Loaded, ImageRead, text_refusal, text_of, TextRead}
+use Rattle.image_spec.specs.Outcomes.{write_refusal, with_capacity, read_refusal, Loaded, ImageRead, text_refusal, text_of, TextRead}
 use Rattle.history.specs.Claim.{live_in, Claimed}
 use Rattle.archive.proofs.Laws.Contents.{SameInUse, contents_same}
 use Rattle.archive.proofs.Laws.Resized.{SameShape, all_words_same, all_widths_same}
@@ -14,15 +17,15 @@ use Rattle.std.proofs.Math.Option.{Option-elim}
 
 -- ---- loading after saving
 
-pub read_after_write : (p : Plain) (s : Stores) (words : List ℕ) (capacity : ℕ) (b : Body) (pending : List ℕ) (answer : TableAnswer) (b' : Body) (pending' : List ℕ)
+pub read_after_write : (p : Plain) (s : Stores) (words : List ℕ) (capacity : ℕ) (b : Body) (pending : List ℕ) (answer : Result Header Refusal) (b' : Body) (pending' : List ℕ)
     → Represents p s → Saved s words → ImageRead words capacity b pending answer b' pending'
     → ReadAfterWrite p s capacity b pending answer b' pending'
 read_after_write p s words capacity b pending answer b' pending' r saved m =
     record { refusal = refusal_is r saved capacity m; represents = loaded_represents r saved capacity m }
 
 pub text_after_write : (p : Plain) (s : Stores) (words : List ℕ) → Represents p s → (saved : Saved s words)
-    → (output : List ℕ) (answer : LengthAnswer) (output' : List ℕ) → TextRead words output answer output'
-    → Effect (first_refusal (check (ltb (length output) (length saved.text)) 2 ∷ [])) (length_view answer) (length saved.text) output output' (splice output 0 saved.text)
+    → (output : List ℕ) (answer : Result ℕ Refusal) (output' : List ℕ) → TextRead words output answer output'
+    → Effect (first_refusal (check (ltb (length output) (length saved.text)) 2 ∷ [])) (answer_view answer) (length saved.text) output output' (splice output 0 saved.text)
 unfolding text_refusal text_of Option-elim
 text_after_write p s words r saved output answer output' m =
     let e : m.image ≡ some (saved_image r saved) = reads_unique words _ _ m.reads (saved_reads r saved) in
@@ -42,9 +45,9 @@ capacity_back h i capacity e own = ap (λ (x : Header). with_capacity x i.capaci
 at_header : {p : Plain} (h k : Header) (b : Body) (pending : List ℕ) → h ≡ k → Represents p (joined k b pending) → Represents p (joined h b pending)
 at_header h k b pending e r = rw e r
 
-module _ (words : List ℕ) (capacity : ℕ) (b : Body) (pending : List ℕ) (h : Header) (b' : Body) (pending' : List ℕ) (m : ImageRead words capacity b pending (Table h) b' pending') where
+module _ (words : List ℕ) (capacity : ℕ) (b : Body) (pending : List ℕ) (h : Header) (b' : Body) (pending' : List ℕ) (m : ImageRead words capacity b pending (Ok h) b' pending') where
   none_refused : read_refusal m.decoded.image m.decoded.sound capacity b pending ≡ 0
-  unfolding table_view
+  unfolding answer_view
   none_refused = accepted_none h _ m.refusal
 
   -- the image
@@ -59,14 +62,14 @@ module _ (words : List ℕ) (capacity : ℕ) (b : Body) (pending : List ℕ) (h 
   abbrev image : Image
   image = accepted_image.image
 
-  loaded : Loaded image capacity b pending (Table h) b' pending'
+  loaded : Loaded image capacity b pending (Ok h) b' pending'
   loaded = m.loaded image accepted_image.is_read none_refused
 
   parts : Parts image
   parts = image_parts image accepted_image.passes
 
   header_is : h ≡ with_capacity image.header capacity
-  unfolding table_view
+  unfolding answer_view
   header_is = let q : ◌≡◌ {A = Reply Header} (accepted h) (accepted (with_capacity image.header capacity)) = loaded.answers in cc
 
   -- its capacity is not 0
@@ -199,7 +202,7 @@ module _ (words : List ℕ) (capacity : ℕ) (b : Body) (pending : List ℕ) (h 
 
 module _ {p : Plain} {s : Stores} (rows sorts pending : List ℕ) (r : Represents p (behind s (body rows [] sorts) pending)) {words : List ℕ} (saved : Saved s words) where
   none_short : write_refusal s.header (length s.rows) (length s.sorts) (length s.pending) (length saved.text) (length saved.output) ≡ 0
-  unfolding length_view
+  unfolding answer_view
   none_short = (accepted_number _ _ _ saved.written.effect.answers).0
 
   -- what `write_image` is lent represents the table as well

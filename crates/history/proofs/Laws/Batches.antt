@@ -1,9 +1,10 @@
 -- A batch of inserts may be cut anywhere. Assumes nothing but the contracts that batches consist of.
-use Rattle.history.proofs.Laws.Prelude.{ℕ, ◌≡◌, sym, ap, ◌∙◌, List, map, arith, length, insert, Header, Merge, Merged, Table, stage_refusal, merge_refusal, accepted_number, stage_accepted, merge_accepted, staging_done, merging_done, pending_part, pending_more, body_part, body_more, sound_represents, live_shown, behind}
+use Rattle.std.specs.Prelude.{Ok}
+use Rattle.history.proofs.Laws.Prelude.{ℕ, ◌≡◌, sym, ap, ◌∙◌, List, map, arith, length, insert, Header, Merge, stage_refusal, merge_refusal, accepted_number, stage_accepted, merge_accepted, staging_done, merging_done, pending_part, pending_more, body_part, body_more, sound_represents, live_shown, behind}
 use Rattle.refusals.specs.Refusals.{Reply, accepted, outcome, if_accepted}
 use Rattle.plain_table.specs.Plain.{Plain, Numbered, merged as mergedPlain, stage as stagePlain}
 use Rattle.plain_table.proofs.Laws.Batches.{batch, live_cells, cut_anywhere}
-use Rattle.table.specs.Numbers.{table_view, merge_view}
+use Rattle.refusals.specs.Refusals.{answer_view}
 use Rattle.table.specs.Outcomes.{Stores, Body, body_of, joined, CompactionWords, lengths_lent, Represents, merge_of, Staging, Merging}
 use Rattle.history.specs.Claim.{live_in}
 use Rattle.history.specs.Batches.{Batch, merge, stage, live_cells_in, CutAnywhere}
@@ -12,18 +13,18 @@ use Rattle.history.specs.Batches.{Batch, merge, stage, live_cells_in, CutAnywher
 
 module _ {p : Plain} (s : Stores) (rest : Body) (more : List ℕ) (r : Represents p (behind s rest more)) where
   -- an accepted staging
-  stage_represents : {row pending' : List ℕ} {h : Header} → Staging s.header s.pending (insert row) (Table h) pending'
+  stage_represents : {row pending' : List ℕ} {h : Header} → Staging s.header s.pending (insert row) (Ok h) pending'
       → Represents (stagePlain p (insert row)) (behind (joined h (body_of s) pending') rest more)
-  unfolding table_view if_accepted
+  unfolding answer_view if_accepted
   stage_represents {row} {h = h} m =
       let n = accepted_number (stage_refusal s.header (length s.pending) (insert row)) h _ m.answers in
       let k = (stage_accepted s.header (length s.pending) (insert row) n).free in
       pending_more more (staging_done m n (pending_part more r (omega arith)))
 
   -- an accepted merge, and its status
-  merge_represents : {w w' : CompactionWords} {m : Merge} {b' : Body} → Merging s w (Merged m) b' w'
+  merge_represents : {w w' : CompactionWords} {m : Merge} {b' : Body} → Merging s w (Ok m) b' w'
       → Represents (mergedPlain p).table (behind (joined m.header b' s.pending) rest more) × (m.status ≡ (mergedPlain p).status)
-  unfolding merge_view if_accepted outcome
+  unfolding answer_view if_accepted outcome
   merge_represents {w} {m = m} c =
       let n = accepted_number (merge_refusal s.header (lengths_lent s w)) tt tt c.refusal in
       let k = merge_accepted s.header (lengths_lent s w) n in

@@ -1,11 +1,16 @@
 -- Every call takes stores that show a plain table to stores that show the plain table after the same call. So does a history.
 -- Assumes nothing.
-use Rattle.history.proofs.Laws.Prelude.{ℕ, ◌*◌, ◌≤◌, ◌<◌, ◌≡◌, refl, sym, ◌∙◌, inl, inr, List, [], append-nil, arith, length, some_number, Opening, Staged, Plain, opened, Refresh, refused_nothing, accepted_done, whole_right, TableAnswer, MergeAnswer, stage_refusal, merge_refusal, compact_refusal, clear_refusal, Stores, Represents, Staging, Merging, Compacting, Clearing, Body, body, body_of, joined, CompactionWords, lengths_lent, stage_checks_lem, merge_checks_lem, compact_checks_lem, clear_checks_lem, stage_accepted, merge_accepted, compact_accepted, clear_accepted, opening_done, staging_done, staging_refused, merging_done, merging_refused, compacting_done, compacting_refused, clearing_done, clearing_refused, pending_part, pending_more, rows_part, rows_more, keys_part, keys_more, body_part, body_more, RefreshAnswer, IndexSound, refresh_view, Refreshing, refresh_refusal_same, records_all, records_whole, number, found_records, passed, refreshing_done, refreshing_refused, fed_accepted, fed_refused, lent_call, Called, stages, merges, compacts, clears, refreshes, refreshes_unsound, behind, Step, called, Steps, end, next, History}
+use Rattle.refresh_spec.specs.declared.Refreshed.{Refreshed}
+use Rattle.table.specs.declared.Merge.{Merge}
+use Rattle.table.specs.declared.Header.{Header}
+use Rattle.refusals.specs.declared.Refusal.{Refusal}
+use Rattle.std.specs.Prelude.{Result}
+use Rattle.history.proofs.Laws.Prelude.{ℕ, ◌*◌, ◌≤◌, ◌<◌, ◌≡◌, refl, sym, ◌∙◌, inl, inr, List, [], append-nil, arith, length, some_number, Opening, Staged, Plain, opened, Refresh, refused_nothing, accepted_done, whole_right, stage_refusal, merge_refusal, compact_refusal, clear_refusal, Stores, Represents, Staging, Merging, Compacting, Clearing, Body, body, body_of, joined, CompactionWords, lengths_lent, stage_checks_lem, merge_checks_lem, compact_checks_lem, clear_checks_lem, stage_accepted, merge_accepted, compact_accepted, clear_accepted, opening_done, staging_done, staging_refused, merging_done, merging_refused, compacting_done, compacting_refused, clearing_done, clearing_refused, pending_part, pending_more, rows_part, rows_more, keys_part, keys_more, body_part, body_more, IndexSound, Refreshing, refresh_refusal_same, records_all, records_whole, number, found_records, passed, refreshing_done, refreshing_refused, fed_accepted, fed_refused, lent_call, Called, stages, merges, compacts, clears, refreshes, refreshes_unsound, behind, Step, called, Steps, end, next, History}
 use Rattle.lists.specs.Lists.{any}
 use Rattle.refusals.specs.Refusals.{first_refusal, if_accepted}
 use Rattle.plain_table.specs.Refusing.{Lengths, stores_short, words_short, compact_checks}
 use Rattle.plain_table.specs.Calls.{Call, staging, merging, compacting, clearing, refreshing, feeding, records_of, stage_all, refusal, done, after, LentCall, after_all}
-use Rattle.table.specs.Numbers.{table_view, merge_view}
+use Rattle.refusals.specs.Refusals.{answer_view}
 
 -- ---- the calls
 
@@ -22,8 +27,8 @@ module _ {p : Plain} (s : Stores) (rest : Body) (more : List ℕ) (r : Represent
   stays : (l : Lengths) (c : Call) (t : Stores) → 0 < refusal p l c → t ≡ s → Represents (after p l c) (behind t rest more)
   stays l c t h e = rw (refused_nothing p l c h) (unchanged t e)
 
-  staged_represents : (w : CompactionWords) (q : Staged) (answer : TableAnswer) (pending' : List ℕ) → Staging s.header s.pending q answer pending'
-      → Represents (after p (lent_call (staging q) s w).lengths (staging q)) (behind (joined (if_accepted (table_view answer) (λ h. h) s.header) (body_of s) pending') rest more)
+  staged_represents : (w : CompactionWords) (q : Staged) (answer : Result Header Refusal) (pending' : List ℕ) → Staging s.header s.pending q answer pending'
+      → Represents (after p (lent_call (staging q) s w).lengths (staging q)) (behind (joined (if_accepted (answer_view answer) (λ h. h) s.header) (body_of s) pending') rest more)
   unfolding done
   staged_represents w q answer pending' m =
       let l = (lent_call (staging q) s w).lengths in
@@ -36,8 +41,8 @@ module _ {p : Plain} (s : Stores) (rest : Body) (more : List ℕ) (r : Represent
         | inr h ↦ stays l (staging q) _ (rw same at h) (staging_refused m h)
       ]
 
-  merged_represents : (w : CompactionWords) (answer : MergeAnswer) (b' : Body) (w' : CompactionWords) → Merging s w answer b' w'
-      → Represents (after p (lengths_lent s w) merging) (behind (joined (if_accepted (merge_view answer) (λ m. m.header) s.header) b' s.pending) rest more)
+  merged_represents : (w : CompactionWords) (answer : Result Merge Refusal) (b' : Body) (w' : CompactionWords) → Merging s w answer b' w'
+      → Represents (after p (lengths_lent s w) merging) (behind (joined (if_accepted (answer_view answer) (λ m. m.header) s.header) b' s.pending) rest more)
   unfolding done
   merged_represents w answer b' w' m =
       let l = lengths_lent s w in
@@ -51,8 +56,8 @@ module _ {p : Plain} (s : Stores) (rest : Body) (more : List ℕ) (r : Represent
         | inr h ↦ stays l merging _ (rw same at h) (merging_refused m h)
       ]
 
-  compacted_represents : (w : CompactionWords) (answer : TableAnswer) (b' : Body) (w' : CompactionWords) → Compacting s.header (body_of s) w answer b' w'
-      → Represents (after p (lengths_lent s w) compacting) (behind (joined (if_accepted (table_view answer) (λ h. h) s.header) b' s.pending) rest more)
+  compacted_represents : (w : CompactionWords) (answer : Result Header Refusal) (b' : Body) (w' : CompactionWords) → Compacting s.header (body_of s) w answer b' w'
+      → Represents (after p (lengths_lent s w) compacting) (behind (joined (if_accepted (answer_view answer) (λ h. h) s.header) b' s.pending) rest more)
   unfolding done
   compacted_represents w answer b' w' m =
       let l = lengths_lent s w in
@@ -66,8 +71,8 @@ module _ {p : Plain} (s : Stores) (rest : Body) (more : List ℕ) (r : Represent
         | inr h ↦ stays l compacting _ (rw same at h) (compacting_refused m h)
       ]
 
-  cleared_represents : (w : CompactionWords) (answer : TableAnswer) (keys' : List ℕ) → Clearing s.header s.keys answer keys'
-      → Represents (after p (lent_call clearing s w).lengths clearing) (behind (joined (if_accepted (table_view answer) (λ h. h) s.header) (body s.rows keys' s.sorts) s.pending) rest more)
+  cleared_represents : (w : CompactionWords) (answer : Result Header Refusal) (keys' : List ℕ) → Clearing s.header s.keys answer keys'
+      → Represents (after p (lent_call clearing s w).lengths clearing) (behind (joined (if_accepted (answer_view answer) (λ h. h) s.header) (body s.rows keys' s.sorts) s.pending) rest more)
   unfolding done
   cleared_represents w answer keys' m =
       let l = (lent_call clearing s w).lengths in
@@ -80,10 +85,10 @@ module _ {p : Plain} (s : Stores) (rest : Body) (more : List ℕ) (r : Represent
         | inr h ↦ stays l clearing _ (rw same at h) (clearing_refused m h)
       ]
 
-  module _ {q : Refresh} {index pending' index' : List ℕ} {answer : RefreshAnswer} (m : Refreshing s.header s.rows s.pending index q answer pending' index') where
+  module _ {q : Refresh} {index pending' index' : List ℕ} {answer : Result Refreshed Refusal} (m : Refreshing s.header s.rows s.pending index q answer pending' index') where
     -- the lent stores after a refresh, with the cells behind them
     abbrev stores_refreshed : Stores
-    stores_refreshed = behind (joined (if_accepted (refresh_view answer) (λ a. a.header) s.header) (body_of s) pending') rest more
+    stores_refreshed = behind (joined (if_accepted (answer_view answer) (λ a. a.header) s.header) (body_of s) pending') rest more
 
     -- if accepted, it has staged the records that it found
     found_represents : number m ≡ 0 → Represents (stage_all p (found_records m)) stores_refreshed
@@ -110,7 +115,7 @@ module _ {p : Plain} (s : Stores) (rest : Body) (more : List ℕ) (r : Represent
         ]
 
     -- over an unsound one the plain table is fed these records; none has a wrong width
-    pub fed_right : (l : Lengths) → refusal p l (feeding (if_accepted (refresh_view answer) (λ a. found_records m) [])) ≡ 0
+    pub fed_right : (l : Lengths) → refusal p l (feeding (if_accepted (answer_view answer) (λ a. found_records m) [])) ≡ 0
     unfolding refusal first_refusal any
     fed_right l =
         elim (some_number (number m)) [
@@ -118,10 +123,10 @@ module _ {p : Plain} (s : Stores) (rest : Body) (more : List ℕ) (r : Represent
           | inr h ↦ rw (fed_refused m h)
         ]
 
-    fed_represents : (l : Lengths) → Represents (after p l (feeding (if_accepted (refresh_view answer) (λ a. found_records m) []))) stores_refreshed
+    fed_represents : (l : Lengths) → Represents (after p l (feeding (if_accepted (answer_view answer) (λ a. found_records m) []))) stores_refreshed
     unfolding done stage_all
     fed_represents l =
-        goes p l (feeding (if_accepted (refresh_view answer) (λ a. found_records m) [])) (fed_right l)
+        goes p l (feeding (if_accepted (answer_view answer) (λ a. found_records m) [])) (fed_right l)
         (elim (some_number (number m)) [
           | inl e ↦ rw (fed_accepted m e) (found_represents e)
           | inr h ↦ rw (fed_refused m h, append-nil p.staged) (unchanged _ (refreshing_refused m h))
@@ -149,7 +154,7 @@ steps_represents {p = p} r (next {c = c} step steps) = steps_represents {p = aft
 
 -- an accepted opening
 pub opened_represents : {o : Opening} {generation : ℕ} {calls : List LentCall} {s : Stores} (h : History o generation calls s) → Represents (opened o generation) (behind h.start h.rest h.pending)
-unfolding table_view
+unfolding answer_view
 opened_represents h = pending_more h.pending (body_more h.rest (opening_done h.opened h.start.header refl))
 
 -- "each on the header and the .. stores as the last left them": the stores show the plain table after the same calls

@@ -1,10 +1,10 @@
 -- The outcome of calls is determined by the table and the cells before them, whatever each call chose for the key store: the same
 -- calls on two tables that differ only in the key store leave two tables that differ only there. Assumes nothing.
-use Rattle.history.proofs.Laws.Prelude.{ℕ, zero, suc, ◌<◌, ◌≡◌, refl, sym, ap, ◌∙◌, cond, List, [], ◌∷◌, ◌++◌, map, arith, eqb, length, take, drop, ne_eqb, splice, rows_of, flatten, Plain, applied, merged, compacted, Header, compact_refusal, row_store, sort_store, record_words, Stores, Body, body_of, joined, lengths_lent, Represents, merged_store, MergedTable, CompactedTable, stage_checks_lem, merge_checks_lem, compact_checks_lem, merge_accepted, compact_accepted, pending_part, body_part, refresh_view, found_records, passed, fed_written, lent_call, Called, stages, merges, compacts, clears, refreshes, refreshes_unsound, behind, Step, called, Steps, end, next}
+use Rattle.history.proofs.Laws.Prelude.{ℕ, zero, suc, ◌<◌, ◌≡◌, refl, sym, ap, ◌∙◌, cond, List, [], ◌∷◌, ◌++◌, map, arith, eqb, length, take, drop, ne_eqb, splice, rows_of, flatten, Plain, applied, merged, compacted, Header, compact_refusal, row_store, sort_store, record_words, Stores, Body, body_of, joined, lengths_lent, Represents, merged_store, MergedTable, CompactedTable, stage_checks_lem, merge_checks_lem, compact_checks_lem, merge_accepted, compact_accepted, pending_part, body_part, found_records, passed, fed_written, lent_call, Called, stages, merges, compacts, clears, refreshes, refreshes_unsound, behind, Step, called, Steps, end, next}
 use Rattle.plain_table.specs.Refusing.{stores_short, words_short, compact_checks}
 use Rattle.plain_table.specs.Calls.{Call, staging, merging, compacting, clearing, refreshing, feeding, records_of, refusal, after, LentCall}
 use Rattle.history.proofs.Laws.Calls.{own_records, refresh_same, fed_right, step_represents}
-use Rattle.refusals.specs.Refusals.{if_accepted}
+use Rattle.refusals.specs.Refusals.{if_accepted, answer_view}
 
 -- equal in everything but the key store
 pub record SameCells (s t : Stores) : Type 0 where
@@ -113,7 +113,7 @@ module _ {p : Plain} (s : Stores) (rest : Body) (more : List ℕ) (r : Represent
         pending = front_changed n _ s.pending more pending' (λ e. rw (own_records s rest more r m sound (passed m (same ∙ e)).rows_long) at (m.effect.written (same ∙ e))) (λ e. m.effect.unchanged (rw same e));
       }
   called_leaves (refreshes_unsound w q index answer pending' index' m unsound) =
-      let c = lent_call (feeding (if_accepted (refresh_view answer) (λ a. found_records m) [])) s w in
+      let c = lent_call (feeding (if_accepted (answer_view answer) (λ a. found_records m) [])) s w in
       let n : ℕ = refusal p c.lengths c.call in
       record {
         rows = front_changed n _ s.rows rest.rows s.rows (λ e. refl) (λ e. refl);

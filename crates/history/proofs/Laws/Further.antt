@@ -1,5 +1,6 @@
 -- Calls that are lent the whole stores, and histories that continue: calls after calls, and calls after a history. Assumes nothing.
-use Rattle.history.proofs.Laws.Prelude.{ℕ, ◌≡◌, List, [], ◌++◌, append-nil, Opening, LentCall, Table, Stores, stores, body, Opened, Called, behind, Step, called, Steps, end, next, History}
+use Rattle.std.specs.Prelude.{Ok}
+use Rattle.history.proofs.Laws.Prelude.{ℕ, ◌≡◌, List, [], ◌++◌, append-nil, Opening, LentCall, Stores, stores, body, Opened, Called, behind, Step, called, Steps, end, next, History}
 
 -- no cells are behind the lent part
 pub behind_nothing : (s : Stores) → behind s (body [] [] []) [] ≡ s
@@ -22,7 +23,7 @@ history_then h steps =
 
 -- an opening that is lent the whole stores, and the calls after it
 pub history_whole : {o : Opening} {generation : ℕ} {calls : List LentCall} {start s : Stores} (keys_before : List ℕ)
-    → Opened o generation (body start.rows keys_before start.sorts) start.pending (Table start.header) start.keys
+    → Opened o generation (body start.rows keys_before start.sorts) start.pending (Ok start.header) start.keys
     → Steps start calls s → History o generation calls s
 history_whole {start = start} keys_before opened steps =
     record { start = start; keys_before = keys_before; opened = opened; rest = body [] [] []; pending = []; steps = rw (behind_nothing start) steps }

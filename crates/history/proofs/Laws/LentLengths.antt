@@ -1,6 +1,7 @@
 -- An example: store lengths differ from call to call. A table of 3 columns and capacity 4 is opened, a compaction is lent 11 of its
 -- 12 row cells and therefore refused, and a merge that is lent all of them is accepted. Assumes nothing.
-use Rattle.history.proofs.Laws.Prelude.{ℕ, ◌≡◌, refl, sym, ap, List, [], ◌∷◌, Option, none, some, arith, length, merging, compacting, Header, Merge, Merged, empty_header, empty_represents, opened_done}
+use Rattle.refusals.specs.declared.Refusal.TheVariants.{TooShort}
+use Rattle.history.proofs.Laws.Prelude.{ℕ, ◌≡◌, refl, sym, ap, List, [], ◌∷◌, Option, none, some, arith, length, merging, compacting, Header, Merge, empty_header, empty_represents, opened_done}
 use Rattle.lists.specs.Lists.{splice, count, rows_of, flatten}
 use Rattle.refusals.specs.Refusals.{first_refusal, reply, outcome, if_accepted}
 use Rattle.sort_entries.specs.Entries.{entry_words, rebuilt_from, rebuilt}
@@ -8,9 +9,9 @@ use Rattle.key_index.specs.Slots.{size_class, size_class_for}
 use Rattle.plain_table.specs.Staged.{Opening, openable, Staged, insert, remove_key, remove_row, words_of, words_all, inserts, compaction_due}
 use Rattle.plain_table.specs.Refusing.{Lengths, stores_short, words_short, open_refusal, compact_checks, merge_checks}
 use Rattle.plain_table.specs.Plain.{Plain, Row, dead, opened, removed, insert_all, applied, unstaged, compacts_after, merged}
-use Rattle.std.specs.Prelude.{None}
-use Rattle.table.specs.declared.TableAnswer.TheVariants.{Refused as TableRefused, Table}
-use Rattle.table.specs.Numbers.{opening_of, largest_of, table_view, merge_view}
+use Rattle.std.specs.Prelude.{None, Ok, Err}
+use Rattle.refusals.specs.Refusals.{answer_view}
+use Rattle.table.specs.Numbers.{opening_of, largest_of}
 use Rattle.table.specs.Refusing.{outside, pending_outside, merge_refusal, compact_refusal}
 use Rattle.table.specs.Stores.{entries, stored, row_store, sort_store}
 use Rattle.table.specs.Outcomes.{Stores, stores, Represents, body, CompactionWords, compaction_words, merge_of, merged_store, Opened, Merging, MergedTable, Compacting}
@@ -66,13 +67,13 @@ one_word = compaction_words (0 ∷ []) (0 ∷ [])
 abbrev pub lent_rows : ℕ → Lengths
 lent_rows rows = record { rows = rows; keys = 8; sorts = 8; pending = 0; live_words = 1; base_words = 1 }
 
-pub example_opened : Opened example 0 (body (0 ∷ eleven) eight eight) [] (Table (empty_header example 0)) eight
+pub example_opened : Opened example 0 (body (0 ∷ eleven) eight eight) [] (Ok (empty_header example 0)) eight
 unfolding open_refusal openable stores_short first_refusal splice size_class_for size_class
 example_opened = opened_done example 0 (0 ∷ eleven) eight eight [] eight refl (omega arith) (record { free = refl; tail = refl })
 
 -- refused with 2
-example_compacted : Compacting (empty_header example 0) (body eleven eight eight) one_word (TableRefused 2) (body eleven eight eight) one_word
-unfolding table_view outcome reply compact_refusal compact_checks outside openable stores_short words_short first_refusal
+example_compacted : Compacting (empty_header example 0) (body eleven eight eight) one_word (Err TooShort) (body eleven eight eight) one_word
+unfolding answer_view outcome reply compact_refusal compact_checks outside openable stores_short words_short first_refusal
 example_compacted =
     record { refusal = refl; unchanged = λ some. (refl, refl); past = refl; words_past = (refl, refl); table = λ none. absurd (omega arith) }
 
@@ -80,8 +81,8 @@ abbrev unmoved : Merge
 unmoved = merge_of (opened example 0)
 
 -- accepted, without effect
-example_stays : MergedTable example_stores one_word (Merged unmoved) (body (0 ∷ eleven) eight eight) one_word (opened example 0)
-unfolding merge_view merged_store opened merged applied inserts removed insert_all unstaged compacts_after compaction_due dead count entries rebuilt rebuilt_from stored row_store sort_store rows_of flatten entry_words splice words_all openable stores_short size_class_for size_class
+example_stays : MergedTable example_stores one_word (Ok unmoved) (body (0 ∷ eleven) eight eight) one_word (opened example 0)
+unfolding answer_view merged_store opened merged applied inserts removed insert_all unstaged compacts_after compaction_due dead count entries rebuilt rebuilt_from stored row_store sort_store rows_of flatten entry_words splice words_all openable stores_short size_class_for size_class
 example_stays =
     record {
       answers = refl;
@@ -91,8 +92,8 @@ example_stays =
       words = λ same. refl;
     }
 
-example_merged : Merging example_stores one_word (Merged unmoved) (body (0 ∷ eleven) eight eight) one_word
-unfolding merge_view outcome reply merge_refusal merge_checks pending_outside outside openable stores_short words_short first_refusal
+example_merged : Merging example_stores one_word (Ok unmoved) (body (0 ∷ eleven) eight eight) one_word
+unfolding answer_view outcome reply merge_refusal merge_checks pending_outside outside openable stores_short words_short first_refusal
 example_merged =
     record {
       refusal = refl;
@@ -105,7 +106,7 @@ example_merged =
 pub lengths_differ : History example 0
     (record { call = compacting; lengths = lent_rows 11 } ∷ record { call = merging; lengths = lent_rows 12 } ∷ [])
     example_stores
-unfolding if_accepted table_view merge_view opened merged applied inserts removed insert_all unstaged compacts_after compaction_due dead count entries rebuilt rebuilt_from words_all largest_of
+unfolding if_accepted answer_view opened merged applied inserts removed insert_all unstaged compacts_after compaction_due dead count entries rebuilt rebuilt_from words_all largest_of
 lengths_differ =
     record {
       start = example_stores;
@@ -114,7 +115,7 @@ lengths_differ =
       rest = body [] [] [];
       pending = [];
       steps =
-          next (called {s = stores (empty_header example 0) eleven eight eight []} (body (0 ∷ []) [] []) [] (compact-called one_word (TableRefused 2) (body eleven eight eight) one_word example_compacted))
-          (next (called (body [] [] []) [] (merge-called one_word (Merged unmoved) (body (0 ∷ eleven) eight eight) one_word example_merged))
+          next (called {s = stores (empty_header example 0) eleven eight eight []} (body (0 ∷ []) [] []) [] (compact-called one_word (Err TooShort) (body eleven eight eight) one_word example_compacted))
+          (next (called (body [] [] []) [] (merge-called one_word (Ok unmoved) (body (0 ∷ eleven) eight eight) one_word example_merged))
           (end example_stores));
     }

@@ -34,8 +34,7 @@ pub use Rattle.refresh_spec.proofs.Laws.Decided.{index_decided}
 pub use Rattle.refresh_spec.proofs.Laws.Fronts.{continues, generation_front, index_front, index_more, named_count, new_front}
 pub use Rattle.refresh_spec.proofs.Laws.Keeps.{fed_accepted, fed_refused, fed_written, found_records, number, passed, records_all, records_whole, refresh_refusal_same, refreshing_done, refreshing_refused, view_accepted, view_refused}
 pub use Rattle.refresh_spec.proofs.Laws.Lookup.{lookup_holding, names_of}
-pub use Rattle.refresh_spec.specs.Refreshes.{Refreshing, refresh_view}
-pub use Rattle.refresh_spec.specs.declared.RefreshAnswer.{RefreshAnswer}
+pub use Rattle.refresh_spec.specs.Refreshes.{Refreshing}
 pub use Rattle.refresh_spec.specs.declared.Refreshed.{Refreshed}
 pub use Rattle.refusals.specs.Laws.Replies.{ruled_refused, some_number}
 pub use Rattle.refusals.specs.Refusals.{Reply, accepted, refused}
@@ -53,13 +52,9 @@ pub use Rattle.table.proofs.Laws.Replies.{accepted_number, accepted_same, outcom
 pub use Rattle.table.proofs.Laws.Shown.{represents_inside, row_shown, rows_counted}
 pub use Rattle.table.proofs.Laws.Sound.{largest_view_largest_of, represents_sound, sound_represents}
 pub use Rattle.table.proofs.Laws.Staging.{stage_accepted}
-pub use Rattle.table.specs.Numbers.{largest_view, merge_view, range_view, table_view}
+pub use Rattle.refusals.specs.Refusals.{answer_view}
+pub use Rattle.table.specs.Numbers.{largest_view, range_view}
 pub use Rattle.table.specs.Refusing.{clear_refusal, compact_refusal, merge_refusal, stage_refusal}
 pub use Rattle.table.specs.Stores.{record_words, row_store, sort_store}
 pub use Rattle.table.specs.declared.Header.{Header}
 pub use Rattle.table.specs.declared.Merge.{Merge}
-pub use Rattle.table.specs.declared.MergeAnswer.{MergeAnswer}
-pub use Rattle.table.specs.declared.MergeAnswer.TheVariants.{Merged}
-pub use Rattle.table.specs.declared.RangeAnswer.{RangeAnswer}
-pub use Rattle.table.specs.declared.TableAnswer.{TableAnswer}
-pub use Rattle.table.specs.declared.TableAnswer.TheVariants.{Table}

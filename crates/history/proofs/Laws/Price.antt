@@ -1,12 +1,14 @@
 -- The price of compaction for every history, from the contracts alone. Assumes nothing.
-use Rattle.history.proofs.Laws.Prelude.{ℕ, ◌+◌, ◌≤◌, ◌<◌, ◌≡◌, refl, sym, ap, ◌∙◌, inl, inr, List, [], ◌++◌, arith, length, eq-eqb, ne_eqb, Reply, refused, accepted, some_number, ruled_refused, refused_nothing, accepted_done, live_dead, compacted_live, merged_rows, merged_price, Header, Merge, TableAnswer, MergeAnswer, table_view, merge_view, merge_refusal, compact_refusal, clear_refusal, Stores, Represents, merge_of, Merging, Compacting, Clearing, Body, body_of, joined, CompactionWords, lengths_lent, merge_checks_lem, compact_checks_lem, clear_checks_lem, merge_accepted, compact_accepted, clear_accepted, pending_part, keys_part, body_part, cleared_rows, rows_counted, lent_call, Called, stages, merges, compacts, clears, refreshes, refreshes_unsound, behind, called, Steps, end, next}
+use Rattle.refusals.specs.declared.Refusal.{Refusal}
+use Rattle.std.specs.Prelude.{Result}
+use Rattle.history.proofs.Laws.Prelude.{ℕ, ◌+◌, ◌≤◌, ◌<◌, ◌≡◌, refl, sym, ap, ◌∙◌, inl, inr, List, [], ◌++◌, arith, length, eq-eqb, ne_eqb, Reply, refused, accepted, some_number, ruled_refused, refused_nothing, accepted_done, live_dead, compacted_live, merged_rows, merged_price, Header, Merge, merge_refusal, compact_refusal, clear_refusal, Stores, Represents, merge_of, Merging, Compacting, Clearing, Body, body_of, joined, CompactionWords, lengths_lent, merge_checks_lem, compact_checks_lem, clear_checks_lem, merge_accepted, compact_accepted, clear_accepted, pending_part, keys_part, body_part, cleared_rows, rows_counted, lent_call, Called, stages, merges, compacts, clears, refreshes, refreshes_unsound, behind, called, Steps, end, next}
 use Rattle.plain_table.specs.Plain.{Plain, opened, stage, dead, merge_keeps, merge_drops}
 use Rattle.plain_table.specs.Refusing.{stores_short, words_short, compact_checks}
 use Rattle.plain_table.specs.Calls.{merging, compacting, clearing, stage_all, refusal, done, after, LentCall, after_all}
 use Rattle.plain_table.specs.Appending.{merge_or_clear, by_call, sum_over_merges, merge_adds}
 use Rattle.history.specs.Price.{Wear, wear, wear_of_call, wear_of_steps, PriceOfCompaction}
 use Rattle.history.proofs.Laws.Calls.{step_represents, opened_represents, history_represents}
-use Rattle.refusals.specs.Refusals.{if_accepted}
+use Rattle.refusals.specs.Refusals.{if_accepted, answer_view, number}
 
 -- ---- one call
 
@@ -68,8 +70,8 @@ clearing_wears s h = wear 0 0 0 s.header.rows
 
 -- the lent part of each store, and the cells behind it
 module _ {p : Plain} (s : Stores) (rest : Body) (more : List ℕ) (r : Represents p (behind s rest more)) where
-  merged_balanced : (w : CompactionWords) (answer : MergeAnswer) (b' : Body) (w' : CompactionWords) → Merging s w answer b' w'
-      → Balanced p (record { call = merging; lengths = lengths_lent s w }) (if_accepted (merge_view answer) merging_wears (wear 0 0 0 0))
+  merged_balanced : (w : CompactionWords) (answer : Result Merge Refusal) (b' : Body) (w' : CompactionWords) → Merging s w answer b' w'
+      → Balanced p (record { call = merging; lengths = lengths_lent s w }) (if_accepted (answer_view answer) merging_wears (wear 0 0 0 0))
   unfolding done merge_or_clear
   merged_balanced w answer b' w' m =
       let c : LentCall = record { call = merging; lengths = lengths_lent s w } in
@@ -78,14 +80,14 @@ module _ {p : Plain} (s : Stores) (rest : Body) (more : List ℕ) (r : Represent
       elim (some_number n) [
         | inl e ↦
             let k = merge_accepted s.header (lengths_lent s w) e in
-            let a : merge_view answer ≡ accepted (merge_of p) = (m.table e p (body_part rest (pending_part more r k.pending_fits) k.long)).answers in
-            rw (counted_accepted (merge_view answer) (merge_of p) merging_wears a)
+            let a : answer_view answer ≡ accepted (merge_of p) = (m.table e p (body_part rest (pending_part more r k.pending_fits) k.long)).answers in
+            rw (counted_accepted (answer_view answer) (merge_of p) merging_wears a)
             (done_balanced p c (sym same ∙ e) (merging_wears (merge_of p)) refl refl (merged_price p) (omega (arith, merged_rows p)))
-        | inr h ↦ rw (counted_refused (merge_view answer) n merging_wears (ruled_refused (merge_view answer) n m.refusal h)) (refused_balanced p c (rw same at h))
+        | inr h ↦ rw (counted_refused (answer_view answer) n merging_wears (ruled_refused (answer_view answer) n m.refusal h)) (refused_balanced p c (rw same at h))
       ]
 
-  compacted_balanced : (w : CompactionWords) (answer : TableAnswer) (b' : Body) (w' : CompactionWords) → Compacting s.header (body_of s) w answer b' w'
-      → Balanced p (record { call = compacting; lengths = lengths_lent s w }) (if_accepted (table_view answer) (compacting_wears s) (wear 0 0 0 0))
+  compacted_balanced : (w : CompactionWords) (answer : Result Header Refusal) (b' : Body) (w' : CompactionWords) → Compacting s.header (body_of s) w answer b' w'
+      → Balanced p (record { call = compacting; lengths = lengths_lent s w }) (if_accepted (answer_view answer) (compacting_wears s) (wear 0 0 0 0))
   unfolding done merge_or_clear
   compacted_balanced w answer b' w' m =
       let c : LentCall = record { call = compacting; lengths = lengths_lent s w } in
@@ -96,13 +98,13 @@ module _ {p : Plain} (s : Stores) (rest : Body) (more : List ℕ) (r : Represent
       elim (some_number n) [
         | inl e ↦
             let d : s.header.dead ≡ dead p = ap (λ (h : Header). h.dead) r.shown.header in
-            rw (counted_accepted (table_view answer) _ (compacting_wears s) (m.table e (s.pending ++ more) p (body_part rest r (compact_accepted s.header k e).long)).answers)
+            rw (counted_accepted (answer_view answer) _ (compacting_wears s) (m.table e (s.pending ++ more) p (body_part rest r (compact_accepted s.header k e).long)).answers)
             (done_balanced p c (sym same ∙ e) (wear 0 0 s.header.dead 0) refl refl (omega arith) (omega (arith, d, live_dead p, compacted_live p)))
-        | inr h ↦ rw (counted_refused (table_view answer) n (compacting_wears s) (ruled_refused (table_view answer) n m.refusal h)) (refused_balanced p c (rw same at h))
+        | inr h ↦ rw (counted_refused (answer_view answer) n (compacting_wears s) (ruled_refused (answer_view answer) n m.refusal h)) (refused_balanced p c (rw same at h))
       ]
 
-  cleared_balanced : (w : CompactionWords) (answer : TableAnswer) (keys' : List ℕ) → Clearing s.header s.keys answer keys'
-      → Balanced p (lent_call clearing s w) (if_accepted (table_view answer) (clearing_wears s) (wear 0 0 0 0))
+  cleared_balanced : (w : CompactionWords) (answer : Result Header Refusal) (keys' : List ℕ) → Clearing s.header s.keys answer keys'
+      → Balanced p (lent_call clearing s w) (if_accepted (answer_view answer) (clearing_wears s) (wear 0 0 0 0))
   unfolding done merge_or_clear
   cleared_balanced w answer keys' m =
       let c = lent_call clearing s w in
@@ -113,9 +115,9 @@ module _ {p : Plain} (s : Stores) (rest : Body) (more : List ℕ) (r : Represent
         | inl e ↦
             let k = (clear_accepted s.header (length s.keys) e).keys_long in
             let t = m.table e (s.rows ++ rest.rows) (s.sorts ++ rest.sorts) (s.pending ++ more) p (keys_part rest.keys r k) in
-            rw (counted_accepted (table_view answer) _ (clearing_wears s) t.answers)
+            rw (counted_accepted (answer_view answer) _ (clearing_wears s) t.answers)
             (done_balanced p c (sym same ∙ e) (wear 0 0 0 s.header.rows) refl refl (omega arith) (omega (arith, rows_counted r, cleared_rows p)))
-        | inr h ↦ rw (counted_refused (table_view answer) n (clearing_wears s) (ruled_refused (table_view answer) n m.refusal h)) (refused_balanced p c (rw same at h))
+        | inr h ↦ rw (counted_refused (answer_view answer) n (clearing_wears s) (ruled_refused (answer_view answer) n m.refusal h)) (refused_balanced p c (rw same at h))
       ]
 
   called_balanced : {c : LentCall} {t : Stores} (call : Called s c t) → Balanced p c (wear_of_call call)

@@ -1,10 +1,14 @@
 -- Each query, accepted or refused, narrows the ids that it is given by its own condition or subset, if it counts. Assumes nothing.
-use Rattle.history.proofs.Laws.Prelude.{ℕ, ◌+◌, ◌*◌, ◌≤◌, ◌<◌, ◌≡◌, refl, sym, ap, ◌∙◌, inl, inr, Bool, true, not, ◌||◌, and-true, false≢true, Option, some, List, [], ◌∷◌, mul-le-mul_right, arith, length, take, get_or, length-take, take-take, eqb, ltb-false, leb-true, eqb-true, eqb-false, ne_eqb, not-false, split, and_left, length_filter, count_le, elem_at, filter_elem_comm, or_no_left, or_no_right, get_d_rows_of, rows_of_same, Reply, refused, accepted, Constraint, Entry, entries_of, fast_range, fast_range_lem, entries_of_same, Plain, first_refusal_no, first_refusal_rest, Header, RangeAnswer, range_view, represents_sound, outside_inside, rows_long_of, fast_accepted, outcome_accepted, accepted_number, accepted_same}
+use Rattle.refusals.specs.declared.Refusal.TheVariants.{OutOfBounds, TooShort, MalformedSubset, PastTheRows, NoSuchColumn}
+use Rattle.sort_entries.specs.declared.Range.{Range}
+use Rattle.refusals.specs.declared.Refusal.{Refusal}
+use Rattle.std.specs.Prelude.{Result, Option as Optional}
+use Rattle.history.proofs.Laws.Prelude.{ℕ, ◌+◌, ◌*◌, ◌≤◌, ◌<◌, ◌≡◌, refl, sym, ap, ◌∙◌, inl, inr, Bool, true, not, ◌||◌, and-true, false≢true, Option, some, List, [], ◌∷◌, mul-le-mul_right, arith, length, take, get_or, length-take, take-take, eqb, ltb-false, leb-true, eqb-true, eqb-false, ne_eqb, not-false, split, and_left, length_filter, count_le, elem_at, filter_elem_comm, or_no_left, or_no_right, get_d_rows_of, rows_of_same, Reply, refused, accepted, Constraint, Entry, entries_of, fast_range, fast_range_lem, entries_of_same, Plain, first_refusal_no, first_refusal_rest, Header, range_view, represents_sound, outside_inside, rows_long_of, fast_accepted, outcome_accepted, accepted_number, accepted_same}
 use Rattle.lists.specs.Lists.{filter, all, elem, row_at, rising}
-use Rattle.offsets.specs.declared.SubsetAnswer.{SubsetAnswer}
+use Rattle.offsets.specs.declared.SubsetForm.{SubsetForm}
 use Rattle.offsets.specs.Subsets.{Subset, well_formed, members, size, end_of, retain, narrowed}
 use Rattle.offsets.specs.Answers.{Answered, subset_view, written}
-use Rattle.offsets.specs.Laws.Answers.{written_members, answer_to, intersect_accepted}
+use Rattle.offsets.specs.Laws.Answers.{written_members, Given, given_check, given_none, answer_to, intersect_accepted}
 use Rattle.offsets.specs.Laws.Subsets.{rising_members, length_members, members_below, members_retain, members_narrowed}
 use Rattle.constraints.specs.Constraints.{known, compares, met, meets}
 use Rattle.table.specs.Outcomes.{Stores, Represents, fast_subset, fast_among, RangeRead}
@@ -12,7 +16,7 @@ use Rattle.query_spec.specs.Queries.{matches, past_rows, query_checks, refine_re
 use Rattle.history.specs.Runs.{Query, refines, Outcome, by_reply, Intersected, Queried, one_refined, list_refined, intersected, range_intersected, range_nothing}
 use Rattle.history.specs.Claim.{satisfies}
 use Rattle.history.proofs.Laws.Narrowing.{alive, alive_of, alive_below, alive_live, Narrows, narrows_not, narrows_filter}
-use Rattle.refusals.specs.Refusals.{if_accepted}
+use Rattle.refusals.specs.Refusals.{reply, if_accepted}
 
 -- ---- an answer, read from its output
 
@@ -24,10 +28,16 @@ replied_narrows {s} a (refused n) f = narrows_not s (members a)
 replied_narrows a (accepted v) f = f v refl
 
 -- the ids that a query leaves are those of its reply, whatever its output holds
-pub by_reply_lem : {s : Stores} (a : Subset) (q : Query) (r : Reply Subset) (output : List ℕ)
-    → ((output' : List ℕ) (answer : SubsetAnswer) → Answered r output answer output' → Queried s a q (by_reply a q (subset_view answer output')))
-    → Queried s a q (by_reply a q r)
-by_reply_lem a q r output f = let t = answer_to r output in rw t.1.answers at (f _ t.0 t.1)
+pub by_reply_lem : {s : Stores} (a : Subset) (q : Query) (n : ℕ) (v : Subset) (output : List ℕ) → Given n
+    → ((output' : List ℕ) (answer : Result SubsetForm Refusal) → Answered (reply n v) output answer output' → Queried s a q (by_reply a q (subset_view answer output')))
+    → Queried s a q (by_reply a q (reply n v))
+by_reply_lem a q n v output given f = let t = answer_to n v output given in rw t.1.answers at (f _ t.0 t.1)
+
+-- each check of *Refine* has the number of a refusal
+pub refine_given : (h : Header) (rows : ℕ) (a : Subset) (cs : List Constraint) (output : ℕ) → Given (refine_refusal h rows a cs output)
+unfolding refine_refusal query_checks
+refine_given h rows a cs output =
+    given_check _ OutOfBounds _ (given_check _ TooShort _ (given_check _ MalformedSubset _ (given_check _ PastTheRows _ (given_check _ NoSuchColumn _ (given_check _ TooShort _ given_none)))))
 
 -- ---- refining
 
@@ -99,7 +109,7 @@ refined_fit a output m test v is =
 -- ---- intersecting
 
 -- intersecting leaves the ids that both subsets have, whichever comes first
-intersected_narrows : {s : Stores} {q : Query} (a b : Subset) (output : List ℕ) (answer : SubsetAnswer) (output' : List ℕ) → Intersected a b output answer output'
+intersected_narrows : {s : Stores} {q : Query} (a b : Subset) (output : List ℕ) (answer : Result SubsetForm Refusal) (output' : List ℕ) → Intersected a b output answer output'
     → ((v : Subset) → rising (members a) ≡ true → members v ≡ filter (λ id. elem id (members b)) (members a) → Narrows s (members a) (members v) (q ∷ []))
     → Narrows s (members a) (members (by_reply a q (subset_view answer output')).ids) (by_reply a q (subset_view answer output')).accepted
 intersected_narrows a b output answer output' (inl m) f =
@@ -148,7 +158,7 @@ met_compared row c h = rw (ne_eqb c.kind 0 h)
 entries_lent : (n lent : ℕ) (sorts : List ℕ) → 2 * n ≤ lent → entries_of n (take lent sorts) ≡ entries_of n sorts
 entries_lent n lent sorts h = entries_of_same n (take lent sorts) sorts (take-take (2 * n) lent sorts h)
 
-module _ {p : Plain} {s : Stores} (r : Represents p s) (c : Constraint) (lent : ℕ) (answer : RangeAnswer) (b : Subset) (m : RangeRead s.header (take lent s.sorts) c answer)
+module _ {p : Plain} {s : Stores} (r : Represents p s) (c : Constraint) (lent : ℕ) (answer : Result (Optional Range) Refusal) (b : Subset) (m : RangeRead s.header (take lent s.sorts) c answer)
     (q : range_view answer ≡ accepted (some b)) where
   -- a live row is in the range exactly if it meets the condition: its sort cell is the value recorded for it
   range_met : (id : ℕ) → alive s id ≡ true → elem id (members b) ≡ met (row_at s.header.columns id s.rows) c

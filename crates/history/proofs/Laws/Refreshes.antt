@@ -1,15 +1,18 @@
 -- Index stores remain sound along every history, and refreshes over them have the effect of the plain table's, from the contracts
 -- alone. Assumes nothing.
-use Rattle.history.proofs.Laws.Prelude.{ℕ, ◌+◌, ◌*◌, ◌≤◌, ◌<◌, ◌≡◌, refl, sym, ap, ◌∙◌, inl, inr, true, false, false≢true, List, [], ◌∷◌, ◌++◌, mul-le-mul_right, arith, length, drop, length-drop, take-append-le, drop-append-le, ltb-false, row_in, some_number, is_live, Opening, Plain, openable_bounds, onward_all, follows_length, Header, Stores, Body, body_of, joined, Represents, reply_refused, rows_counted, rows_part, RefreshAnswer, is_new, generation_seen, looked_up, IndexOf, IndexSound, Current, number, found_records, view_accepted, view_refused, passed, index_more, index_front, new_front, generation_front, continues, named_count, names_of, lookup_holding, refreshes, behind, Step, called, end, next, History, refreshing}
+use Rattle.refresh_spec.specs.declared.Refreshed.{Refreshed}
+use Rattle.refusals.specs.declared.Refusal.{Refusal}
+use Rattle.std.specs.Prelude.{Result}
+use Rattle.history.proofs.Laws.Prelude.{ℕ, ◌+◌, ◌*◌, ◌≤◌, ◌<◌, ◌≡◌, refl, sym, ap, ◌∙◌, inl, inr, true, false, false≢true, List, [], ◌∷◌, ◌++◌, mul-le-mul_right, arith, length, drop, length-drop, take-append-le, drop-append-le, ltb-false, row_in, some_number, is_live, Opening, Plain, openable_bounds, onward_all, follows_length, Header, Stores, Body, body_of, joined, Represents, reply_refused, rows_counted, rows_part, is_new, generation_seen, looked_up, IndexOf, IndexSound, Current, number, found_records, view_accepted, view_refused, passed, index_more, index_front, new_front, generation_front, continues, named_count, names_of, lookup_holding, refreshes, behind, Step, called, end, next, History, refreshing}
 use Rattle.lists.specs.Lists.{row_at}
 use Rattle.plain_table.specs.Refreshing.{Refresh, index_short}
 use Rattle.plain_table.specs.Calls.{records_of, LentCall, after, after_all}
-use Rattle.refresh_spec.specs.Refreshes.{refresh_view, answered, Refreshing}
+use Rattle.refresh_spec.specs.Refreshes.{answered, Refreshing}
 use Rattle.history.specs.Refreshes.{OwnIndex, adopted, other_call, refreshes as refreshes-kept, holding, own_refusal, RefreshesOwn, OwnIndexesSound}
 use Rattle.history.proofs.Laws.Calls.{own_records, refresh_same, step_represents, history_represents}
 use Rattle.history.proofs.Laws.Further.{history_then}
 use Rattle.history.proofs.Laws.Notes.{generation_shown, same_now}
-use Rattle.refusals.specs.Refusals.{if_accepted}
+use Rattle.refusals.specs.Refusals.{if_accepted, answer_view}
 use Rattle.history.specs.Histories.{lent_call}
 use Rattle.table.specs.Outcomes.{CompactionWords, compaction_words}
 
@@ -96,8 +99,8 @@ module _ (t : Stores) (rest : Body) (pending lent more : List ℕ) (b : Beside (
       index_again (omega arith) refl (λ i k live. sym (row_front h t.rows rest.rows (rows_long long) i k))
       (index_front h lent more (rows_fit r) (rw n l) o)
 
-  module _ {q : Refresh} {answer : RefreshAnswer} {pending' lent' : List ℕ} (m : Refreshing t.header t.rows t.pending lent q answer pending' lent') where
-    refreshed_followed : Followed (if_accepted (refresh_view answer) (λ a. a.header) t.header) (t.rows ++ rest.rows) (lent' ++ more)
+  module _ {q : Refresh} {answer : Result Refreshed Refusal} {pending' lent' : List ℕ} (m : Refreshing t.header t.rows t.pending lent q answer pending' lent') where
+    refreshed_followed : Followed (if_accepted (answer_view answer) (λ a. a.header) t.header) (t.rows ++ rest.rows) (lent' ++ more)
     unfolding if_accepted
     refreshed_followed =
         let h = t.header in
@@ -118,7 +121,7 @@ module _ (t : Stores) (rest : Body) (pending lent more : List ℕ) (b : Beside (
 
     -- the refresh is a step of a history
     abbrev stores_refreshed : Stores
-    stores_refreshed = behind (joined (if_accepted (refresh_view answer) (λ a. a.header) t.header) (body_of t) pending') rest pending
+    stores_refreshed = behind (joined (if_accepted (answer_view answer) (λ a. a.header) t.header) (body_of t) pending') rest pending
 
     own_step : (w : CompactionWords) → Step (behind t rest pending) (lent_call (refreshing q (length lent)) t w) stores_refreshed
     own_step w = called {s = t} rest pending (refreshes w q lent answer pending' lent' m (lent_sound q.columns))

@@ -1,10 +1,11 @@
 -- The contract determines the outcome. Assumes nothing.
-use Rattle.std.specs.Prelude.{ℕ, ◌≡◌, refl, List}
+use Rattle.table.specs.declared.Header.{Header}
+use Rattle.refusals.specs.Laws.Numbers.{answer_view_injective}
+use Rattle.refusals.specs.declared.Refusal.{Refusal}
+use Rattle.std.specs.Prelude.{ℕ, ◌≡◌, refl, List, Result}
 use Rattle.std.proofs.Common.{sym, ◌∙◌, inl, inr}
 use Rattle.std.proofs.Math.Option.{Option, none, some, Option-elim}
 use Rattle.lists.specs.Laws.Filter.{split}
-use Rattle.table.specs.declared.TableAnswer.{TableAnswer}
-use Rattle.table.proofs.Laws.Answers.{table_view_injective}
 use Rattle.image_spec.specs.Image.{Image}
 use Rattle.image_spec.specs.Outcomes.{Decoded, check_reply, ImageChecked}
 use Rattle.image_spec.specs.Laws.Unique.{reads_unique}
@@ -33,5 +34,5 @@ unfolding check_reply Option-elim
 check_same a b none e = rw (e, sym (same_image a b) ∙ e)
 check_same a b (some i) e = rw (e, sym (same_image a b) ∙ e, same_sound a b i e)
 
-pub image_checked_determined : {words : List ℕ} {r₁ r₂ : TableAnswer} → ImageChecked words r₁ → ImageChecked words r₂ → r₁ ≡ r₂
-image_checked_determined {r₁ = r₁} {r₂ = r₂} x y = table_view_injective r₁ r₂ (x.answers ∙ check_same x.decoded y.decoded x.decoded.image refl ∙ sym y.answers)
+pub image_checked_determined : {words : List ℕ} {r₁ r₂ : Result Header Refusal} → ImageChecked words r₁ → ImageChecked words r₂ → r₁ ≡ r₂
+image_checked_determined {r₁ = r₁} {r₂ = r₂} x y = answer_view_injective r₁ r₂ (x.answers ∙ check_same x.decoded y.decoded x.decoded.image refl ∙ sym y.answers)

@@ -1,7 +1,8 @@
 -- What decoding an image promises. Assumes nothing.
-use Rattle.std.specs.Prelude.{ℕ, ◌≡◌, Bool, true, List}
+use Rattle.std.specs.Prelude.{ℕ, ◌≡◌, Bool, true, List, Result, Ok, Err}
 use Rattle.std.proofs.Math.Option.{some}
-use Rattle.refusals.specs.Refusals.{refused}
+use Rattle.refusals.specs.declared.Refusal.{Refusal}
+use Rattle.refusals.specs.Refusals.{refused, number}
 use Rattle.key_index.specs.Slots.{KeysSound}
 use Rattle.sort_entries.specs.inner.Checks.{Decides}
 use Rattle.table.specs.Sound.{index_shape_of}
@@ -9,8 +10,6 @@ use Rattle.image_spec.specs.Image.{SoundImage}
 use Rattle.image_spec.specs.Outcomes.{Decoded, check_reply}
 use Rattle.image_check.specs.declared.parse.Layout.{Layout}
 use Rattle.image_check.specs.inner.Parsed.{part, image_in, IsAt}
-use Rattle.image_check.specs.declared.Decoding.{Decoding}
-use Rattle.image_check.specs.declared.Decoding.TheVariants.{Refused, Sound}
 
 -- the slots lead to exactly the live rows of the image
 abbrev pub SlotsBuilt : List ℕ → Layout → List ℕ → Type 0
@@ -27,8 +26,8 @@ pub record SoundAt (words : List ℕ) (d : Decoded words) (l : Layout) : Type 0 
   pub image_is : d.image ≡ some (image_in words l)
   pub sound_is : d.sound ≡ true
 
-pub record DecodingIs (words : List ℕ) (r : Decoding) (slots : List ℕ) : Type 0 where
+pub record DecodingIs (words : List ℕ) (r : Result Layout Refusal) (slots : List ℕ) : Type 0 where
   pub decoded : Decoded words
-  pub refusal : (n : ℕ) → r ≡ Refused n → check_reply decoded.image decoded.sound ≡ refused n
-  pub sound_at : (l : Layout) → r ≡ Sound l → SoundAt words decoded l
-  pub built : (l : Layout) → r ≡ Sound l → SlotsBuilt words l slots
+  pub refusal : (refusal : Refusal) → r ≡ Err refusal → check_reply decoded.image decoded.sound ≡ refused (number refusal)
+  pub sound_at : (l : Layout) → r ≡ Ok l → SoundAt words decoded l
+  pub built : (l : Layout) → r ≡ Ok l → SlotsBuilt words l slots

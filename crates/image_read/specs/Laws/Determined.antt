@@ -1,6 +1,8 @@
 -- The contracts determine the outcomes. Choice is left in one place only: after a table is loaded, the key store's slots below
 -- 2 × capacity, of which soundness is promised. Assumes nothing.
-use Rattle.std.specs.Prelude.{ℕ, ◌*◌, ◌<◌, ◌≡◌, refl, Bool, List, length, drop}
+use Rattle.refusals.specs.Laws.Numbers.{answer_view_injective}
+use Rattle.refusals.specs.declared.Refusal.{Refusal}
+use Rattle.std.specs.Prelude.{ℕ, ◌*◌, ◌<◌, ◌≡◌, refl, Bool, List, length, drop, Result}
 use Rattle.std.proofs.Common.{sym, ap, ◌∙◌, ⊎_elim, arith}
 use Rattle.std.proofs.Math.Option.{Option, none, some, Option-elim}
 use Rattle.lists.specs.Lists.{splice}
@@ -8,34 +10,22 @@ use Rattle.refusals.specs.Refusals.{Reply, refused, accepted, reply}
 use Rattle.refusals.specs.Laws.Replies.{some_number}
 use Rattle.refusals.specs.Laws.Determined.{Same, refused_same}
 use Rattle.table.specs.declared.Header.{Header}
-use Rattle.table.specs.declared.TableAnswer.{TableAnswer}
-use Rattle.table.specs.Numbers.{table_view}
+use Rattle.refusals.specs.Refusals.{answer_view}
 use Rattle.table.specs.Outcomes.{Body, SamePast}
-use Rattle.table.proofs.Laws.Answers.{table_view_injective}
-use Rattle.image_spec.specs.declared.LengthAnswer.{LengthAnswer}
-use Rattle.image_spec.specs.declared.LengthAnswer.TheVariants.{Refused, Length}
 use Rattle.image_spec.specs.Image.{Image}
-use Rattle.image_spec.specs.Outcomes.{length_view, Decoded, read_refusal, ImageRead, text_refusal, text_of, TextRead}
+use Rattle.image_spec.specs.Outcomes.{Decoded, read_refusal, ImageRead, text_refusal, text_of, TextRead}
 use Rattle.image_spec.specs.Laws.Unique.{reads_unique}
 use Rattle.image_check.specs.Laws.Determined.{same_image, same_sound}
 
 -- ---- *Read text*
 
--- `length_view` is injective
-length_view_injective : (a b : LengthAnswer) → length_view a ≡ length_view b → a ≡ b
-unfolding length_view
-length_view_injective (Refused m) (Refused n) e = cc
-length_view_injective (Refused m) (Length n) e = cc
-length_view_injective (Length m) (Refused n) e = cc
-length_view_injective (Length m) (Length n) e = cc
-
-pub text_read_determined : {words output output₁ output₂ : List ℕ} {a b : LengthAnswer}
+pub text_read_determined : {words output output₁ output₂ : List ℕ} {a b : Result ℕ Refusal}
     → TextRead words output a output₁ → TextRead words output b output₂ → Same a b output₁ output₂
 text_read_determined {words} {output} {a = a} {b = b} x y =
     let e = reads_unique words x.image y.image x.reads y.reads in
     let number = ap (λ (i : Option Image). text_refusal i (length output)) e in
     record {
-      answer = length_view_injective a b (x.effect.answers ∙ ap (λ (i : Option Image). reply (text_refusal i (length output)) (length (text_of i))) e ∙ sym y.effect.answers);
+      answer = answer_view_injective a b (x.effect.answers ∙ ap (λ (i : Option Image). reply (text_refusal i (length output)) (length (text_of i))) e ∙ sym y.effect.answers);
       cells =
           ⊎_elim (λ z. x.effect.written z ∙ ap (λ (i : Option Image). splice output 0 (text_of i)) e ∙ sym (y.effect.written (sym number ∙ z)))
           (λ k. x.effect.unchanged k ∙ sym (y.effect.unchanged (rw number at k)))
@@ -57,7 +47,7 @@ unfolding read_refusal Option-elim
 refusal_some none sound capacity s pending z = absurd (omega arith)
 refusal_some (some i) sound capacity s pending z = (i, refl)
 
-module _ (words : List ℕ) (capacity : ℕ) (s : Body) (pending : List ℕ) (a : TableAnswer) (s₁ : Body) (pending₁ : List ℕ) (b : TableAnswer) (s₂ : Body) (pending₂ : List ℕ) where
+module _ (words : List ℕ) (capacity : ℕ) (s : Body) (pending : List ℕ) (a : Result Header Refusal) (s₁ : Body) (pending₁ : List ℕ) (b : Result Header Refusal) (s₂ : Body) (pending₂ : List ℕ) where
   -- two outcomes: the same but for the choice
   pub record SameRead : Type 0 where
     pub answer : a ≡ b
@@ -65,8 +55,8 @@ module _ (words : List ℕ) (capacity : ℕ) (s : Body) (pending : List ℕ) (a 
     pub sorts : s₁.sorts ≡ s₂.sorts
     pub pending_words : pending₁ ≡ pending₂
     -- the key store of a refused call, and what is never written of an accepted one's
-    pub keys : (n : ℕ) → table_view a ≡ refused n → s₁.keys ≡ s₂.keys
-    pub slots_past : (h : Header) → table_view a ≡ accepted h → SamePast (2 * h.capacity) s₁.keys s₂.keys
+    pub keys : (n : ℕ) → answer_view a ≡ refused n → s₁.keys ≡ s₂.keys
+    pub slots_past : (h : Header) → answer_view a ≡ accepted h → SamePast (2 * h.capacity) s₁.keys s₂.keys
 
   pub image_read_determined : ImageRead words capacity s pending a s₁ pending₁ → ImageRead words capacity s pending b s₂ pending₂ → SameRead
   image_read_determined x y = ⊎_elim accept refuse (some_number number)
@@ -83,7 +73,7 @@ module _ (words : List ℕ) (capacity : ℕ) (s : Body) (pending : List ℕ) (a 
           let v = y.unchanged (rw alike at k) in
           let bodies : s₁ ≡ s₂ = u.0 ∙ sym v.0 in
           record {
-            answer = refused_same table_view_injective x.refusal (y.refusal ∙ ap (λ (n : ℕ). reply n tt) (sym alike)) k;
+            answer = refused_same answer_view_injective x.refusal (y.refusal ∙ ap (λ (n : ℕ). reply n tt) (sym alike)) k;
             rows = ap (λ (c : Body). c.rows) bodies;
             sorts = ap (λ (c : Body). c.sorts) bodies;
             pending_words = u.1 ∙ sym v.1;
@@ -97,7 +87,7 @@ module _ (words : List ℕ) (capacity : ℕ) (s : Body) (pending : List ℕ) (a 
           let g = x.loaded i.0 i.1 z in
           let h = y.loaded i.0 (sym (same_image x.decoded y.decoded) ∙ i.1) (sym alike ∙ z) in
           record {
-            answer = table_view_injective a b (g.answers ∙ sym h.answers);
+            answer = answer_view_injective a b (g.answers ∙ sym h.answers);
             rows = g.rows_after ∙ sym h.rows_after;
             sorts = g.sorts_after ∙ sym h.sorts_after;
             pending_words = g.pending_after ∙ sym h.pending_after;

@@ -1,13 +1,14 @@
 -- Contracts of the functions that load an image's table and write its text. Assumes nothing.
-use Rattle.std.specs.Prelude.{ℕ, ◌+◌, ◌*◌, ◌/◌, ◌≤◌, ◌<◌, ◌≡◌, ◌||◌, List, [], ◌∷◌, ltb, length}
+use Rattle.refusals.specs.declared.Refusal.{Refusal}
+use Rattle.std.specs.Prelude.{ℕ, ◌+◌, ◌*◌, ◌/◌, ◌≤◌, ◌<◌, ◌≡◌, ◌||◌, List, [], ◌∷◌, ltb, length, Result}
 use Rattle.lists.specs.Lists.{splice}
 use Rattle.refusals.specs.Refusals.{check, first_refusal, reply, outcome}
 use Rattle.key_index.specs.declared.IndexShape.{IndexShape}
 use Rattle.key_index.specs.Slots.{size_class_for, KeysSound}
 use Rattle.plain_table.specs.Refusing.{Lengths, stores_short}
 use Rattle.table.specs.declared.Header.{Header}
-use Rattle.table.specs.declared.TableAnswer.{TableAnswer}
-use Rattle.table.specs.Numbers.{opening_of, table_view}
+use Rattle.refusals.specs.Refusals.{answer_view}
+use Rattle.table.specs.Numbers.{opening_of}
 use Rattle.table.specs.Refusing.{outside}
 use Rattle.table.specs.Outcomes.{Body, lengths}
 use Rattle.image_spec.specs.Outcomes.{with_capacity, Loaded}
@@ -43,8 +44,8 @@ pub record Built (t : IndexShape) (capacity : ℕ) (rows slots : List ℕ) : Typ
   pub sound : KeysSound (record { columns = t.columns; keys = t.keys; room = size_class_for capacity t.rows; rows = t.rows }) rows slots
 
 -- the image at these places is loaded, or its capacity or the stores refused
-pub record Loading (words : List ℕ) (l : Layout) (capacity : ℕ) (b : Body) (pending : List ℕ) (answer : TableAnswer) (b' : Body) (pending' : List ℕ) : Type 0 where
-  pub refusal : outcome (table_view answer) ≡ reply (stores_refusal l capacity b pending) tt
+pub record Loading (words : List ℕ) (l : Layout) (capacity : ℕ) (b : Body) (pending : List ℕ) (answer : Result Header Refusal) (b' : Body) (pending' : List ℕ) : Type 0 where
+  pub refusal : outcome (answer_view answer) ≡ reply (stores_refusal l capacity b pending) tt
   pub unchanged : 0 < stores_refusal l capacity b pending → (b' ≡ b) × (pending' ≡ pending)
   pub loaded : stores_refusal l capacity b pending ≡ 0 → Loaded (image_in words l) capacity b pending answer b' pending'
 

@@ -5,8 +5,6 @@ pub use Rattle.std.proofs.Math.Option.{some}
 pub use Rattle.std.proofs.Math.ListN.{get_or-eq_default as List·getD-eq-default}
 pub use Rattle.crc32.specs.Crc.{bytes_of, crc32}
 pub use Rattle.image_spec.specs.Laws.Unique.{length_packed}
-pub use Rattle.image_spec.specs.declared.LengthAnswer.{LengthAnswer}
-pub use Rattle.image_spec.specs.declared.LengthAnswer.TheVariants.{Length, Refused}
 pub use Rattle.image_write.specs.inner.Parts.{Holds, words_in_use}
 pub use Rattle.lists.specs.Laws.All.{or_no_left, or_no_right}
 pub use Rattle.lists.specs.Laws.Parts.{length_splice, part_splice, set_set_splice, set_splice, splice_then}

@@ -1,8 +1,9 @@
 -- What *Write image* writes is an image, and reads as what was handed in. Assumes nothing.
-use Rattle.std.specs.Prelude.{◌≡◌}
-use Rattle.image_write.specs.Laws.Prelude.{ℕ, sym, ap, ap₂, ◌∙◌, true, List, some, arith, ltb, length, take, le-leb, eq-eqb, splice, all, part_splice, Header, accepted_number, accepted_same, Length}
+use Rattle.std.specs.Prelude.{◌≡◌, Ok}
+use Rattle.refusals.specs.Refusals.{answer_view}
+use Rattle.image_write.specs.Laws.Prelude.{ℕ, sym, ap, ap₂, ◌∙◌, true, List, some, arith, ltb, length, take, le-leb, eq-eqb, splice, all, part_splice, Header, accepted_number, accepted_same}
 use Rattle.image_spec.specs.Image.{is_image, image_words, Reads, reads, image_of, image_length}
-use Rattle.image_spec.specs.Outcomes.{length_view, write_refusal, ImageWritten}
+use Rattle.image_spec.specs.Outcomes.{write_refusal, ImageWritten}
 use Rattle.image_write.specs.Laws.Bodies.{length_cells, length_pairs, length_records, length_image}
 use Rattle.image_write.specs.Laws.Checks.{Accepted, write_accepted, accepted_holds}
 
@@ -32,8 +33,8 @@ module _ (h : Header) (rows sorts pending text output : List ℕ) (bytes : all (
 
 -- the words that were written, as many as the answer has, are the image of the table and the text
 pub written_reads : {h : Header} {rows sorts pending text output output' : List ℕ} {n : ℕ} → all (λ byte. ltb byte 256) text ≡ true
-    → ImageWritten h rows sorts pending text output (Length n) output' → Reads (take n output') (some (image_of h rows sorts pending text))
-unfolding length_view
+    → ImageWritten h rows sorts pending text output (Ok n) output' → Reads (take n output') (some (image_of h rows sorts pending text))
+unfolding answer_view
 written_reads {h} {rows} {sorts} {pending} {text} {output} {n = n} bytes w =
     let none = accepted_number _ _ _ w.effect.answers in
     reads (image_of h rows sorts pending text) (is_image_lem h rows sorts pending text output bytes none)

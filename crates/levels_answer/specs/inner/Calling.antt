@@ -1,17 +1,14 @@
 -- The contract of a line that changes a table. Functions that borrow only some of the stores meet it for any content of the others.
 -- Assumes nothing.
-use Rattle.std.specs.Prelude.{ℕ, ◌-◌, ◌≤◌, ◌<◌, ◌≡◌, cond, List, length, take, drop, get_or}
+use Rattle.refusals.specs.declared.Refusal.TheVariants.{NoListing}
+use Rattle.refusals.specs.declared.Refusal.{Refusal}
+use Rattle.std.specs.Prelude.{ℕ, ◌-◌, ◌≤◌, ◌<◌, ◌≡◌, cond, List, length, take, drop, get_or, Result, Ok, Err}
 use Rattle.std.proofs.Math.Path.{refl}
-use Rattle.refusals.specs.Refusals.{if_accepted}
 use Rattle.lists.specs.Laws.Parts.{part_to_end}
 use Rattle.plain_table.specs.Staged.{insert, remove_key, remove_row, opening_in}
 use Rattle.table.specs.declared.Header.{Header}
-use Rattle.table.specs.declared.TableAnswer.{TableAnswer}
-use Rattle.table.specs.declared.TableAnswer.TheVariants.{Refused as TableRefused, Table}
 use Rattle.table.specs.declared.Merge.{Merge}
-use Rattle.table.specs.declared.MergeAnswer.{MergeAnswer}
-use Rattle.table.specs.declared.MergeAnswer.TheVariants.{Refused as MergeRefused, Merged as MergedTable}
-use Rattle.table.specs.Numbers.{table_view, merge_view}
+use Rattle.refusals.specs.Refusals.{answer_view, if_accepted}
 use Rattle.table.specs.Outcomes.{Stores, stores, body, compaction_words, Opened, Staging, Merging, Compacting, Clearing}
 use Rattle.levels_spec.specs.declared.Response.TheVariants.{Nothing, Refused, Merged}
 use Rattle.levels_spec.specs.declared.Served.{Served}
@@ -39,28 +36,28 @@ pub record OnAll (letter : ℕ) (s s' : Stores) (r : Served) : Type 0 where
 
 -- ---- the response to an answer of the library
 
-module _ (h : Header) (answer : TableAnswer) where
-  pub served_refused : (n : ℕ) → answer ≡ TableRefused n → ServedWith (if_accepted (table_view answer) (λ h. h) h) (response_of nothing_response (table_view answer)) (record { header = h; response = Refused n })
-  unfolding if_accepted table_view response_of
-  served_refused n e = rw e (record { header_same = refl; response_same = refl })
+module _ (h : Header) (answer : Result Header Refusal) where
+  pub served_refused : (refusal : Refusal) → answer ≡ Err refusal → ServedWith (if_accepted (answer_view answer) (λ h. h) h) (response_of nothing_response answer) (record { header = h; response = Refused refusal })
+  unfolding if_accepted answer_view response_of
+  served_refused refusal e = rw e (record { header_same = refl; response_same = refl })
 
-  pub served_table : (after : Header) → answer ≡ Table after → ServedWith (if_accepted (table_view answer) (λ h. h) h) (response_of nothing_response (table_view answer)) (record { header = after; response = Nothing })
-  unfolding if_accepted table_view response_of
+  pub served_table : (after : Header) → answer ≡ Ok after → ServedWith (if_accepted (answer_view answer) (λ h. h) h) (response_of nothing_response answer) (record { header = after; response = Nothing })
+  unfolding if_accepted answer_view response_of
   served_table after e = rw e (record { header_same = refl; response_same = refl })
 
-module _ (h : Header) (answer : MergeAnswer) where
-  pub merge_refused : (n : ℕ) → answer ≡ MergeRefused n → ServedWith (if_accepted (merge_view answer) (λ m. m.header) h) (response_of merge_response (merge_view answer)) (record { header = h; response = Refused n })
-  unfolding if_accepted merge_view response_of
-  merge_refused n e = rw e (record { header_same = refl; response_same = refl })
+module _ (h : Header) (answer : Result Merge Refusal) where
+  pub merge_refused : (refusal : Refusal) → answer ≡ Err refusal → ServedWith (if_accepted (answer_view answer) (λ m. m.header) h) (response_of merge_response answer) (record { header = h; response = Refused refusal })
+  unfolding if_accepted answer_view response_of
+  merge_refused refusal e = rw e (record { header_same = refl; response_same = refl })
 
-  pub merge_table : (m : Merge) (digit : ℕ) → answer ≡ MergedTable m → digit ≡ cond m.added 1 0
-      → ServedWith (if_accepted (merge_view answer) (λ m. m.header) h) (response_of merge_response (merge_view answer)) (record { header = m.header; response = Merged m.status digit m.place })
-  unfolding if_accepted merge_view response_of
+  pub merge_table : (m : Merge) (digit : ℕ) → answer ≡ Ok m → digit ≡ cond m.added 1 0
+      → ServedWith (if_accepted (answer_view answer) (λ m. m.header) h) (response_of merge_response answer) (record { header = m.header; response = Merged m.status digit m.place })
+  unfolding if_accepted answer_view response_of
   merge_table m digit e d = rw (e, d) (record { header_same = refl; response_same = refl })
 
 -- ---- from the library's contracts to the contracts of lines
 
-module _ {h : Header} {answer : TableAnswer} {r : Served} (k : ServedWith (if_accepted (table_view answer) (λ h. h) h) (response_of nothing_response (table_view answer)) r) where
+module _ {h : Header} {answer : Result Header Refusal} {r : Served} (k : ServedWith (if_accepted (answer_view answer) (λ h. h) h) (response_of nothing_response answer) r) where
   module _ {ns pending pending' : List ℕ} where
     pub insert_served : Staging h pending (insert ns) answer pending' → OnPending 73 ns h pending r pending'
     insert_served m = record { serving = λ rows keys sorts. record { answers = λ t held. rw (result_insert _ t ns refl) (does_respond (staging_does k rows keys sorts m) t held) } }
@@ -89,11 +86,11 @@ module _ {h : Header} {answer : TableAnswer} {r : Served} (k : ServedWith (if_ac
   open_served ns small m = record { answers = λ t held. rw (result_open _ t ns refl) (opening_responds small m k t held) }
 
 -- a capacity above 1,024
-pub large_served : (s : Stores) (ns : List ℕ) → 1024 < get_or ns 4 0 → Serving 79 ns s s (Refused 11)
+pub large_served : (s : Stores) (ns : List ℕ) → 1024 < get_or ns 4 0 → Serving 79 ns s s (Refused NoListing)
 large_served s ns large = record { answers = λ t held. rw (result_open _ t ns refl) (large_responds _ s (opening_in ns) (get_or ns 5 0) large t held) }
 
-pub merge_served : {h : Header} {answer : MergeAnswer} {r : Served} {rows keys sorts pending rows' keys' sorts' live base live' base' : List ℕ}
-    → ServedWith (if_accepted (merge_view answer) (λ m. m.header) h) (response_of merge_response (merge_view answer)) r → length live ≡ 16 → length base ≡ 16
+pub merge_served : {h : Header} {answer : Result Merge Refusal} {r : Served} {rows keys sorts pending rows' keys' sorts' live base live' base' : List ℕ}
+    → ServedWith (if_accepted (answer_view answer) (λ m. m.header) h) (response_of merge_response answer) r → length live ≡ 16 → length base ≡ 16
     → Merging (stores h rows keys sorts pending) (compaction_words live base) answer (body rows' keys' sorts') (compaction_words live' base')
     → OnAll 77 (stores h rows keys sorts pending) (stores r.header rows' keys' sorts' pending) r
 merge_served k a b m = record { serving = λ ns. record { answers = λ t held. rw (result_merge _ t ns refl) (does_respond (merging_does k a b m) t held) } }

@@ -1,11 +1,10 @@
 -- The encoding of a response as text. Assumes nothing.
-use Rattle.std.specs.Prelude.{ℕ, ◌≤◌, ◌≡◌, Bool, List, length, take}
+use Rattle.refusals.specs.declared.Refusal.{Refusal}
+use Rattle.std.specs.Prelude.{ℕ, ◌≤◌, ◌≡◌, Bool, List, length, take, Result, Ok, Err}
 use Rattle.std.proofs.Common.{sym, ap, ◌∙◌, arith}
 use Rattle.table.specs.declared.Header.{Header}
 use Rattle.table.proofs.Laws.Refusals.{outside_inside}
 use Rattle.levels_text.specs.inner.Appending.{Wrote}
-use Rattle.listing_spec.specs.declared.TextAnswer.{TextAnswer}
-use Rattle.listing_spec.specs.declared.TextAnswer.TheVariants.{Refused as NotWritten, Written}
 use Rattle.listing_write.specs.Writing.{stored_text, ListingWritten}
 use Rattle.listing_write.specs.Laws.Lengths.{length_most}
 use Rattle.listing_write.specs.Laws.Answers.{written_inside, written_taken, not_refused}
@@ -18,9 +17,9 @@ pub record ListingEncoded (numbered : Bool) (h : Header) (rows text : List ℕ) 
   pub inside : used ≤ length text
   pub listed : Listable h rows text → take used text ≡ stored_text numbered h rows
 
-module _ {numbered : Bool} {h : Header} {rows text text' : List ℕ} {answer : TextAnswer} (lent : length text' ≡ length text) (x : ListingWritten numbered h rows text answer text') where
-  pub listed_nothing : {n : ℕ} → answer ≡ NotWritten n → ListingEncoded numbered h rows text' 0
-  listed_nothing {n} e = record {
+module _ {numbered : Bool} {h : Header} {rows text text' : List ℕ} {answer : Result ℕ Refusal} (lent : length text' ≡ length text) (x : ListingWritten numbered h rows text answer text') where
+  pub listed_nothing : {r : Refusal} → answer ≡ Err r → ListingEncoded numbered h rows text' 0
+  listed_nothing {r} e = record {
     inside = omega arith;
     listed = λ l.
         absurd
@@ -28,7 +27,7 @@ module _ {numbered : Bool} {h : Header} {rows text text' : List ℕ} {answer : T
         (omega (arith, lent, l.room, length_most numbered h rows (outside_inside h l.inside).bounds.columns_few)));
   }
 
-  pub listed_all : {bytes : ℕ} → answer ≡ Written bytes → ListingEncoded numbered h rows text' bytes
+  pub listed_all : {bytes : ℕ} → answer ≡ Ok bytes → ListingEncoded numbered h rows text' bytes
   listed_all {bytes} e = let w = rw e at x in record { inside = omega (arith, lent, written_inside w); listed = λ l. written_taken w }
 
 -- ---- each response

@@ -1,6 +1,7 @@
 -- From the bytes of a line to its response, and from there to the bytes of its answer. Assumes nothing.
+use Rattle.refusals.specs.declared.Refusal.TheVariants.{NoListing}
 use Rattle.std.specs.Prelude.{ℕ, ◌+◌, ◌≤◌, ◌≡◌, false, List, ◌++◌, take}
-use Rattle.std.proofs.Math.Path.{sym}
+use Rattle.std.proofs.Math.Path.{refl, sym}
 use Rattle.std.proofs.Common.{ap, ◌∙◌, arith, length-append, length-take}
 use Rattle.std.proofs.lemmas.Bool.{false≢true}
 use Rattle.std.proofs.Math.Option.{Option}
@@ -23,7 +24,7 @@ use Rattle.levels_spec.specs.declared.Response.{Response}
 use Rattle.levels_spec.specs.declared.Response.TheVariants.{Refused}
 use Rattle.levels_spec.specs.Response.{result, line_result}
 use Rattle.levels_spec.specs.Answers.{Held, no_table, table, lent, Answering}
-use Rattle.levels_spec.specs.inner.Responses.{Listable, Encoded, Responds, Serving}
+use Rattle.levels_spec.specs.inner.Responses.{Listable, Encoded, Responds, Serving, refuses}
 use Rattle.levels_spec.specs.Laws.Results.{responds_refused}
 
 -- a line is run, and its response is not yet encoded as text
@@ -31,9 +32,9 @@ pub record Responding (line : List ℕ) (s s' : Stores) (response : Response) : 
   pub answers : (t : Option Plain) → Held t s → Responds (line_result (lent s) t line) s' response
 
 -- a line of no valid form
-pub wrong_responds : {line numbers' : List ℕ} {lent' : List ℕ} {r : Optional Line} → ParsedIs line lent' r numbers' → 59 ≤ length lent' → r ≡ None → (s : Stores) → Responding line s s (Refused 11)
+pub wrong_responds : {line numbers' : List ℕ} {lent' : List ℕ} {r : Optional Line} → ParsedIs line lent' r numbers' → 59 ≤ length lent' → r ≡ None → (s : Stores) → Responding line s s (Refused NoListing)
 unfolding line_result
-wrong_responds p room e s = record { answers = λ t held. rw (parsed_none p e room) (responds_refused 11 held (omega arith)) }
+wrong_responds p room e s = record { answers = λ t held. rw (parsed_none p e room) (responds_refused held (omega arith) (refuses NoListing refl)) }
 
 -- a line of a valid form
 module _ {line lent' : List ℕ} {parsed : Line} {numbers' : List ℕ} (p : Parsed line lent' parsed numbers') where

@@ -1,11 +1,14 @@
 -- The contract of an opening implies the contract of O, for any table that the stores hold. Assumes nothing.
-use Rattle.std.specs.Prelude.{◌≤◌, ◌<◌, ◌≡◌}
-use Rattle.levels_spec.specs.Laws.Prelude.{ℕ, refl, ◌∙◌, inl, inr, List, [], Option, some, arith, eq-eqb, ne_eqb, lt-ltb, le-ltb, accepted, reply, outcome, some_number, ruled_refused, Opening, Plain, opened, Header, TableAnswer, table_view, header_of, Stores, stores, body, lengths, Opened, reply_accepted, after_refused, after_accepted, opening_done, Refused, Served, Held, lent, response_of, nothing_response, ServedWith, Responds}
+use Rattle.refusals.specs.declared.Refusal.TheVariants.{NoListing}
+use Rattle.refusals.specs.declared.Refusal.{Refusal}
+use Rattle.std.specs.Prelude.{◌≤◌, ◌<◌, ◌≡◌, Result}
+use Rattle.levels_spec.specs.Laws.Prelude.{ℕ, refl, ◌∙◌, inl, inr, List, [], Option, some, arith, eq-eqb, ne_eqb, lt-ltb, le-ltb, accepted, reply, outcome, some_number, ruled_refused, Opening, Plain, opened, Header, header_of, Stores, stores, body, lengths, Opened, reply_accepted, after_refused, after_accepted, opening_done, Refused, Served, Held, lent, response_of, nothing_response, ServedWith, Responds}
 use Rattle.plain_table.specs.Refusing.{Lengths, open_refusal, stores_short}
 use Rattle.levels_spec.specs.Response.{printing, replied, open_number, opens}
 use Rattle.levels_spec.specs.Laws.Results.{response_of_refused, nothing_response_lem, responds_refused, responds_table}
 use Rattle.levels_spec.specs.Laws.Calls.{reply_ruled}
-use Rattle.refusals.specs.Refusals.{if_accepted}
+use Rattle.levels_spec.specs.inner.Responses.{refuses}
+use Rattle.refusals.specs.Refusals.{if_accepted, answer_view, number}
 
 number_small : (l : Lengths) (o : Opening) → o.capacity ≤ 1024 → open_number l o ≡ open_refusal o l
 unfolding open_number
@@ -26,26 +29,26 @@ module _ (l : Lengths) (t : Option Plain) (o : Opening) (generation n : ℕ) (nu
 
 -- a capacity above 1,024
 pub large_responds : (l : Lengths) (s : Stores) (o : Opening) (generation : ℕ) → 1024 < o.capacity → (t : Option Plain) → Held t s
-    → Responds (opens l t o generation) s (Refused 11)
+    → Responds (opens l t o generation) s (Refused NoListing)
 large_responds l s o generation large t held =
-    rw (opens_refused l t o generation 11 (number_large l o large) (omega arith)) (responds_refused 11 held (omega arith))
+    rw (opens_refused l t o generation 11 (number_large l o large) (omega arith)) (responds_refused held (omega arith) (refuses NoListing refl))
 
-module _ {o : Opening} {generation : ℕ} {h : Header} {rows keys sorts pending keys' : List ℕ} {answer : TableAnswer} {r : Served} where
+module _ {o : Opening} {generation : ℕ} {h : Header} {rows keys sorts pending keys' : List ℕ} {answer : Result Header Refusal} {r : Served} where
   pub opening_responds : o.capacity ≤ 1024 → Opened o generation (body rows keys sorts) pending answer keys'
-      → ServedWith (if_accepted (table_view answer) (λ h. h) h) (response_of nothing_response (table_view answer)) r → (t : Option Plain) → Held t (stores h rows keys sorts pending)
+      → ServedWith (if_accepted (answer_view answer) (λ h. h) h) (response_of nothing_response answer) r → (t : Option Plain) → Held t (stores h rows keys sorts pending)
       → Responds (opens (lent (stores h rows keys sorts pending)) t o generation) (stores r.header rows keys' sorts pending) r.response
   opening_responds small m k t held =
       let l : Lengths = lent (stores h rows keys sorts pending) in
       let n : ℕ = open_refusal o (lengths rows keys sorts pending [] []) in
       let number : open_number l o ≡ n = number_small l o small ∙ (unfold open_refusal stores_short in refl) in
-      let ruled : outcome (table_view answer) ≡ reply n tt = rw m.answers (reply_ruled n _) in
+      let ruled : outcome (answer_view answer) ≡ reply n tt = rw m.answers (reply_ruled n _) in
       elim (some_number n) [
         | inl zero ↦
-            let a : table_view answer ≡ accepted (header_of (opened o generation)) = m.answers ∙ reply_accepted n _ zero in
-            let same : r.header ≡ header_of (opened o generation) = k.header_same ∙ after_accepted h (table_view answer) _ a in
+            let a : answer_view answer ≡ accepted (header_of (opened o generation)) = m.answers ∙ reply_accepted n _ zero in
+            let same : r.header ≡ header_of (opened o generation) = k.header_same ∙ after_accepted h (answer_view answer) _ a in
             rw (opens_done l t o generation n number zero, k.response_same)
-            (responds_table (nothing_response_lem r.header rows (table_view answer) n ruled zero) (rw same (opening_done m (header_of (opened o generation)) a)))
+            (responds_table (nothing_response_lem r.header rows answer n ruled zero) (rw same (opening_done m (header_of (opened o generation)) a)))
         | inr more ↦
-            rw (opens_refused l t o generation n number more, k.response_same, response_of_refused nothing_response (table_view answer) n ruled more, k.header_same, after_refused h (table_view answer) n (ruled_refused (table_view answer) n ruled more), m.unchanged more)
-            (responds_refused n held more)
+            rw (opens_refused l t o generation n number more, k.response_same, k.header_same, after_refused h (answer_view answer) n (ruled_refused (answer_view answer) n ruled more), m.unchanged more)
+            (responds_refused held more (response_of_refused nothing_response answer n ruled more))
       ]

@@ -44,12 +44,9 @@ pub use Rattle.table.proofs.Laws.Keeps.{after_accepted, after_refused, clearing_
 pub use Rattle.table.proofs.Laws.Replies.{reply_accepted}
 pub use Rattle.table.proofs.Laws.Shown.{represents_inside, represents_long, rows_counted}
 pub use Rattle.table.proofs.Laws.Sound.{represents_sound}
-pub use Rattle.table.specs.Numbers.{merge_view, range_view, table_view, version_view}
+pub use Rattle.refusals.specs.Refusals.{answer_view}
+pub use Rattle.table.specs.Numbers.{range_view}
 pub use Rattle.table.specs.Refusing.{outside}
 pub use Rattle.table.specs.Stores.{header_of}
 pub use Rattle.table.specs.declared.Header.{Header}
-pub use Rattle.table.specs.declared.MergeAnswer.{MergeAnswer}
-pub use Rattle.table.specs.declared.RangeAnswer.{RangeAnswer}
-pub use Rattle.table.specs.declared.TableAnswer.{TableAnswer}
 pub use Rattle.table.specs.declared.Version.{Version}
-pub use Rattle.table.specs.declared.VersionAnswer.{VersionAnswer}

@@ -1,28 +1,30 @@
 -- Laws that hold for every line on a table: the line is refused and nothing changes, or it is done. Assumes nothing.
-use Rattle.std.specs.Prelude.{◌<◌, ◌≡◌, ◌∷◌}
-use Rattle.levels_spec.specs.Laws.Prelude.{ℕ, refl, sym, ◌∙◌, inl, inr, true, List, [], Option, none, some, arith, eq-eqb, ne_eqb, some_number, ruled_refused, Lengths, Plain, Call, refusal, done, refused_nothing, accepted_done, Header, outside, Stores, Represents, represents_inside, text_line, Response, Refused, Held, no_table, table}
-use Rattle.refusals.specs.Refusals.{Reply, refused, accepted, reply, outcome}
+use Rattle.refusals.specs.declared.Refusal.{Refusal}
+use Rattle.std.specs.Prelude.{◌<◌, ◌≡◌, ◌∷◌, Result, Ok, Err}
+use Rattle.levels_spec.specs.Laws.Prelude.{ℕ, refl, sym, ap, ◌∙◌, inl, inr, true, List, [], Option, none, some, arith, eq-eqb, ne_eqb, some_number, ruled_refused, Lengths, Plain, Call, refusal, done, refused_nothing, accepted_done, Header, outside, Stores, Represents, represents_inside, text_line, Response, Refused, Held, no_table, table}
+use Rattle.refusals.specs.Refusals.{Reply, refused, accepted, reply, outcome, answer_view, number}
 use Rattle.levels_spec.specs.Response.{LineResult, printing, replied, calls, queries}
 use Rattle.levels_spec.specs.Laws.Letters.{on_table}
-use Rattle.levels_spec.specs.inner.Responses.{text_of, response_of, nothing_response, Responds}
+use Rattle.levels_spec.specs.inner.Responses.{text_of, response_of, nothing_response, Refuses, refuses, Responds}
 use Rattle.std.proofs.Math.Option.{Option-elim}
 
 -- ---- the response
 
-module _ {A : Type 0} (responds : A → Response) (r : Reply A) (n : ℕ) (e : outcome r ≡ reply n tt) where
-  pub response_of_refused : 0 < n → response_of responds r ≡ Refused n
-  unfolding response_of
-  response_of_refused more = rw (ruled_refused r n e more)
+pub response_of_refused : {A : Type 0} (responds : A → Response) (x : Result A Refusal) (n : ℕ) → outcome (answer_view x) ≡ reply n tt → 0 < n → Refuses n (response_of responds x)
+unfolding response_of answer_view
+response_of_refused responds (Ok a) n e more = absurd (let f = ruled_refused (accepted a) n e more in let z : ◌≡◌ {A = ℕ} 0 1 = cc in omega arith)
+response_of_refused responds (Err r) n e more = let f = ruled_refused _ n e more in refuses r cc
 
-pub response_of_accepted : {A : Type 0} (responds : A → Response) (r : Reply A) (a : A) → r ≡ accepted a → response_of responds r ≡ responds a
-unfolding response_of
-response_of_accepted responds r a e = rw e
+pub response_of_accepted : {A : Type 0} (responds : A → Response) (x : Result A Refusal) (a : A) → answer_view x ≡ accepted a → response_of responds x ≡ responds a
+unfolding response_of answer_view
+response_of_accepted responds (Ok b) a e = let same : b ≡ a = cc in rw same
+response_of_accepted responds (Err r) a e = absurd (let z : ◌≡◌ {A = ℕ} 0 1 = cc in omega arith)
 
 -- a call that is not refused prints nothing
-pub nothing_response_lem : (h : Header) (rows : List ℕ) (r : Reply Header) (n : ℕ) → outcome r ≡ reply n tt → n ≡ 0 → text_of h rows (response_of nothing_response r) ≡ []
-unfolding text_of response_of outcome reply
-nothing_response_lem h rows (accepted a) n e z = refl
-nothing_response_lem h rows (refused m) n e z = absurd (let f = rw z at e in let y : ◌≡◌ {A = ℕ} 0 1 = cc in omega arith)
+pub nothing_response_lem : (h : Header) (rows : List ℕ) (x : Result Header Refusal) (n : ℕ) → outcome (answer_view x) ≡ reply n tt → n ≡ 0 → text_of h rows (response_of nothing_response x) ≡ []
+unfolding text_of response_of answer_view outcome reply
+nothing_response_lem h rows (Ok a) n e z = refl
+nothing_response_lem h rows (Err r) n e z = absurd (let f = rw z at e in let y : ◌≡◌ {A = ℕ} 0 1 = cc in omega arith)
 
 -- ---- the text of the response
 
@@ -34,14 +36,14 @@ replied_accepted : (n : ℕ) (text : List ℕ) → n ≡ 0 → replied n text �
 unfolding replied
 replied_accepted n text zero = rw (eq-eqb n 0 zero)
 
-refused_text : (h : Header) (rows : List ℕ) (n : ℕ) → text_of h rows (Refused n) ≡ text_line 88 (n ∷ [])
+refused_text : (h : Header) (rows : List ℕ) (r : Refusal) → text_of h rows (Refused r) ≡ text_line 88 (number r ∷ [])
 unfolding text_of
-refused_text h rows n = refl
+refused_text h rows r = refl
 
-pub responds_refused : {s : Stores} {t : Option Plain} (n : ℕ) → Held t s → 0 < n → Responds (printing (replied n []) t) s (Refused n)
-responds_refused {s} n held more =
+pub responds_refused : {s : Stores} {t : Option Plain} {n : ℕ} {response : Response} → Held t s → 0 < n → Refuses n response → Responds (printing (replied n []) t) s response
+responds_refused {s} {n = n} held more (refuses r e) =
     record {
-      responds = refused_text s.header s.rows n ∙ sym (replied_refused n [] more);
+      responds = refused_text s.header s.rows r ∙ ap (λ (k : ℕ). text_line 88 (k ∷ [])) e ∙ sym (replied_refused n [] more);
       held = held;
       listed = λ numbered e. absurd (let z : ◌≡◌ {A = ℕ} 0 1 = cc in omega arith);
     }
@@ -55,7 +57,7 @@ responds_table e r = record { responds = e; held = table r; listed = λ numbered
 -- Facts about a line with refusal number n: its response and its result.
 pub record Does (line : Plain → LineResult) (s s' : Stores) (response : Response) (n : ℕ) : Type 0 where
   pub outside_first : outside s.header ≡ true → n ≡ 1
-  pub response_refused : 0 < n → response ≡ Refused n
+  pub response_refused : 0 < n → Refuses n response
   pub stays : 0 < n → s' ≡ s
   pub result_refused : (p : Plain) → Represents p s → 0 < n → line p ≡ printing (replied n []) (some p)
   pub result_done : (p : Plain) → Represents p s → n ≡ 0 → Responds (line p) s' response
@@ -65,11 +67,11 @@ unfolding Option-elim
 does_respond {line} {s} {s'} {response} {n} d none (no_table e) =
     let one : n ≡ 1 = d.outside_first e in
     let more : 0 < n = omega arith in
-    rw (d.response_refused more, d.stays more, one) (responds_refused 1 (no_table e) (omega arith))
+    rw (d.stays more) (responds_refused (no_table e) (omega arith) (rw one at (d.response_refused more)))
 does_respond {line} {s} {s'} {response} {n} d (some p) (table r) =
     elim (some_number n) [
       | inl zero ↦ d.result_done p r zero
-      | inr more ↦ rw (d.result_refused p r more, d.response_refused more, d.stays more) (responds_refused n (table r) more)
+      | inr more ↦ rw (d.result_refused p r more, d.stays more) (responds_refused (table r) more (d.response_refused more))
     ]
 
 -- a call

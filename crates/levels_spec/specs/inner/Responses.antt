@@ -1,13 +1,14 @@
 -- The response of a line before it is text: its encoding as text, and the contracts of the functions that return it. Assumes
 -- nothing.
-use Rattle.std.specs.Prelude.{ℕ, ◌+◌, ◌*◌, ◌≤◌, ◌≡◌, Bool, false, cond, List, [], ◌∷◌, length, take}
-use Rattle.std.proofs.Math.Option.{Option, none, some}
-use Rattle.refusals.specs.Refusals.{Reply, refused, accepted}
-use Rattle.offsets.specs.Subsets.{Subset, range, list}
+use Rattle.std.specs.Prelude.{ℕ, ◌+◌, ◌*◌, ◌≤◌, ◌≡◌, Bool, false, cond, List, [], ◌∷◌, length, take, Result, Ok, Err, Option as Optional, Some, None}
+use Rattle.std.proofs.Math.Option.{Option, none}
+use Rattle.refusals.specs.declared.Refusal.{Refusal}
+use Rattle.refusals.specs.Refusals.{number}
+use Rattle.sort_entries.specs.declared.Range.{Range as Found}
 use Rattle.plain_table.specs.Plain.{Plain}
 use Rattle.table.specs.declared.Header.{Header}
 use Rattle.table.specs.declared.Merge.{Merge}
-use Rattle.table.specs.declared.Version.{Version as Versioned}
+use Rattle.table.specs.declared.Version.{Version as Noted}
 use Rattle.table.specs.Refusing.{outside, rows_short}
 use Rattle.table.specs.Outcomes.{Stores}
 use Rattle.levels_text.specs.Written.{text_line}
@@ -22,7 +23,7 @@ use Rattle.levels_spec.specs.Answers.{Held, lent}
 
 unfoldable pub text_of : Header → List ℕ → Response → List ℕ
 text_of h rows Nothing = []
-text_of h rows (Refused n) = text_line 88 (n ∷ [])
+text_of h rows (Refused r) = text_line 88 (number r ∷ [])
 text_of h rows (Merged status added place) = text_line 77 (status ∷ added ∷ place ∷ [])
 text_of h rows NoRange = range_text none
 text_of h rows (Range start end) = text_line 70 (start ∷ end ∷ [])
@@ -42,9 +43,13 @@ pub record Encoded (h : Header) (rows : List ℕ) (response : Response) (text : 
 
 -- ---- the response to an entry point's answer
 
-unfoldable pub response_of : {A : Type 0} → (A → Response) → Reply A → Response
-response_of responds (refused n) = Refused n
-response_of responds (accepted a) = responds a
+unfoldable pub response_of : {A : Type 0} → (A → Response) → Result A Refusal → Response
+response_of responds (Err r) = Refused r
+response_of responds (Ok a) = responds a
+
+-- a response with the number of a refusal
+pub data Refuses (n : ℕ) : Response → Type 0 where
+  refuses : (r : Refusal) → number r ≡ n → Refuses n (Refused r)
 
 -- O, I, R, K, C and G
 abbrev pub nothing_response : Header → Response
@@ -55,17 +60,16 @@ abbrev pub merge_response : Merge → Response
 merge_response m = Merged m.status (cond m.added 1 0) m.place
 
 -- F
-unfoldable pub range_response : Option Subset → Response
-range_response none = NoRange
-range_response (some (range start end)) = Range start end
-range_response (some (list ids)) = Nothing
+unfoldable pub range_response : Optional Found → Response
+range_response None = NoRange
+range_response (Some r) = Range r.start r.end
 
 -- V
-abbrev pub version_response : Versioned → Response
+abbrev pub version_response : Noted → Response
 version_response v = Version v.generation v.rows
 
 -- L and U
-abbrev pub listing_response : Bool → Versioned → Response
+abbrev pub listing_response : Bool → Noted → Response
 listing_response numbered v = Listing numbered
 
 -- the header after an answer, and the response

@@ -24,10 +24,10 @@ returns-in-None c = record {
       begin _ conditions _ _ l (sym knows ∙ c.if-not-known.false) (none_misplaced _ _ c.first_misplaced.ensures c.in-None.is);
 }
 
-pub returns-in-At : goal.returns-in-At
-returns-in-At c = record {
+pub returns-in-Some : goal.returns-in-Some
+returns-in-Some c = record {
   begins = λ conditions knows.
       let l = c.requires.found (not-false _ c.if-not-s.false) in
-      rw c.finished-in-At.ensures
-      (settle (out_of_place _ conditions _ _ l (sym knows ∙ c.if-not-known.false) (one_misplaced _ _ c.first_misplaced.ensures _ c.in-At.is)));
+      rw c.finished-in-Some.ensures
+      (settle (out_of_place _ conditions _ _ l (sym knows ∙ c.if-not-known.false) (one_misplaced _ _ c.first_misplaced.ensures _ c.in-Some.is)));
 }

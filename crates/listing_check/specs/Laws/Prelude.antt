@@ -8,10 +8,8 @@ pub use Rattle.std.proofs.Math.Decide.{dec_lt, ℕ_discrete}
 pub use Rattle.std.proofs.Math.Nat.{min-eq_left, min-eq_right, min-le_left, min-le_right}
 pub use Rattle.constraints.specs.Constraints.{met}
 pub use Rattle.constraints.specs.declared.Constraint.{Constraint}
-pub use Rattle.listing_check.specs.declared.CheckAnswer.{CheckAnswer}
-pub use Rattle.listing_check.specs.declared.CheckAnswer.TheVariants.{Checked, Refused}
-pub use Rattle.listing_check.specs.declared.Verdict.{Verdict}
-pub use Rattle.listing_check.specs.declared.Verdict.TheVariants.{Misplaced, Right, Wrong}
+pub use Rattle.listing_check.specs.declared.Mistake.{Mistake}
+pub use Rattle.listing_check.specs.declared.Mistake.TheVariants.{Misplaced, Wrong}
 pub use Rattle.listing_spec.specs.Laws.Texts.{listing_parts, parses_determined, rising_from_lem}
 pub use Rattle.lists.specs.Laws.All.{or_right}
 pub use Rattle.lists.specs.Laws.Filter.{split}

@@ -1,5 +1,6 @@
 -- The merge scan of a listing's rows against the numbers given, and the contract of each step. Assumes nothing.
-use Rattle.std.specs.Prelude.{ℕ, ◌-◌, ◌≤◌, ◌<◌, min, ◌≡◌, Bool, true, cond, List, [], ◌∷◌, eqb, ltb, length, take, drop}
+use Rattle.refusals.specs.declared.Refusal.{Refusal}
+use Rattle.std.specs.Prelude.{ℕ, ◌-◌, ◌≤◌, ◌<◌, min, ◌≡◌, Bool, true, cond, List, [], ◌∷◌, eqb, ltb, length, take, drop, Result, Ok, Some, None, Option as Optional}
 use Rattle.std.proofs.Math.Option.{Option, none, some}
 use Rattle.lists.specs.Lists.{filter, all, above}
 use Rattle.constraints.specs.declared.Constraint.{Constraint}
@@ -7,19 +8,16 @@ use Rattle.constraints.specs.Constraints.{known, met, is_live, meets}
 use Rattle.listing_spec.specs.Listings.{row_numbers}
 use Rattle.listing_parse.specs.declared.Survey.{Survey}
 use Rattle.listing_parse.specs.Laws.Steps.{rows_from, ValidRows}
-use Rattle.listing_check.specs.declared.Verdict.TheVariants.{Wrong}
-use Rattle.listing_check.specs.declared.CheckAnswer.{CheckAnswer}
-use Rattle.listing_check.specs.declared.CheckAnswer.TheVariants.{Checked}
-use Rattle.listing_check.specs.declared.FirstMisplaced.{FirstMisplaced}
-use Rattle.listing_check.specs.declared.FirstMisplaced.TheVariants.{None, At}
+use Rattle.listing_check.specs.declared.Mistake.{Mistake}
+use Rattle.listing_check.specs.declared.Mistake.TheVariants.{Wrong}
 use Rattle.listing_check.specs.declared.Row.{Row}
 use Rattle.listing_check.specs.declared.CheckScan.{CheckScan}
 use Rattle.listing_check.specs.Answers.{AnswersChecked}
 
 -- the place of the first number not above the one before, as an option
-unfoldable pub misplaced_place : FirstMisplaced → Option ℕ
+unfoldable pub misplaced_place : Optional ℕ → Option ℕ
 misplaced_place None = none
-misplaced_place (At place) = some place
+misplaced_place (Some place) = some place
 
 -- the lowest number that exactly one of two rising lists has
 unfoldable pub first_apart : List ℕ → List ℕ → Option ℕ
@@ -33,9 +31,9 @@ unfoldable pub right_among : List Constraint → List (List ℕ) → List ℕ
 right_among conditions rows = row_numbers (filter (λ ns. all (met (drop 1 ns)) conditions) rows)
 
 -- an answer, unless a wrong number is still found
-unfoldable pub unless_wrong : CheckAnswer → Option ℕ → CheckAnswer
+unfoldable pub unless_wrong : Result (Optional Mistake) Refusal → Option ℕ → Result (Optional Mistake) Refusal
 unless_wrong answer none = answer
-unless_wrong answer (some number) = Checked (Wrong number)
+unless_wrong answer (some number) = Ok (Some (Wrong number))
 
 -- there is a D line at an offset
 pub record Due (columns : ℕ) (text : List ℕ) (start : ℕ) : Type 0 where
@@ -63,7 +61,7 @@ pub record Underway (columns : ℕ) (text : List ℕ) (conditions : List Constra
   pub comes : AnswersChecked text conditions given (unless_wrong at.answer (first_apart (drop at.place given) (right_among conditions (rows_left text at))))
 
 -- no row and no number is left
-abbrev pub finished_as : CheckAnswer → ℕ → CheckScan
+abbrev pub finished_as : Result (Optional Mistake) Refusal → ℕ → CheckScan
 finished_as answer count = record { answer = answer; start = 0; end = 0; place = count }
 
 pub record Begun (s : Survey) (knows : Bool) (text given : List ℕ) (at : CheckScan) : Type 0 where
@@ -76,5 +74,5 @@ pub record Stepped (given : List ℕ) (at : CheckScan) (row : Row) (meets-all : 
   pub nearer : at.start < at.end → at.start < row.next → at'.end - at'.start < at.end - at.start
 
 -- no rows are left
-unfoldable pub closed : CheckScan → List ℕ → CheckAnswer
+unfoldable pub closed : CheckScan → List ℕ → Result (Optional Mistake) Refusal
 closed at given = unless_wrong at.answer (first_apart (drop at.place given) [])

@@ -1,9 +1,12 @@
 -- `listing_read::read_listing` meets its contract. Assumes nothing.
+use Rattle.std.proofs.lemmas.Result.{err_from_is_err_and}
 use Rattle.listing_read.proofs.Reading.{listing_refused, listing_found}
 use Rattle.listing_read.proofs.read_listing.Goals as goal
 
-pub returns-in-Err : goal.returns-in-Err
-returns-in-Err c = listing_refused _ c.in-Err.is c.read.ensures
+pub returns-in_err-s : goal.returns-in_err-s
+returns-in_err-s c =
+    let p = err_from_is_err_and c.from_residual.result c.from_residual.ensures.1 in
+    rw (p.1, p.2) (listing_refused _ c.in_err-s.ensures)
 
-pub returns-in-Ok : goal.returns-in-Ok
-returns-in-Ok c = listing_found _ c.in-Ok.is c.read.ensures
+pub returns : goal.returns
+returns c = listing_found _ c.in_ok-s.ensures

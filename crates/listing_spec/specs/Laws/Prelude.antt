@@ -13,10 +13,6 @@ pub use Rattle.levels_text.specs.Laws.Digits.{digit, digit_byte}
 pub use Rattle.levels_text.specs.Laws.Reads.{decimal_read, decimal_value}
 pub use Rattle.levels_text.specs.Lines.{is_line, letter, numbers}
 pub use Rattle.levels_text.specs.Written.{field, text_line}
-pub use Rattle.listing_spec.specs.declared.ListingAnswer.{ListingAnswer}
-pub use Rattle.listing_spec.specs.declared.NumberedAnswer.{NumberedAnswer}
-pub use Rattle.listing_spec.specs.declared.TextAnswer.{TextAnswer}
-pub use Rattle.listing_spec.specs.declared.TextAnswer.TheVariants.{Refused, Written}
 pub use Rattle.lists.specs.Laws.All.{all_cons, all_head, all_snoc, all_tail}
 pub use Rattle.lists.specs.Laws.Filter.{all_get_d, all_of, and_left, and_right, split}
 pub use Rattle.lists.specs.Laws.Rising.{bool_ext, elem_append, elem_at, elem_iota, elem_of, get_d_iota, length_iota, rising_ext, rising_gap, rising_iota, within_high, within_of}

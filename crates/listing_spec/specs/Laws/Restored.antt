@@ -1,10 +1,11 @@
 -- A listing converted to the other form is of that form, and converting it back restores the text. Assumes nothing.
-use Rattle.std.specs.Prelude.{◌+◌, ◌-◌, ◌≤◌, ◌<◌, ◌≡◌, ◌&&◌, ◌∷◌, ◌++◌}
-use Rattle.listing_spec.specs.Laws.Prelude.{ℕ, zero, suc, refl, sym, ap, ap₂, ◌∙◌, inl, inr, Bool, true, false, false≢true, List, [], map, Option, none, some, arith, leb, ltb, length, take, drop, get_or, length-append, List·getD-append, List·getD-eq-default, get_or-take, length-take-le, get_or_at, eq-eqb, le-leb, lt-ltb, all_head, all_tail, all_cons, all_snoc, split, all_get_d, all_of, take_put, TextAnswer, Written}
+use Rattle.refusals.specs.declared.Refusal.{Refusal}
+use Rattle.std.specs.Prelude.{◌+◌, ◌-◌, ◌≤◌, ◌<◌, ◌≡◌, ◌&&◌, ◌∷◌, ◌++◌, Result, Ok}
+use Rattle.listing_spec.specs.Laws.Prelude.{ℕ, zero, suc, refl, sym, ap, ap₂, ◌∙◌, inl, inr, Bool, true, false, false≢true, List, [], map, Option, none, some, arith, leb, ltb, length, take, drop, get_or, length-append, List·getD-append, List·getD-eq-default, get_or-take, length-take-le, get_or_at, eq-eqb, le-leb, lt-ltb, all_head, all_tail, all_cons, all_snoc, split, all_get_d, all_of, take_put}
 use Rattle.std.proofs.Math.Option.{Option-elim}
 use Rattle.lists.specs.Lists.{all, splice}
-use Rattle.refusals.specs.Refusals.{check, first_refusal, accepted, reply, Effect}
-use Rattle.listing_spec.specs.Listings.{Listing, head_width, prefix_width, listing_text, are_numbers, is_head, is_row, is_listing, ParsesAs, parses, numbered_from, to_numbered, from_numbered, lacks_row, converted_text, convert_refusal, text_view, ListingConverted, RestoresText}
+use Rattle.refusals.specs.Refusals.{check, first_refusal, accepted, reply, Effect, answer_view}
+use Rattle.listing_spec.specs.Listings.{Listing, head_width, prefix_width, listing_text, are_numbers, is_head, is_row, is_listing, ParsesAs, parses, numbered_from, to_numbered, from_numbered, lacks_row, converted_text, convert_refusal, ListingConverted, RestoresText}
 use Rattle.listing_spec.specs.Laws.Texts.{RowsFit, Bounded, listing_parts, listing_of_lem, head_wide, head_bounds, row_parts, row_of, fit_none, fit_more, fit_rest, shown_listing, shown_text, parses_determined}
 use Rattle.listing_spec.specs.Laws.Conversions.{length_numbered_from, lacks_none, to_from, from_to}
 
@@ -135,13 +136,13 @@ pub accepted_same : {bytes m : ℕ} → accepted bytes ≡ accepted m → bytes 
 accepted_same e = cc
 
 -- an accepted conversion has written the text in the other form
-module _ {numbered : Bool} {text output output' : List ℕ} {bytes : ℕ} (x : ListingConverted numbered text output (Written bytes) output') where
+module _ {numbered : Bool} {text output output' : List ℕ} {bytes : ℕ} (x : ListingConverted numbered text output (Ok bytes) output') where
   accepted_conversion : convert_refusal numbered x.listing (length output) ≡ 0
-  unfolding text_view
+  unfolding answer_view
   accepted_conversion = accepted_number (length (converted_text numbered x.listing)) (convert_refusal numbered x.listing (length output)) x.effect.answers
 
   converted_bytes : bytes ≡ length (converted_text numbered x.listing)
-  unfolding text_view reply
+  unfolding answer_view reply
   converted_bytes = accepted_same (rw accepted_conversion at x.effect.answers)
 
   pub converted_taken : take bytes output' ≡ converted_text numbered x.listing
@@ -188,11 +189,11 @@ come_again text (some l) room s given moved e m sm =
     rw n (back_of false text (from_numbered l) refl (ap (listing_text true) (to_from l good (none_missing l room given)) ∙ sym (shown_text s)))
 
 -- The conversion back is refused only with 2, and exactly if the output is shorter than the text; accepted, it writes the text.
-abbrev pub Restored : List ℕ → List ℕ → TextAnswer → List ℕ → Type 0
-Restored text output answer output' = Effect (short text (length output)) (text_view answer) (length text) output output' (splice output 0 text)
+abbrev pub Restored : List ℕ → List ℕ → Result ℕ Refusal → List ℕ → Type 0
+Restored text output answer output' = Effect (short text (length output)) (answer_view answer) (length text) output output' (splice output 0 text)
 
 -- therefore the conversion back restores the text
-restored : {numbered : Bool} {text moved again again' : List ℕ} {answer : TextAnswer} (y : ListingConverted numbered moved again answer again') → Back numbered text y.listing
+restored : {numbered : Bool} {text moved again again' : List ℕ} {answer : Result ℕ Refusal} (y : ListingConverted numbered moved again answer again') → Back numbered text y.listing
     → Restored text again answer again'
 restored {text = text} {again = again} y b =
     let n = b.number (length again) in
@@ -213,8 +214,8 @@ roundtrip_from_new text output output' again again' bytes answer x y =
     restored y (come_again text x.listing (length output) x.shown (accepted_conversion x) _ (converted_taken x) y.listing y.shown)
 
 -- an accepted conversion back has written the text
-pub restored_taken : {text again again' : List ℕ} (bytes : ℕ) → Restored text again (Written bytes) again' → take bytes again' ≡ text
-unfolding text_view reply
+pub restored_taken : {text again again' : List ℕ} (bytes : ℕ) → Restored text again (Ok bytes) again' → take bytes again' ≡ text
+unfolding answer_view reply
 restored_taken {text} {again} bytes r =
     let zero = accepted_number (length text) (short text (length again)) r.answers in
     let long : bytes ≡ length text = accepted_same (r.answers ∙ ap (λ (k : ℕ). reply k (length text)) zero) in

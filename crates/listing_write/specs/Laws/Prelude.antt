@@ -7,11 +7,8 @@ pub use Rattle.std.proofs.Math.Option.{Option, some}
 pub use Rattle.constraints.specs.Constraints.{is_live}
 pub use Rattle.levels_text.specs.Laws.Decimals.{length_written}
 pub use Rattle.levels_text.specs.Written.{text_line}
-pub use Rattle.listing_spec.specs.Laws.Determined.{text_view_injective}
 pub use Rattle.listing_spec.specs.Laws.Restored.{accepted_number, accepted_same}
 pub use Rattle.listing_spec.specs.Laws.Texts.{RowsFit, fit_more, fit_none, listing_of_lem, parses_determined, row_of}
-pub use Rattle.listing_spec.specs.declared.TextAnswer.{TextAnswer}
-pub use Rattle.listing_spec.specs.declared.TextAnswer.TheVariants.{Refused, Written}
 pub use Rattle.listing_write.specs.Writing.{ListingWritten, write_refusal}
 pub use Rattle.lists.specs.Laws.All.{all_cons, all_head, all_tail, or_right, or_second}
 pub use Rattle.lists.specs.Laws.Filter.{split}

@@ -1,6 +1,6 @@
 -- A listing that is written is read back. Assumes nothing.
-use Rattle.std.specs.Prelude.{◌≤◌, ◌<◌, ◌≡◌, ◌∷◌, ◌++◌}
-use Rattle.listing_write.specs.Laws.Prelude.{ℕ, ap, ◌∙◌, Bool, true, List, [], Option, some, arith, ltb, length, take, lt-ltb, le-ltb, splice, flatten, Header, Written, parses_determined, ListingWritten}
+use Rattle.std.specs.Prelude.{◌≤◌, ◌<◌, ◌≡◌, ◌∷◌, ◌++◌, Ok}
+use Rattle.listing_write.specs.Laws.Prelude.{ℕ, ap, ◌∙◌, Bool, true, List, [], Option, some, arith, ltb, length, take, lt-ltb, le-ltb, splice, flatten, Header, parses_determined, ListingWritten}
 use Rattle.std.proofs.Math.Option.{Option-elim}
 use Rattle.refusals.specs.Refusals.{check, first_refusal, Reply, reply}
 use Rattle.listing_spec.specs.Listings.{Listing, are_numbers, ParsesAs, listing_cells, read_refusal, read_words, ListingRead}
@@ -35,7 +35,7 @@ shown_read {numbered} {output = output} {l = l} s x =
       unchanged = λ less. x.effect.unchanged (rw n (short_some l (length output) less));
     }
 
-module _ {numbered : Bool} {h : Header} {rows output output' : List ℕ} {bytes : ℕ} (x : ListingWritten numbered h rows output (Written bytes) output') where
+module _ {numbered : Bool} {h : Header} {rows output output' : List ℕ} {bytes : ℕ} (x : ListingWritten numbered h rows output (Ok bytes) output') where
   -- For any content of the stores, reading the text is refused only if the output is too short, and gives the listing.
   pub read_back : {cells cells' : List ℕ} {view : Reply (List ℕ)} → h.generation ≤ 4294967295 → are_numbers rows ≡ true → ListingRead numbered (take bytes output') cells view cells'
       → ReadBack (stored_listing numbered h rows) cells view cells'

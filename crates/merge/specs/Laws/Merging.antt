@@ -1,6 +1,6 @@
 -- A merge is the result of its passes, with pending emptied and, if it did not stop and that is due, dead rows dropped.
 -- Assumes nothing.
-use Rattle.std.specs.Prelude.{ℕ, ◌≡◌, Bool, true, false, length}
+use Rattle.std.specs.Prelude.{ℕ, ◌≡◌, Bool, true, false, length, Ok}
 use Rattle.std.proofs.Math.Path.{sym, ap, ap₂}
 use Rattle.std.proofs.Common.{◌∙◌, arith, eq-eqb, ne_eqb}
 use Rattle.std.proofs.Math.Bool.{cond}
@@ -13,8 +13,7 @@ use Rattle.table.specs.declared.Header.{Header}
 use Rattle.plain_table.proofs.Laws.Price.{compacted_live}
 use Rattle.table.specs.declared.Merge.{Merge}
 use Rattle.merge_insert.specs.declared.MergeProgress.{MergeProgress}
-use Rattle.table.specs.declared.MergeAnswer.TheVariants.{Merged}
-use Rattle.table.specs.Numbers.{merge_view}
+use Rattle.refusals.specs.Refusals.{answer_view}
 use Rattle.table.specs.Stores.{header_of, row_store, sort_store}
 use Rattle.table.specs.Outcomes.{Stores, stores, body, compaction_words, Represents, merge_of, merged_store, MergedTable}
 use Rattle.merge_pending.specs.inner.Becoming.{Becomes}
@@ -114,8 +113,8 @@ module _ {h : Header} {rows keys sorts pending live base : List ℕ} {m : MergeP
       f.answer ∙ (λ i. record { header = e i; status = a.status i; place = a.place i; added = x i; kept = k i; dropped = d i })
 
   -- the two halves are a merge
-  pub merged_table : MergedTable (stores h rows keys sorts pending) (compaction_words live base) (Merged r) (body rows' keys' sorts') (compaction_words live' base') p
-  unfolding merge_view
+  pub merged_table : MergedTable (stores h rows keys sorts pending) (compaction_words live base) (Ok r) (body rows' keys' sorts') (compaction_words live' base') p
+  unfolding answer_view
   merged_table =
       record {
         answers = ap accepted merged_answer;

@@ -1,10 +1,12 @@
 -- The set laws of subsets: what crates above this one may use of `intersect`, `retain` and `narrowed`; the reply that an answer
 -- encodes once its ids are written; and that a reply determines the answer. Assumes nothing.
-use Rattle.std.specs.Prelude.{◌≢◌, ◌+◌, ◌-◌, ◌≤◌, ◌<◌, ◌≡◌, ◌⊎◌, ◌∷◌}
-use Rattle.offsets.specs.Laws.Prelude.{ℕ, zero, suc, min, max, refl, sym, ap, ◌∙◌, inl, inr, Bool, true, false, List, [], dec_lt, arith, length, take, get_or, length-take, length-append, leb-true, le-leb, splice_nil, split, and_left, and_right, filter_same, filter_all, length_filter, count_le, same_refl, same_eq, same_ne, length_iota, get_d_iota, rising_filter, rising_iota, rising_at, elem_iota, filter_elem_comm, filter_within_iota, take_put, Reply, accepted, Same}
+use Rattle.refusals.specs.Laws.Numbers.{number_injective}
+use Rattle.refusals.specs.declared.Refusal.{Refusal}
+use Rattle.std.specs.Prelude.{◌≢◌, ◌+◌, ◌-◌, ◌≤◌, ◌<◌, ◌≡◌, ◌⊎◌, ◌∷◌, Result, Ok, Err}
+use Rattle.offsets.specs.Laws.Prelude.{ℕ, zero, suc, min, max, refl, sym, ap, ◌∙◌, inl, inr, Bool, true, List, [], dec_lt, arith, length, take, get_or, length-take, length-append, leb-true, le-leb, splice_nil, split, and_left, and_right, filter_same, filter_all, length_filter, count_le, same_refl, same_eq, same_ne, length_iota, get_d_iota, rising_filter, rising_iota, rising_at, elem_iota, filter_elem_comm, filter_within_iota, take_put, Reply, accepted, Same}
 use Rattle.lists.specs.Lists.{splice, filter, all, iota, rising, elem, within, same}
-use Rattle.offsets.specs.declared.SubsetAnswer.{SubsetAnswer}
-use Rattle.offsets.specs.declared.SubsetAnswer.TheVariants.{Refused, Range, List as Ids}
+use Rattle.offsets.specs.declared.SubsetForm.{SubsetForm}
+use Rattle.offsets.specs.declared.SubsetForm.TheVariants.{Range, List as Ids}
 use Rattle.offsets.specs.Subsets.{Subset, range, list, well_formed, members, size, end_of, list_or_nothing, intersect, shaped, retain, narrowed}
 use Rattle.offsets.specs.Answers.{subset_view, written, Answered}
 use Rattle.offsets.specs.inner.Writing.{Wrote}
@@ -197,7 +199,7 @@ well_formed_narrowed test (list ids) p h = rw (narrowed_list test ids) (formed_f
 
 -- ---- answers
 
-pub range_writes_nothing : (a b : ℕ) (output : List ℕ) → Answered (accepted (range a b)) output (Range a b) output
+pub range_writes_nothing : (a b : ℕ) (output : List ℕ) → Answered (accepted (range a b)) output (Ok (Range a b)) output
 unfolding subset_view written
 range_writes_nothing a b output = record { answers = refl; inside = λ k e. absurd (let z : ◌≡◌ {A = ℕ} 0 1 = cc in omega arith); writes = sym (splice_nil output 0) }
 
@@ -205,7 +207,7 @@ put_long : (l w : List ℕ) → length w ≤ length (splice l 0 w)
 unfolding splice
 put_long l w = simp length-append (omega arith)
 
-pub answered_list : (ids output : List ℕ) (n : ℕ) (output' : List ℕ) → Wrote output ids n output' → Answered (accepted (list ids)) output (Ids n) output'
+pub answered_list : (ids output : List ℕ) (n : ℕ) (output' : List ℕ) → Wrote output ids n output' → Answered (accepted (list ids)) output (Ok (Ids n)) output'
 unfolding subset_view written
 answered_list ids output n output' w =
     record {
@@ -215,24 +217,24 @@ answered_list ids output n output' w =
     }
 
 -- an answer is determined by the reply that it encodes, if the output has all its ids
-read_same : (a b : SubsetAnswer) (output : List ℕ) → subset_view a output ≡ subset_view b output
-    → ((n : ℕ) → a ≡ Ids n → n ≤ length output) → ((n : ℕ) → b ≡ Ids n → n ≤ length output) → a ≡ b
+read_same : (a b : Result SubsetForm Refusal) (output : List ℕ) → subset_view a output ≡ subset_view b output
+    → ((n : ℕ) → a ≡ Ok (Ids n) → n ≤ length output) → ((n : ℕ) → b ≡ Ok (Ids n) → n ≤ length output) → a ≡ b
 unfolding subset_view
-read_same (Refused n) (Refused m) output e f g = cc
-read_same (Refused n) (Range start end) output e f g = cc
-read_same (Refused n) (Ids m) output e f g = cc
-read_same (Range start end) (Refused n) output e f g = cc
-read_same (Range start end) (Range start' end') output e f g = cc
-read_same (Range start end) (Ids n) output e f g = cc
-read_same (Ids n) (Refused m) output e f g = cc
-read_same (Ids n) (Range start end) output e f g = cc
-read_same (Ids n) (Ids m) output e f g =
+read_same (Err r) (Err q) output e f g = ap Err (number_injective r q cc)
+read_same (Err r) (Ok (Range start end)) output e f g = cc
+read_same (Err r) (Ok (Ids m)) output e f g = cc
+read_same (Ok (Range start end)) (Err r) output e f g = cc
+read_same (Ok (Range start end)) (Ok (Range start' end')) output e f g = cc
+read_same (Ok (Range start end)) (Ok (Ids n)) output e f g = cc
+read_same (Ok (Ids n)) (Err r) output e f g = cc
+read_same (Ok (Ids n)) (Ok (Range start end)) output e f g = cc
+read_same (Ok (Ids n)) (Ok (Ids m)) output e f g =
     let ids-are : take n output ≡ take m output = cc in
-    ap (λ (k : ℕ). Ids k) (omega (arith, ap length ids-are, length-take n output, length-take m output, f n refl, g m refl))
+    ap (λ (k : ℕ). Ok (Ids k)) (omega (arith, ap length ids-are, length-take n output, length-take m output, f n refl, g m refl))
 
 -- The reply determines the answer and the output: no choice is left. This covers all of *Intersect*, whose reply is
 -- `intersect_reply`, and refine.
-pub answered_determined : {r : Reply Subset} {output output₁ output₂ : List ℕ} {a b : SubsetAnswer}
+pub answered_determined : {r : Reply Subset} {output output₁ output₂ : List ℕ} {a b : Result SubsetForm Refusal}
     → Answered r output a output₁ → Answered r output b output₂ → Same a b output₁ output₂
 answered_determined {output₂ = output₂} {a} {b} x y =
     let cells = x.writes ∙ sym y.writes in

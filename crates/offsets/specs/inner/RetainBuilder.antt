@@ -1,10 +1,10 @@
 -- Contracts of building the answer of `retain` over a range: a range while the kept ids are consecutive, then a list of all of
 -- them. Nothing is written while it is a range. Assumes nothing.
-use Rattle.std.specs.Prelude.{◌≡◌, ℕ, ◌+◌, ◌-◌, ◌<◌, ◌≤◌, true, List, [], ◌∷◌, ◌++◌, length, ◌≢◌, slice_index, slice_index_or}
+use Rattle.std.specs.Prelude.{◌≡◌, ℕ, ◌+◌, ◌-◌, ◌<◌, ◌≤◌, true, List, [], ◌∷◌, ◌++◌, length, ◌≢◌, slice_index, slice_index_or, Ok}
 use Rattle.lists.specs.Lists.{iota, rising}
 use Rattle.refusals.specs.Refusals.{accepted}
 use Rattle.offsets.specs.declared.retain.RetainBuilder.{RetainBuilder}
-use Rattle.offsets.specs.declared.SubsetAnswer.{SubsetAnswer}
+use Rattle.offsets.specs.declared.SubsetForm.{SubsetForm}
 use Rattle.offsets.specs.Subsets.{shaped}
 use Rattle.offsets.specs.Answers.{Answered}
 use Rattle.offsets.specs.inner.Writing.{Wrote}
@@ -57,5 +57,5 @@ pub record BuilderBegins (g : RetainBuilder) : Type 0 where
   pub begins : (output : List ℕ) → Builds output output g []
 
 -- the answer that the final state gives
-pub record BuilderEnds (g : RetainBuilder) (r : SubsetAnswer) : Type 0 where
-  pub ends : (output₀ output kept : List ℕ) → Builds output₀ output g kept → Answered (accepted (shaped kept)) output₀ r output
+pub record BuilderEnds (g : RetainBuilder) (form : SubsetForm) : Type 0 where
+  pub ends : (output₀ output kept : List ℕ) → Builds output₀ output g kept → Answered (accepted (shaped kept)) output₀ (Ok form) output

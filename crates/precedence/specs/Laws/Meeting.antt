@@ -1,9 +1,12 @@
 -- What the answer implies for each live row and pair; that equal values are met; and that the check of the lent rows is the check
 -- of the plain table that the stores represent. Assumes nothing.
-use Rattle.std.specs.Prelude.{◌+◌, ◌≤◌, ◌<◌, ◌≡◌, ◌⊎◌, ◌&&◌, ◌||◌, ◌∷◌}
-use Rattle.precedence.specs.Laws.Prelude.{ℕ, zero, suc, refl, sym, ap, ap₂, ◌∙◌, inl, inr, Bool, true, false, not, false≢true, List, [], Option, none, some, arith, eqb, length, get_or, eqb-true, leb-true, eq-eqb, le-leb, any, same, split, and_left, and_right, or_right, or_second, same_refl, same_eq, accepted, Opening, row_of, sort_cell, no_row, Header, opening_of, stores, Represents, of_rows, represents_sound, live_shown, PrecedenceAnswer}
+use Rattle.refusals.specs.Refusals.{found_view}
+use Rattle.refusals.specs.declared.Refusal.{Refusal}
+use Rattle.std.specs.Prelude.{◌+◌, ◌≤◌, ◌<◌, ◌≡◌, ◌⊎◌, ◌&&◌, ◌||◌, ◌∷◌, Result, Option as Optional}
+use Rattle.precedence.specs.Laws.Prelude.{ℕ, zero, suc, refl, sym, ap, ap₂, ◌∙◌, inl, inr, Bool, true, false, not, false≢true, List, [], Option, none, some, arith, eqb, length, get_or, eqb-true, leb-true, eq-eqb, le-leb, any, same, split, and_left, and_right, or_right, or_second, same_refl, same_eq, accepted, Opening, row_of, sort_cell, no_row, Header, opening_of, stores, Represents, of_rows, represents_sound, live_shown}
 use Rattle.plain_table.specs.Plain.{Row, Plain, Numbered, live_from, live_rows}
-use Rattle.precedence.specs.Precedence.{Pair, pairs_of, other_key_cells, precedes, meets_pair, first_failing, Failure, failure_among, precedence_failure, precedence_refusal, precedence_view, PrecedenceChecked}
+use Rattle.precedence.specs.Precedence.{Pair, pairs_of, other_key_cells, precedes, meets_pair, first_failing, failure_among, precedence_failure, precedence_refusal, PrecedenceChecked}
+use Rattle.precedence.specs.declared.Failure.{Failure}
 use Rattle.precedence.specs.Laws.Scan.{any_live_lem, live_any, fails_here, fails_later, failing_pair, failure_here, failure_later, failure_dead}
 
 -- a pair past the end
@@ -197,8 +200,8 @@ module _ {p : Plain} {h : Header} {rows keys sorts pending : List ℕ} (r : Repr
   unfolding live_rows
   rows_live = live_shown r
 
-  pub checked_plain : {column : ℕ} {pairs : List ℕ} {answer : PrecedenceAnswer} → PrecedenceChecked h rows keys column pairs answer
-      → precedence_refusal h (length rows) (length keys) column (length pairs) ≡ 0 → precedence_view answer ≡ accepted (precedence_failure p column (pairs_of pairs))
+  pub checked_plain : {column : ℕ} {pairs : List ℕ} {answer : Result (Optional Failure) Refusal} → PrecedenceChecked h rows keys column pairs answer
+      → precedence_refusal h (length rows) (length keys) column (length pairs) ≡ 0 → found_view answer ≡ accepted (precedence_failure p column (pairs_of pairs))
   checked_plain {column} {pairs} m passed =
       m.table passed r.keys_sound (represents_sound r).contents.keys_differ
       ∙ ap accepted (failure_same (of_rows h rows) p column (pairs_of pairs) (ap (λ (x : Header). opening_of x) r.shown.header) rows_live)

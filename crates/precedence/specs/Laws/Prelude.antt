@@ -10,8 +10,6 @@ pub use Rattle.lists.specs.Lists.{any, same}
 pub use Rattle.plain_table.proofs.Laws.Rows.{no_row}
 pub use Rattle.plain_table.specs.Proper.{row_of, sort_cell}
 pub use Rattle.plain_table.specs.Staged.{Opening}
-pub use Rattle.precedence.specs.declared.PrecedenceAnswer.{PrecedenceAnswer}
-pub use Rattle.precedence.specs.declared.PrecedenceAnswer.TheVariants.{Fails, Met, Refused}
 pub use Rattle.refusals.specs.Laws.Determined.{SameAnswer, answer_same}
 pub use Rattle.refusals.specs.Refusals.{accepted}
 pub use Rattle.table.specs.Outcomes.{Represents, of_rows, stores}

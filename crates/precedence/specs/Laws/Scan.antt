@@ -4,7 +4,8 @@ use Rattle.precedence.specs.Laws.Prelude.{ℕ, zero, suc, refl, sym, ap₂, ◌�
 use Rattle.lists.specs.Lists.{any, same}
 use Rattle.plain_table.specs.Staged.{has_key}
 use Rattle.plain_table.specs.Plain.{Row, Plain, live_from}
-use Rattle.precedence.specs.Precedence.{Pair, pairs_of, other_key_cells, meets_pair, first_failing, Failure, failure_among}
+use Rattle.precedence.specs.Precedence.{Pair, pairs_of, other_key_cells, meets_pair, first_failing, failure_among}
+use Rattle.precedence.specs.declared.Failure.{Failure}
 use Rattle.std.proofs.Math.Option.{Option-elim}
 
 -- ---- live rows that pass a test of their cells

@@ -4,14 +4,13 @@ use Rattle.query_scan.proofs.Prelude.{refl}
 use Rattle.query_scan.proofs.ScanSteps.{next_below, next_in_range, place_in_list, next_in_list}
 use Rattle.query_scan.proofs.move_on.Goals as goal
 
-pub overflow_add-result : goal.overflow_add-result
-overflow_add-result c = let below : c.args.s.id + 1 ≤ c.in-Range.field-1 = next_below c.in-Range.field-0 _ _ (rw c.in-Range.is at c.requires) in search rules
+pub overflow_add-n-in-Range : goal.overflow_add-n-in-Range
+overflow_add-n-in-Range c = let below : c.args.s.id + 1 ≤ c.in-Range.field-1 = next_below c.in-Range.field-0 _ _ (rw c.in-Range.is at c.requires) in search rules
 
 pub returns-in-Range : goal.returns-in-Range
 returns-in-Range c =
     rw c.in-Range.is
     (record {
-      refused_is = refl;
       next_is = refl;
       end_is = refl;
       most_is = refl;
@@ -20,14 +19,13 @@ returns-in-Range c =
       id_is = next_in_range _ _ _ (rw c.in-Range.is at c.requires);
     })
 
-pub bounds-ids-next : goal.bounds-ids-next
-bounds-ids-next c = place_in_list _ _ (rw c.in-List.is at c.requires) c.if-next-s.true
+pub bounds-ids-n : goal.bounds-ids-n
+bounds-ids-n c = place_in_list _ _ (rw c.in-List.is at c.requires) c.if-n-s.true
 
-pub returns-then-next-s : goal.returns-then-next-s
-returns-then-next-s c =
+pub returns-then-n-s : goal.returns-then-n-s
+returns-then-n-s c =
     rw c.in-List.is
     (record {
-      refused_is = refl;
       next_is = refl;
       end_is = refl;
       most_is = refl;

@@ -1,21 +1,18 @@
 -- A scan over places of a subset, row by row: what it tests, visits, keeps and counts, and how the queries use it. Assumes nothing.
-use Rattle.std.specs.Prelude.{ℕ, zero, suc, ◌+◌, ◌-◌, ◌*◌, ◌≤◌, ◌<◌, min, ◌≡◌, Bool, true, false, cond, not, ◌&&◌, List, [], ◌∷◌, ◌++◌, ltb, eqb, length, get_or, Option, Some, None}
-use Rattle.lists.specs.Lists.{splice, filter, all, row_at}
-use Rattle.refusals.specs.Refusals.{accepted}
+use Rattle.std.specs.Prelude.{ℕ, zero, suc, ◌+◌, ◌-◌, ◌*◌, ◌≤◌, ◌<◌, min, ◌≡◌, Bool, true, false, cond, not, List, [], ◌∷◌, ◌++◌, ltb, eqb, length, get_or, Option, Some, None, Result, Ok, Err}
+use Rattle.lists.specs.Lists.{splice, filter, all}
+use Rattle.refusals.specs.declared.Refusal.{Refusal}
+use Rattle.refusals.specs.Refusals.{accepted, number}
 use Rattle.offsets.specs.declared.retain.RetainBuilder.{RetainBuilder}
-use Rattle.offsets.specs.declared.SubsetAnswer.{SubsetAnswer}
-use Rattle.offsets.specs.declared.SubsetAnswer.TheVariants.{Refused}
+use Rattle.offsets.specs.declared.SubsetForm.{SubsetForm}
 use Rattle.offsets.specs.Subsets.{Subset, well_formed, members, size, narrowed}
 use Rattle.offsets.specs.Answers.{Answered}
 use Rattle.offsets.specs.inner.Writing.{Wrote}
 use Rattle.offsets.specs.inner.RetainBuilder.{Builds, CanAdd, Adds, BuilderBegins}
 use Rattle.constraints.specs.declared.Constraint.{Constraint}
-use Rattle.constraints.specs.Constraints.{known, met, is_live}
+use Rattle.constraints.specs.Constraints.{known}
 use Rattle.table.specs.declared.Header.{Header}
-use Rattle.query_spec.specs.declared.MatchAnswer.{MatchAnswer}
-use Rattle.query_spec.specs.declared.MatchAnswer.TheVariants.{Refused as MatchIsRefused, Match as Matches}
-use Rattle.query_spec.specs.declared.PageAnswer.{PageAnswer}
-use Rattle.query_spec.specs.declared.PageAnswer.TheVariants.{Refused as PageIsRefused, Page as Paged}
+use Rattle.query_spec.specs.declared.Page.{Page as Read}
 use Rattle.query_scan.specs.declared.Scan.{Scan}
 use Rattle.query_spec.specs.Queries.{refine_refusal, match_refusal, page_refusal, matches, dead_among, visited}
 use Rattle.query_spec.specs.inner.Tests.{Queryable}
@@ -60,8 +57,7 @@ unfoldable pub scanned_ids : Subset → Scan → Scan → List ℕ
 scanned_ids subset s₀ s = visited subset s₀.next (s.next - s₀.next)
 
 -- a scan that starts at a place
-pub record BeginsAt (subset : Subset) (refused next end most : ℕ) (s : Scan) : Type 0 where
-  pub refused_is : s.refused ≡ refused
+pub record BeginsAt (subset : Subset) (next end most : ℕ) (s : Scan) : Type 0 where
   pub next_is : s.next ≡ next
   pub end_is : s.end ≡ end
   pub most_is : s.most ≡ most
@@ -84,7 +80,6 @@ pub record CanStart (h : Header) (rows : ℕ) (subset : Subset) (s : Scan) (outp
 -- a scan that started as s₀ on output₀: of the ids visited so far it has kept those that pass the test, and counted those whose
 -- rows are dead
 pub record ScanInvariant (h : Header) (rows : List ℕ) (subset : Subset) (test : ℕ → Bool) (s₀ : Scan) (output₀ : List ℕ) (s : Scan) (output : List ℕ) : Type 0 where
-  pub refused_is : s.refused ≡ s₀.refused
   pub most_is : s.most ≡ s₀.most
   pub from : s₀.next ≤ s.next
   pub upto : s.next ≤ s.end
@@ -97,7 +92,6 @@ pub record ScanInvariant (h : Header) (rows : List ℕ) (subset : Subset) (test 
 
 -- an id is kept; the scan ends when the wanted number of ids is kept
 pub record Keeps (s : Scan) (output : List ℕ) (s' : Scan) (output' : List ℕ) : Type 0 where
-  pub refused_is : s'.refused ≡ s.refused
   pub next_is : s'.next ≡ s.next
   pub id_is : s'.id ≡ s.id
   pub most_is : s'.most ≡ s.most
@@ -113,7 +107,6 @@ pub record CanMove (subset : Subset) (s : Scan) : Type 0 where
   pub within : s.end ≤ size subset
 
 pub record Moves (subset : Subset) (s s' : Scan) : Type 0 where
-  pub refused_is : s'.refused ≡ s.refused
   pub next_is : s'.next ≡ s.next + 1
   pub end_is : s'.end ≡ s.end
   pub most_is : s'.most ≡ s.most
@@ -129,7 +122,6 @@ pub record CanStep (h : Header) (rows : ℕ) (subset : Subset) (s : Scan) (hit :
   pub can_add : hit ≡ true → CanAdd output s.found s.id
 
 pub record ScanSteps (h : Header) (rows : List ℕ) (subset : Subset) (s : Scan) (hit : Bool) (output : List ℕ) (s' : Scan) (output' : List ℕ) : Type 0 where
-  pub refused_is : s'.refused ≡ s.refused
   pub next_is : s'.next ≡ s.next + 1
   pub most_is : s'.most ≡ s.most
   pub dead_is : s'.dead ≡ s.dead + dead_among h rows (s.id ∷ [])
@@ -141,32 +133,41 @@ pub record ScanSteps (h : Header) (rows : List ℕ) (subset : Subset) (s : Scan)
 
 -- a scan that has ended
 pub record Finished (h : Header) (rows : List ℕ) (subset : Subset) (test : ℕ → Bool) (s₀ : Scan) (output₀ : List ℕ) (s : Scan) (output : List ℕ) : Type 0 where
-  pub refused_is : s.refused ≡ s₀.refused
   pub next_is : s.next ≡ s₀.next + length (up_to s₀.most test (places subset s₀))
   pub grows : Builds output₀ output s.found (filter test (up_to s₀.most test (places subset s₀)))
   pub dead_is : s.dead ≡ dead_among h rows (up_to s₀.most test (places subset s₀))
 
 -- ---- a query
 
--- the start of a query: refused, or over its places
-pub record ScanStarts (query : QueryKind) (h : Header) (rows : ℕ) (subset : Subset) (knows : Bool) (output : ℕ) (s : Scan) : Type 0 where
-  pub number_is : (conditions : List Constraint) → knows ≡ all (known h.columns) conditions → s.refused ≡ refusal_of query h rows subset conditions output
-  pub queryable : s.refused ≡ 0 → Queryable h rows subset
+-- a query that is not refused starts over its places
+pub record ScanBegun (query : QueryKind) (h : Header) (rows : ℕ) (subset : Subset) (knows : Bool) (output : ℕ) (s : Scan) : Type 0 where
+  pub accepts : (conditions : List Constraint) → knows ≡ all (known h.columns) conditions → refusal_of query h rows subset conditions output ≡ 0
+  pub queryable : Queryable h rows subset
   pub can_start : (output₀ : List ℕ) → length output₀ ≡ output → CanStart h rows subset s output₀
-  pub first_is : s.refused ≡ 0 → s.next ≡ first_place query
-  pub visits_is : s.refused ≡ 0 → (test : ℕ → Bool) → up_to s.most test (places subset s) ≡ ids_visited query test subset
-  pub in_room : s.refused ≡ 0 → room_required query subset ≤ output
-  pub no_places : (s.refused ≡ 0 → ⊥) → s.next ≡ s.end
+  pub first_is : s.next ≡ first_place query
+  pub visits_is : (test : ℕ → Bool) → up_to s.most test (places subset s) ≡ ids_visited query test subset
+  pub in_room : room_required query subset ≤ output
 
--- the end of a query: refused with nothing written, or its ids visited, those that match kept and the dead ones counted
-pub record ScanAnswered (query : QueryKind) (h : Header) (rows : List ℕ) (subset : Subset) (conditions : List Constraint) (output : List ℕ) (s : Scan) (output' : List ℕ) : Type 0 where
-  pub number_is : s.refused ≡ refusal_of query h (length rows) subset conditions (length output)
-  pub queryable : s.refused ≡ 0 → Queryable h (length rows) subset
-  pub in_room : s.refused ≡ 0 → room_required query subset ≤ length output
-  pub within : s.refused ≡ 0 → first_place query ≤ size subset
-  pub counted : s.refused ≡ 0 → Counted h rows (first_place query) (ids_visited query (matches h rows conditions) subset) s
-  pub grows : s.refused ≡ 0 → Builds output output' s.found (filter (matches h rows conditions) (ids_visited query (matches h rows conditions) subset))
-  pub unwritten : (s.refused ≡ 0 → ⊥) → output' ≡ output
+-- the start of a query: over its places, or refused
+abbrev pub ScanStarts : QueryKind → Header → ℕ → Subset → Bool → ℕ → Result Scan Refusal → Type 0
+ScanStarts query h rows subset knows output (Ok s) = ScanBegun query h rows subset knows output s
+ScanStarts query h rows subset knows output (Err r) =
+    (conditions : List Constraint) → knows ≡ all (known h.columns) conditions → number r ≡ refusal_of query h rows subset conditions output
+
+-- a query that is not refused ends: its ids are visited, those that match are kept and the dead ones counted
+pub record ScanDone (query : QueryKind) (h : Header) (rows : List ℕ) (subset : Subset) (conditions : List Constraint) (output : List ℕ) (s : Scan) (output' : List ℕ) : Type 0 where
+  pub accepts : refusal_of query h (length rows) subset conditions (length output) ≡ 0
+  pub queryable : Queryable h (length rows) subset
+  pub in_room : room_required query subset ≤ length output
+  pub within : first_place query ≤ size subset
+  pub counted : Counted h rows (first_place query) (ids_visited query (matches h rows conditions) subset) s
+  pub grows : Builds output output' s.found (filter (matches h rows conditions) (ids_visited query (matches h rows conditions) subset))
+
+-- the end of a query: as above, or refused with nothing written
+abbrev pub ScanAnswered : QueryKind → Header → List ℕ → Subset → List Constraint → List ℕ → Result Scan Refusal → List ℕ → Type 0
+ScanAnswered query h rows subset conditions output (Ok s) output' = ScanDone query h rows subset conditions output s output'
+ScanAnswered query h rows subset conditions output (Err r) output' =
+    (number r ≡ refusal_of query h (length rows) subset conditions (length output)) × (output' ≡ output)
 
 -- writing the ids kept: what it requires, and what it does
 pub record CanWrite (output : List ℕ) (g : RetainBuilder) : Type 0 where
@@ -179,23 +180,20 @@ pub record Writes (output : List ℕ) (g : RetainBuilder) (count : ℕ) (output'
   pub writes : (output₀ kept : List ℕ) → Builds output₀ output g kept → Wrote output₀ kept count output'
 
 -- the end of a refine by a list: "a range stays only if all of it is kept, else a list"
-pub record RefineClosed (subset : Subset) (s : Scan) (output : List ℕ) (answer : SubsetAnswer) (output' : List ℕ) : Type 0 where
-  pub refuses : (s.refused ≡ 0 → ⊥) → (answer ≡ Refused s.refused) × (output' ≡ output)
-  pub narrows : s.refused ≡ 0 → (test : ℕ → Bool) (output₀ : List ℕ) → well_formed subset ≡ true
+pub record RefineClosed (subset : Subset) (s : Scan) (output : List ℕ) (form : SubsetForm) (output' : List ℕ) : Type 0 where
+  pub narrows : (test : ℕ → Bool) (output₀ : List ℕ) → well_formed subset ≡ true
       → Builds output₀ output s.found (filter test (members subset))
-      → Answered (accepted (narrowed test subset)) output₀ answer output'
+      → Answered (accepted (narrowed test subset)) output₀ (Ok form) output'
 
 -- the place to continue from after a page
 unfoldable pub next_at : Subset → ℕ → Option ℕ
 next_at subset next = cond (ltb next (size subset)) (Some next) None
 
 -- the end of a page
-pub record PageClosed (subset : Subset) (s : Scan) (output : List ℕ) (answer : PageAnswer) (output' : List ℕ) : Type 0 where
-  pub refuses : (s.refused ≡ 0 → ⊥) → (answer ≡ PageIsRefused s.refused) × (output' ≡ output)
-  pub pages : s.refused ≡ 0 → (output₀ kept : List ℕ) → Builds output₀ output s.found kept
-      → (answer ≡ Paged (record { written = length kept; dead = s.dead; next = next_at subset s.next })) × (output' ≡ splice output₀ 0 kept)
+pub record PageClosed (subset : Subset) (s : Scan) (output : List ℕ) (page : Read) (output' : List ℕ) : Type 0 where
+  pub pages : (output₀ kept : List ℕ) → Builds output₀ output s.found kept
+      → (page ≡ record { written = length kept; dead = s.dead; next = next_at subset s.next }) × (output' ≡ splice output₀ 0 kept)
 
 -- the end of a search for a match
-pub record MatchClosed (s : Scan) (answer : MatchAnswer) : Type 0 where
-  pub refuses : (s.refused ≡ 0 → ⊥) → answer ≡ MatchIsRefused s.refused
-  pub answer_is : s.refused ≡ 0 → answer ≡ Matches (not (eqb s.found.count 0))
+pub record MatchClosed (s : Scan) (found : Bool) : Type 0 where
+  pub found_is : found ≡ not (eqb s.found.count 0)

@@ -1,9 +1,9 @@
 -- The ids that a page visits: each is written, has a dead row, or has a live row that fails a condition. Assumes nothing.
+use Rattle.std.specs.Prelude.{Ok}
 use Rattle.query_spec.proofs.Laws.Prelude.{ℕ, ◌+◌, ◌≡◌, refl, sym, ap, ◌∙◌, inl, inr, not, ◌&&◌, List, [], ◌∷◌, ℕ_discrete, arith, length, split, Reply, refused, accepted, reply_refused, reply_accepted, Constraint, Header, Page}
 use Rattle.lists.specs.Lists.{filter, count, all, row_at}
 use Rattle.offsets.specs.Subsets.{Subset}
 use Rattle.constraints.specs.Constraints.{met, is_live, meets}
-use Rattle.query_spec.specs.declared.PageAnswer.TheVariants.{Page as Paged}
 use Rattle.query_spec.specs.Queries.{matches, dead_among, page_refusal, visited, next_place, page_ids, next_view, PageResult, page_of, page_view, PageRead}
 
 -- how many of these ids have a live row that fails a condition
@@ -26,7 +26,7 @@ visited_parts h rows conditions (x ∷ xs) =
 
 -- so the numbers of a page account for every id that it visits
 pub page_parts : (h : Header) (rows : List ℕ) (subset : Subset) (start n : ℕ) (conditions : List Constraint) (output : List ℕ) (page : Page) (output' : List ℕ)
-    → PageRead h rows subset start n conditions output (Paged page) output'
+    → PageRead h rows subset start n conditions output (Ok page) output'
     → page.written + page.dead + failed_among h rows conditions (visited subset start n) ≡ length (visited subset start n)
 unfolding page_of page_ids page_view
 page_parts h rows subset start n conditions output page output' p =

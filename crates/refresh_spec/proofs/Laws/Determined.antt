@@ -1,17 +1,14 @@
 -- Over a sound index store the contract determines the outcome, except for the inside of that store, which is the program's choice.
 -- Over an unsound one, the choice of the staged rows among those that mention a value is open too. Assumes nothing.
-use Rattle.refresh_spec.proofs.Laws.Prelude.{ℕ, ◌≡◌, sym, ap, ◌∙◌, ⊎_elim, List, filter_same, some_number, Same, Refresh, mentioning, refreshed, Header, opening_of, of_rows, RefreshAnswer, Refused, Refreshed, IndexSound}
-use Rattle.refresh_spec.specs.Refreshes.{refresh_view, records_found, Refreshing}
+use Rattle.refresh_spec.specs.declared.Refreshed.{Refreshed}
+use Rattle.refusals.specs.Laws.Numbers.{answer_view_injective}
+use Rattle.refusals.specs.declared.Refusal.{Refusal}
+use Rattle.std.specs.Prelude.{Result}
+use Rattle.refresh_spec.proofs.Laws.Prelude.{ℕ, ◌≡◌, sym, ap, ◌∙◌, ⊎_elim, List, filter_same, some_number, Same, Refresh, mentioning, refreshed, Header, opening_of, of_rows, IndexSound}
+use Rattle.refresh_spec.specs.Refreshes.{records_found, Refreshing}
 use Rattle.refresh_spec.proofs.Laws.Keeps.{number, found_records}
 
-refresh_view_injective : (a b : RefreshAnswer) → refresh_view a ≡ refresh_view b → a ≡ b
-unfolding refresh_view
-refresh_view_injective (Refused m) (Refused n) e = cc
-refresh_view_injective (Refused m) (Refreshed x) e = cc
-refresh_view_injective (Refreshed x) (Refused n) e = cc
-refresh_view_injective (Refreshed x) (Refreshed y) e = cc
-
-module _ {h : Header} {rows pending index : List ℕ} {r : Refresh} {a b : RefreshAnswer} {pending₁ index₁ pending₂ index₂ : List ℕ}
+module _ {h : Header} {rows pending index : List ℕ} {r : Refresh} {a b : Result Refreshed Refusal} {pending₁ index₁ pending₂ index₂ : List ℕ}
     (x : Refreshing h rows pending index r a pending₁ index₁) (y : Refreshing h rows pending index r b pending₂ index₂) (sound : IndexSound h rows r.columns index) where
   same_found : found_records x ≡ found_records y
   unfolding records_found
@@ -22,7 +19,7 @@ module _ {h : Header} {rows pending index : List ℕ} {r : Refresh} {a b : Refre
   pub refreshing_determined : Same a b pending₁ pending₂
   refreshing_determined =
       record {
-        answer = refresh_view_injective a b (x.effect.answers ∙ rw same_found (sym y.effect.answers));
+        answer = answer_view_injective a b (x.effect.answers ∙ rw same_found (sym y.effect.answers));
         cells =
             ⊎_elim
             (λ none. x.effect.written none ∙ rw same_found (sym (y.effect.written (rw same_found at none))))

@@ -1,10 +1,13 @@
 -- "An empty value or column list, if nothing is refused, answers no": from the contract of a refresh alone, whatever the index
 -- store holds. Assumes nothing.
-use Rattle.refresh_spec.proofs.Laws.Prelude.{ℕ, ◌≡◌, refl, sym, ap, ◌∙◌, ◌⊎◌, inl, inr, Bool, false, List, [], ◌∷◌, arith, accepted, some_number, Numbered, live_rows, Header, of_rows, RefreshAnswer}
+use Rattle.refusals.specs.Refusals.{answer_view}
+use Rattle.refusals.specs.declared.Refusal.{Refusal}
+use Rattle.std.specs.Prelude.{Result}
+use Rattle.refresh_spec.proofs.Laws.Prelude.{ℕ, ◌≡◌, refl, sym, ap, ◌∙◌, ◌⊎◌, inl, inr, Bool, false, List, [], ◌∷◌, arith, accepted, some_number, Numbered, live_rows, Header, of_rows}
 use Rattle.lists.specs.Lists.{filter, any, elem, flatten}
 use Rattle.plain_table.specs.Refreshing.{Refresh, mentions, mentioning, refreshed}
 use Rattle.refresh_spec.specs.declared.Refreshed.{Refreshed}
-use Rattle.refresh_spec.specs.Refreshes.{refresh_view, records_found, answered, Refreshing}
+use Rattle.refresh_spec.specs.Refreshes.{records_found, answered, Refreshing}
 use Rattle.refresh_spec.proofs.Laws.Keeps.{number, view_accepted, view_refused}
 
 -- nothing is mentioned without values, or without columns
@@ -27,9 +30,9 @@ unfolding records_found mentioning refreshed filter flatten
 nothing_found h rows r found e =
     rw (filter_none (λ row. mentions r.columns r.values row.cells) (λ row. none_mentions r e row.cells) (live_rows (of_rows h rows)))
 
-pub empty_answers_no : {h : Header} {rows pending index : List ℕ} {r : Refresh} {answer : RefreshAnswer} {pending' index' : List ℕ}
+pub empty_answers_no : {h : Header} {rows pending index : List ℕ} {r : Refresh} {answer : Result Refreshed Refusal} {pending' index' : List ℕ}
     → Refreshing h rows pending index r answer pending' index' → (r.columns ≡ []) ⊎ (r.values ≡ [])
-    → (a : Refreshed) → refresh_view answer ≡ accepted a → a.staged ≡ false
+    → (a : Refreshed) → answer_view answer ≡ accepted a → a.staged ≡ false
 empty_answers_no {h} {rows} {r = r} m e a view-is =
     elim (some_number (number m)) [
       | inl none ↦

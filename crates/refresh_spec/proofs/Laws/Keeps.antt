@@ -1,14 +1,17 @@
 -- The table after a refresh, from its contract alone. "The table stays sound whatever it holds", of the index store. Over a sound
 -- index store the refresh stages what the plain table stages. Assumes nothing.
-use Rattle.refresh_spec.proofs.Laws.Prelude.{ℕ, ◌+◌, ◌*◌, ◌≤◌, ◌<◌, ◌≡◌, sym, ◌∙◌, inl, inr, Bool, true, List, [], map, ltb, eqb, length, ltb-false, or_no_left, or_no_right, splice_nil, split, filter_all, all_of, all_filter_of, some_number, Staged, words_all, first_refusal_no, first_refusal_rest, Whole, openable_bounds, live_wide, refreshed_whole, Header, opening_of, record_words, Stores, stores, body_of, joined, Represents, of_rows, reply_refused, reply_accepted, header_inside, largest_view_largest_of, live_shown, records_represent, SoundTable, represented_sound_table, shows_plain, RefreshAnswer}
+use Rattle.refresh_spec.specs.declared.Refreshed.{Refreshed}
+use Rattle.refusals.specs.declared.Refusal.{Refusal}
+use Rattle.std.specs.Prelude.{Result}
+use Rattle.refresh_spec.proofs.Laws.Prelude.{ℕ, ◌+◌, ◌*◌, ◌≤◌, ◌<◌, ◌≡◌, sym, ◌∙◌, inl, inr, Bool, true, List, [], map, ltb, eqb, length, ltb-false, or_no_left, or_no_right, splice_nil, split, filter_all, all_of, all_filter_of, some_number, Staged, words_all, first_refusal_no, first_refusal_rest, Whole, openable_bounds, live_wide, refreshed_whole, Header, opening_of, record_words, Stores, stores, body_of, joined, Represents, of_rows, reply_refused, reply_accepted, header_inside, largest_view_largest_of, live_shown, records_represent, SoundTable, represented_sound_table, shows_plain}
 use Rattle.lists.specs.Lists.{splice, flatten}
-use Rattle.refusals.specs.Refusals.{refused, accepted, first_refusal, if_accepted}
+use Rattle.refusals.specs.Refusals.{refused, accepted, first_refusal, if_accepted, answer_view}
 use Rattle.plain_table.specs.Plain.{Plain, live_rows}
 use Rattle.plain_table.specs.Refusing.{Lengths, overfull}
 use Rattle.plain_table.specs.Refreshing.{Refresh, mentions, mentioning, index_short, refresh_checks}
 use Rattle.plain_table.specs.Calls.{refreshing, records_of, stage_all, refusal}
 use Rattle.table.specs.Refusing.{outside, pending_outside}
-use Rattle.refresh_spec.specs.Refreshes.{refresh_view, refresh_refusal, records_found, answered, Refreshing}
+use Rattle.refresh_spec.specs.Refreshes.{refresh_refusal, records_found, answered, Refreshing}
 
 -- ---- its refusals
 
@@ -70,7 +73,7 @@ module _ {p : Plain} {s : Stores} (r : Represents p s) (q : Refresh) where
 
 -- ---- its outcome
 
-module _ {h : Header} {rows pending index pending' index' : List ℕ} {q : Refresh} {answer : RefreshAnswer} (m : Refreshing h rows pending index q answer pending' index') where
+module _ {h : Header} {rows pending index pending' index' : List ℕ} {q : Refresh} {answer : Result Refreshed Refusal} (m : Refreshing h rows pending index q answer pending' index') where
   -- the records that it finds, and its refusal number
   abbrev pub found_records : List Staged
   found_records = records_found h rows q m.found
@@ -78,10 +81,10 @@ module _ {h : Header} {rows pending index pending' index' : List ℕ} {q : Refre
   abbrev pub number : ℕ
   number = refresh_refusal h (length rows) (length pending) (length index) q found_records
 
-  pub view_accepted : number ≡ 0 → refresh_view answer ≡ accepted (answered h found_records)
+  pub view_accepted : number ≡ 0 → answer_view answer ≡ accepted (answered h found_records)
   view_accepted e = m.effect.answers ∙ reply_accepted number (answered h found_records) e
 
-  pub view_refused : 0 < number → refresh_view answer ≡ refused number
+  pub view_refused : 0 < number → answer_view answer ≡ refused number
   view_refused some = m.effect.answers ∙ reply_refused number (answered h found_records) some
 
   pub passed : number ≡ 0 → Refreshable h (length rows) (length pending) (length index) q found_records
@@ -89,27 +92,27 @@ module _ {h : Header} {rows pending index pending' index' : List ℕ} {q : Refre
 
   -- if accepted, it has staged the records that it found
   pub refreshing_done : {p : Plain} {keys sorts : List ℕ} → number ≡ 0 → Represents p (stores h rows keys sorts pending)
-      → Represents (stage_all p found_records) (stores (if_accepted (refresh_view answer) (λ a. a.header) h) rows keys sorts pending')
+      → Represents (stage_all p found_records) (stores (if_accepted (answer_view answer) (λ a. a.header) h) rows keys sorts pending')
   unfolding if_accepted
   refreshing_done e r =
       rw (view_accepted e)
       (records_represent found_records pending' r (records_whole r q m.found) (passed e).free (m.effect.written e))
 
-  pub refreshing_refused : {keys sorts : List ℕ} → 0 < number → stores (if_accepted (refresh_view answer) (λ a. a.header) h) rows keys sorts pending' ≡ stores h rows keys sorts pending
+  pub refreshing_refused : {keys sorts : List ℕ} → 0 < number → stores (if_accepted (answer_view answer) (λ a. a.header) h) rows keys sorts pending' ≡ stores h rows keys sorts pending
   unfolding if_accepted
   refreshing_refused some = rw (view_refused some, m.effect.unchanged some)
 
   -- "it is fed the records that the call staged"
-  pub fed_accepted : number ≡ 0 → if_accepted (refresh_view answer) (λ a. found_records) [] ≡ found_records
+  pub fed_accepted : number ≡ 0 → if_accepted (answer_view answer) (λ a. found_records) [] ≡ found_records
   unfolding if_accepted
   fed_accepted e = rw (view_accepted e)
 
-  pub fed_refused : 0 < number → if_accepted (refresh_view answer) (λ a. found_records) [] ≡ []
+  pub fed_refused : 0 < number → if_accepted (answer_view answer) (λ a. found_records) [] ≡ []
   unfolding if_accepted
   fed_refused some = rw (view_refused some)
 
   -- these records are what was written
-  pub fed_written : pending' ≡ splice pending h.pending (flatten (map (record_words h.keys) (if_accepted (refresh_view answer) (λ a. found_records) [])))
+  pub fed_written : pending' ≡ splice pending h.pending (flatten (map (record_words h.keys) (if_accepted (answer_view answer) (λ a. found_records) [])))
   unfolding flatten
   fed_written =
       elim (some_number number) [
@@ -118,8 +121,8 @@ module _ {h : Header} {rows pending index pending' index' : List ℕ} {q : Refre
       ]
 
 -- "the table stays sound whatever it holds"
-pub refreshing_keeps : {s : Stores} {index pending' index' : List ℕ} {q : Refresh} {answer : RefreshAnswer} → Refreshing s.header s.rows s.pending index q answer pending' index'
-    → SoundTable s → SoundTable (joined (if_accepted (refresh_view answer) (λ a. a.header) s.header) (body_of s) pending')
+pub refreshing_keeps : {s : Stores} {index pending' index' : List ℕ} {q : Refresh} {answer : Result Refreshed Refusal} → Refreshing s.header s.rows s.pending index q answer pending' index'
+    → SoundTable s → SoundTable (joined (if_accepted (answer_view answer) (λ a. a.header) s.header) (body_of s) pending')
 refreshing_keeps m t =
     elim (some_number (number m)) [
       | inl none ↦ represented_sound_table (refreshing_done m none (shows_plain t).1)

@@ -21,8 +21,6 @@ pub use Rattle.plain_table.specs.Plain.{Numbered, live_rows}
 pub use Rattle.plain_table.specs.Refreshing.{Refresh, mentioning, refreshed}
 pub use Rattle.plain_table.specs.Staged.{Staged, words_all}
 pub use Rattle.refresh_spec.specs.Index.{IndexOf, IndexSound, columns_named, entries_under, rows_seen}
-pub use Rattle.refresh_spec.specs.declared.RefreshAnswer.{RefreshAnswer}
-pub use Rattle.refresh_spec.specs.declared.RefreshAnswer.TheVariants.{Refreshed, Refused}
 pub use Rattle.refusals.specs.Laws.Determined.{Same}
 pub use Rattle.refusals.specs.Laws.Replies.{some_number}
 pub use Rattle.refusals.specs.Refusals.{accepted}

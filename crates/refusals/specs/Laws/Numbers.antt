@@ -1,10 +1,11 @@
 -- Refusals and their numbers: no number is 0, and no two refusals have the same one. So a result is determined by the reply that it is.
 -- Assumes nothing.
-use Rattle.std.specs.Prelude.{ℕ, ◌<◌, ◌≡◌, refl, cond, eqb, Result, Ok, Err}
+use Rattle.std.specs.Prelude.{ℕ, ◌<◌, ◌≡◌, refl, cond, eqb, Result, Ok, Err, Option as Optional, Some, None}
 use Rattle.std.proofs.Common.{ap, sym, ◌∙◌, arith}
 use Rattle.refusals.specs.declared.Refusal.{Refusal}
 use Rattle.refusals.specs.declared.Refusal.TheVariants.{OutOfBounds, TooShort, WrongWidth, MalformedSubset, PastTheRows, NoSuchColumn, PendingFull, OldSortValue, LastGeneration, NoListing, TooManyColumns, BrokenRow, PairCount, UnknownSequence, PastTheLast, MissingRow, OldNote, NoImage, UnsoundImage, TextTooLong}
-use Rattle.refusals.specs.Refusals.{number, answer_view}
+use Rattle.refusals.specs.Refusals.{refused, accepted, reply, outcome, number, answer_view, found_view}
+use Rattle.refusals.specs.Laws.Replies.{reply_refused, reply_accepted, outcome_refused, outcome_accepted}
 
 -- the refusal with a number
 numbered : ℕ → Refusal
@@ -68,3 +69,37 @@ module _ {A : Type 0} where
   answer_view_injective (Ok a) (Err r) e = cc
   answer_view_injective (Err r) (Ok b) e = cc
   answer_view_injective (Err r) (Err q) e = ap Err (number_injective r q cc)
+
+  pub found_view_injective : (x y : Result (Optional A) Refusal) → found_view x ≡ found_view y → x ≡ y
+  unfolding found_view
+  found_view_injective (Ok None) (Ok None) e = refl
+  found_view_injective (Ok None) (Ok (Some b)) e = cc
+  found_view_injective (Ok None) (Err r) e = cc
+  found_view_injective (Ok (Some a)) (Ok None) e = cc
+  found_view_injective (Ok (Some a)) (Ok (Some b)) e = cc
+  found_view_injective (Ok (Some a)) (Err r) e = cc
+  found_view_injective (Err r) (Ok None) e = cc
+  found_view_injective (Err r) (Ok (Some b)) e = cc
+  found_view_injective (Err r) (Err q) e = ap Err (number_injective r q cc)
+
+  -- a refusal with the number of the checks
+  pub err_replies : (r : Refusal) {n : ℕ} (value : A) → number r ≡ n → answer_view (Err r) ≡ reply n value
+  unfolding answer_view
+  err_replies r {n} value e = reply_refused (refused (number r)) n (number r) value refl e (number_some r)
+
+  -- accepted: the checks give 0
+  pub ok_replies : {n : ℕ} {value other : A} → value ≡ other → n ≡ 0 → answer_view (Ok value) ≡ reply n other
+  unfolding answer_view
+  ok_replies {n} {value} {other} e none = reply_accepted (accepted value) n other (ap accepted e) none
+
+  pub ok_outcome : {n : ℕ} (value : A) → n ≡ 0 → outcome (answer_view (Ok value)) ≡ reply n tt
+  unfolding answer_view
+  ok_outcome {n} value none = outcome_accepted (accepted value) n value refl none
+
+pub err_outcome : (A : Type 0) (r : Refusal) {n : ℕ} → number r ≡ n → outcome (answer_view {A = A} (Err r)) ≡ reply n tt
+unfolding answer_view
+err_outcome A r {n} e = outcome_refused (refused (number r)) n (number r) refl e (number_some r)
+
+pub none_outcome : (A : Type 0) (r : Refusal) {n : ℕ} → number r ≡ n → outcome (found_view {A = A} (Err r)) ≡ reply n tt
+unfolding found_view
+none_outcome A r {n} e = outcome_refused (refused (number r)) n (number r) refl e (number_some r)

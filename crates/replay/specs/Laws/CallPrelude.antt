@@ -19,15 +19,12 @@ pub use Rattle.plain_table.specs.Staged.{Opening, Staged, insert, remove_key, re
 pub use Rattle.refresh_spec.specs.Index.{IndexSound, is_new}
 pub use Rattle.refresh_spec.proofs.Laws.Decided.{index_decided}
 pub use Rattle.refresh_spec.proofs.Laws.Keeps.{number}
-pub use Rattle.refresh_spec.specs.Refreshes.{Refreshing, refresh_view}
-pub use Rattle.refresh_spec.specs.declared.RefreshAnswer.{RefreshAnswer}
+pub use Rattle.refresh_spec.specs.Refreshes.{Refreshing}
 pub use Rattle.refusals.specs.Laws.Replies.{some_number}
 pub use Rattle.replay.specs.Requests.{Request, Served, end, lent_to, made, make, next, refresh, refreshed, refreshed_unsound}
 pub use Rattle.replay.specs.inner.Making.{Made, MadeOnIndex, MadeOnPending}
 pub use Rattle.table.specs.Outcomes.{Clearing, Compacting, CompactionWords, Merging, Represents, Staging, Stores, WordsPast, body, compaction_words, lengths, stores}
 pub use Rattle.table.proofs.Laws.Checks.{compact_checks_lem, merge_checks_lem}
-pub use Rattle.table.specs.Numbers.{merge_view, table_view}
+pub use Rattle.refusals.specs.Refusals.{answer_view}
 pub use Rattle.table.specs.Refusing.{compact_refusal, merge_refusal}
 pub use Rattle.table.specs.declared.Header.{Header}
-pub use Rattle.table.specs.declared.MergeAnswer.{MergeAnswer}
-pub use Rattle.table.specs.declared.TableAnswer.{TableAnswer}

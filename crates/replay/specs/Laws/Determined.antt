@@ -2,15 +2,17 @@
 -- except for the program's choices: in a table the key store's slots below 2 × capacity, after a compaction the compaction words
 -- needed, and after a refresh the index words needed. With another index store, it is also open which of the rows that mention a
 -- value are staged. Assumes nothing.
-use Rattle.std.specs.Prelude.{◌*◌, ◌+◌, ◌<◌, ◌≡◌, ◌⊎◌}
-use Rattle.replay.specs.Laws.Prelude.{ℕ, refl, sym, ap, ◌∙◌, inl, inr, true, false, List, [], map, arith, length, any, some_number, refused_same, Opening, open_refusal, opened, LentCall, after_all, Header, TableAnswer, Refused, Table, Stores, Body, stores, joined, CompactionWords, lengths, Represents, SamePast, WordsPast, table_view_injective, is_new, IndexSound, Steps, steps_represents, SameCells, steps_determined, Request, is_refresh, requested, served_steps, compactions, MadeFrom, Replayed}
+use Rattle.refusals.specs.Laws.Numbers.{answer_view_injective}
+use Rattle.refusals.specs.declared.Refusal.{Refusal}
+use Rattle.std.specs.Prelude.{◌*◌, ◌+◌, ◌<◌, ◌≡◌, ◌⊎◌, Result, Ok, Err}
+use Rattle.replay.specs.Laws.Prelude.{ℕ, refl, sym, ap, ◌∙◌, inl, inr, true, false, List, [], map, arith, length, any, some_number, refused_same, Opening, open_refusal, opened, LentCall, after_all, Header, Stores, Body, stores, joined, CompactionWords, lengths, Represents, SamePast, WordsPast, is_new, IndexSound, Steps, steps_represents, SameCells, steps_determined, Request, is_refresh, requested, served_steps, compactions, MadeFrom, Replayed}
 use Rattle.refusals.specs.Refusals.{accepted, reply, outcome}
-use Rattle.table.specs.Numbers.{table_view}
+use Rattle.refusals.specs.Refusals.{answer_view}
 use Rattle.replay.specs.Laws.Theorem.{replay_starts, replay_slots, replay_index_past, replay_index_kept, replay_requested, replay_index, calls_lent}
 
 -- the result of a replay
 pub record ReplayLeft : Type 0 where
-  pub answer : TableAnswer
+  pub answer : Result Header Refusal
   pub body : Body
   pub pending : List ℕ
   pub words : CompactionWords
@@ -36,7 +38,7 @@ module _ (o : Opening) (generation : ℕ) (requests : List Request) (b : Body) (
     -- the live rows of the one plain table
     pub keys_refused : 0 < open_refusal o (lengths b.rows b.keys b.sorts pending [] []) → x.body.keys ≡ y.body.keys
     pub slots_past : SamePast (2 * o.capacity) x.body.keys y.body.keys
-    pub represent : (h : Header) → table_view x.answer ≡ accepted h
+    pub represent : (h : Header) → answer_view x.answer ≡ accepted h
         → Represents (after_all (opened o generation) requested_calls) (joined h x.body x.pending)
         × Represents (after_all (opened o generation) requested_calls) (joined h y.body y.pending)
     -- the compaction words: all of them, if nothing was compacted; otherwise those that are never written
@@ -48,14 +50,14 @@ module _ (o : Opening) (generation : ℕ) (requests : List Request) (b : Body) (
     pub index_past : SamePast (16 + 24 * o.capacity) x.index y.index
     pub index_refused : 0 < open_refusal o (lengths b.rows b.keys b.sorts pending [] []) → x.index ≡ y.index
     pub index_kept : any is_refresh requests ≡ false → x.index ≡ y.index
-    pub index_sound : (h : Header) → table_view x.answer ≡ accepted h → is_new index ≡ true → (columns : List ℕ)
+    pub index_sound : (h : Header) → answer_view x.answer ≡ accepted h → is_new index ≡ true → (columns : List ℕ)
         → IndexSound h x.body.rows columns x.index × IndexSound h y.body.rows columns y.index
 
   -- the header of an accepted answer
-  view_accepted : (answer : TableAnswer) → outcome (table_view answer) ≡ accepted tt → (h : Header) × (table_view answer ≡ accepted h)
-  unfolding table_view outcome
-  view_accepted (Refused n) e = absurd (let z : ◌≡◌ {A = ℕ} 0 1 = cc in omega arith)
-  view_accepted (Table h) e = (h, refl)
+  view_accepted : (answer : Result Header Refusal) → outcome (answer_view answer) ≡ accepted tt → (h : Header) × (answer_view answer ≡ accepted h)
+  unfolding answer_view outcome
+  view_accepted (Err r) e = absurd (let z : ◌≡◌ {A = ℕ} 0 1 = cc in omega arith)
+  view_accepted (Ok h) e = (h, refl)
 
   -- the table that the requests result in
   module _ {s : Stores} {w' : CompactionWords} {index' : List ℕ} (m : MadeFrom o generation requests b pending w index s w' index') (sound : Sound) where
@@ -81,7 +83,7 @@ module _ (o : Opening) (generation : ℕ) (requests : List Request) (b : Body) (
         let f = v.unchanged some in
         let bodies : x.body ≡ y.body = e.0 ∙ sym f.0 in
         let words : x.words ≡ y.words = e.2 ∙ sym f.2 in
-        let answers : x.answer ≡ y.answer = refused_same table_view_injective u.refusal v.refusal some in
+        let answers : x.answer ≡ y.answer = refused_same answer_view_injective u.refusal v.refusal some in
         let keys : x.body.keys ≡ y.body.keys = ap (λ (z : Body). z.keys) bodies in
         let indexes : x.index ≡ y.index = e.3 ∙ sym f.3 in
         record {
@@ -91,14 +93,14 @@ module _ (o : Opening) (generation : ℕ) (requests : List Request) (b : Body) (
           pending_same = e.1 ∙ sym f.1;
           keys_refused = λ k. keys;
           slots_past = rw keys;
-          represent = λ h answer_is. (ends (u.calls_made h answer_is) sound, ends (v.calls_made h (ap table_view (sym answers) ∙ answer_is)) sound);
+          represent = λ h answer_is. (ends (u.calls_made h answer_is) sound, ends (v.calls_made h (ap answer_view (sym answers) ∙ answer_is)) sound);
           words_past = (rw words, rw words);
           words_refused = λ k. words;
           words_kept = λ none. words;
           index_past = rw indexes;
           index_refused = λ k. indexes;
           index_kept = λ none. indexes;
-          index_sound = λ h answer_is new columns. (replay_index (u.calls_made h answer_is) new columns, replay_index (v.calls_made h (ap table_view (sym answers) ∙ answer_is)) new columns);
+          index_sound = λ h answer_is new columns. (replay_index (u.calls_made h answer_is) new columns, replay_index (v.calls_made h (ap answer_view (sym answers) ∙ answer_is)) new columns);
         }
 
     made_replay : open_refusal o (lengths b.rows b.keys b.sorts pending [] []) ≡ 0 → SameReplay x y
@@ -109,9 +111,9 @@ module _ (o : Opening) (generation : ℕ) (requests : List Request) (b : Body) (
         let made = u.calls_made g.0 g.1 in
         let made' = v.calls_made k.0 k.1 in
         let same = made_same sound made made' in
-        let answers : table_view x.answer ≡ table_view y.answer = g.1 ∙ ap (λ (h : Header). accepted h) same.header ∙ sym k.1 in
+        let answers : answer_view x.answer ≡ answer_view y.answer = g.1 ∙ ap (λ (h : Header). accepted h) same.header ∙ sym k.1 in
         record {
-          answer = table_view_injective x.answer y.answer answers;
+          answer = answer_view_injective x.answer y.answer answers;
           rows = same.rows;
           sorts = same.sorts;
           pending_same = same.pending;

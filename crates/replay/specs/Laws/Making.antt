@@ -1,6 +1,9 @@
 -- Requests executed one after another, and the step of each. Assumes nothing.
-use Rattle.std.specs.Prelude.{◌+◌, ◌≡◌, ◌∷◌, ◌++◌}
-use Rattle.replay.specs.Laws.CallPrelude.{ℕ, refl, sym, ap, ◌∙◌, inl, inr, List, [], map-append, arith, some_number, Staged, Refresh, onward_all, accepted_done, Header, TableAnswer, MergeAnswer, table_view, merge_view, merge_refusal, compact_refusal, Stores, stores, body, CompactionWords, compaction_words, lengths, Represents, WordsPast, Staging, Merging, Compacting, Clearing, merge_checks_lem, compact_checks_lem, RefreshAnswer, refresh_view, Refreshing, index_decided, steps_represents, Request, make, refresh, lent_to, Served, made, refreshed, refreshed_unsound, end, next, Made, MadeOnPending, MadeOnIndex}
+use Rattle.refresh_spec.specs.declared.Refreshed.{Refreshed}
+use Rattle.table.specs.declared.Merge.{Merge}
+use Rattle.refusals.specs.declared.Refusal.{Refusal}
+use Rattle.std.specs.Prelude.{◌+◌, ◌≡◌, ◌∷◌, ◌++◌, Result}
+use Rattle.replay.specs.Laws.CallPrelude.{ℕ, refl, sym, ap, ◌∙◌, inl, inr, List, [], map-append, arith, some_number, Staged, Refresh, onward_all, accepted_done, Header, merge_refusal, compact_refusal, Stores, stores, body, CompactionWords, compaction_words, lengths, Represents, WordsPast, Staging, Merging, Compacting, Clearing, merge_checks_lem, compact_checks_lem, Refreshing, index_decided, steps_represents, Request, make, refresh, lent_to, Served, made, refreshed, refreshed_unsound, end, next, Made, MadeOnPending, MadeOnIndex}
 use Rattle.plain_table.specs.Refusing.{Lengths, stores_short, words_short, compact_checks}
 use Rattle.plain_table.specs.Plain.{Plain, merged, compacted}
 use Rattle.plain_table.specs.Appending.{merge_or_clear}
@@ -8,7 +11,7 @@ use Rattle.plain_table.specs.Calls.{Call, staging, merging, compacting, clearing
 use Rattle.history.specs.Histories.{Called, stages, merges, compacts, clears, refreshes, refreshes_unsound}
 use Rattle.replay.specs.Replays.{compactions}
 use Rattle.replay.specs.Laws.Requests.{served_steps, served_then, lent_all}
-use Rattle.refusals.specs.Refusals.{if_accepted}
+use Rattle.refusals.specs.Refusals.{if_accepted, answer_view}
 
 -- no request
 pub none_made : {requests : List Request} (l : Lengths) (s : Stores) (w : CompactionWords) (index : List ℕ) → requests ≡ [] → Made requests l s w index s w index
@@ -55,14 +58,14 @@ words_unlent {c = c} l w one call =
     record { calls = c ∷ []; served = next one call (end _ _); words_past = λ p r. (refl, refl); words_kept = λ p r none. refl }
 
 module _ {h : Header} {pending : List ℕ} {requests : List Request} where
-  pub staging_made : {h' : Header} {pending' : List ℕ} {q : Staged} {answer : TableAnswer} → requests ≡ make (staging q) ∷ [] → Staging h pending q answer pending'
-      → h' ≡ if_accepted (table_view answer) (λ h. h) h → MadeOnPending requests h pending h' pending'
+  pub staging_made : {h' : Header} {pending' : List ℕ} {q : Staged} {answer : Result Header Refusal} → requests ≡ make (staging q) ∷ [] → Staging h pending q answer pending'
+      → h' ≡ if_accepted (answer_view answer) (λ h. h) h → MadeOnPending requests h pending h' pending'
   staging_made {h'} {pending'} {q} {answer} e m same =
       record { made = λ rows keys sorts live base index. rw (e, same) (words_unlent (lengths rows keys sorts pending live base) (compaction_words live base) (made _ _) (stages (compaction_words live base) q answer pending' m)) }
 
 module _ {h : Header} {rows pending index : List ℕ} {requests : List Request} where
-  pub refreshing_made : {h' : Header} {pending' index' : List ℕ} {r : Refresh} {answer : RefreshAnswer} → requests ≡ refresh r ∷ [] → Refreshing h rows pending index r answer pending' index'
-      → h' ≡ if_accepted (refresh_view answer) (λ a. a.header) h → MadeOnIndex requests h rows pending index h' pending' index'
+  pub refreshing_made : {h' : Header} {pending' index' : List ℕ} {r : Refresh} {answer : Result Refreshed Refusal} → requests ≡ refresh r ∷ [] → Refreshing h rows pending index r answer pending' index'
+      → h' ≡ if_accepted (answer_view answer) (λ a. a.header) h → MadeOnIndex requests h rows pending index h' pending' index'
   refreshing_made {h'} {pending'} {index'} {r} {answer} e m same =
       record {
         made = λ keys sorts live base.
@@ -90,8 +93,8 @@ unfolding compactions merge_or_clear done compacted
 compaction_compacts p l e none = let same = rw (accepted_done p l compacting e) at none in omega (arith, same)
 
 module _ {h h' : Header} {rows keys sorts pending rows' keys' sorts' : List ℕ} (live base index : List ℕ) {requests : List Request} where
-  pub merging_made : {live' base' : List ℕ} {answer : MergeAnswer} → requests ≡ make merging ∷ [] → Merging (stores h rows keys sorts pending) (compaction_words live base) answer (body rows' keys' sorts') (compaction_words live' base')
-      → h' ≡ if_accepted (merge_view answer) (λ m. m.header) h
+  pub merging_made : {live' base' : List ℕ} {answer : Result Merge Refusal} → requests ≡ make merging ∷ [] → Merging (stores h rows keys sorts pending) (compaction_words live base) answer (body rows' keys' sorts') (compaction_words live' base')
+      → h' ≡ if_accepted (answer_view answer) (λ m. m.header) h
       → Made requests (lengths rows keys sorts pending live base) (stores h rows keys sorts pending) (compaction_words live base) index (stores h' rows' keys' sorts' pending) (compaction_words live' base') index
   merging_made {live'} {base'} {answer} e m same =
       let l : Lengths = lengths rows keys sorts pending live base in
@@ -106,8 +109,8 @@ module _ {h h' : Header} {rows keys sorts pending rows' keys' sorts' : List ℕ}
         ];
       })
 
-  pub compacting_made : {live' base' : List ℕ} {answer : TableAnswer} → requests ≡ make compacting ∷ [] → Compacting h (body rows keys sorts) (compaction_words live base) answer (body rows' keys' sorts') (compaction_words live' base')
-      → h' ≡ if_accepted (table_view answer) (λ h. h) h
+  pub compacting_made : {live' base' : List ℕ} {answer : Result Header Refusal} → requests ≡ make compacting ∷ [] → Compacting h (body rows keys sorts) (compaction_words live base) answer (body rows' keys' sorts') (compaction_words live' base')
+      → h' ≡ if_accepted (answer_view answer) (λ h. h) h
       → Made requests (lengths rows keys sorts pending live base) (stores h rows keys sorts pending) (compaction_words live base) index (stores h' rows' keys' sorts' pending) (compaction_words live' base') index
   compacting_made {live'} {base'} {answer} e m same =
       let l : Lengths = lengths rows keys sorts pending live base in
@@ -126,8 +129,8 @@ module _ {h h' : Header} {rows keys sorts pending rows' keys' sorts' : List ℕ}
         ];
       })
 
-pub clearing_made : {h h' : Header} {rows keys sorts pending keys' : List ℕ} (live base index : List ℕ) {requests : List Request} {answer : TableAnswer} → requests ≡ make clearing ∷ []
-    → Clearing h keys answer keys' → h' ≡ if_accepted (table_view answer) (λ h. h) h
+pub clearing_made : {h h' : Header} {rows keys sorts pending keys' : List ℕ} (live base index : List ℕ) {requests : List Request} {answer : Result Header Refusal} → requests ≡ make clearing ∷ []
+    → Clearing h keys answer keys' → h' ≡ if_accepted (answer_view answer) (λ h. h) h
     → Made requests (lengths rows keys sorts pending live base) (stores h rows keys sorts pending) (compaction_words live base) index (stores h' rows keys' sorts pending) (compaction_words live base) index
 clearing_made {h} {h'} {rows} {keys} {sorts} {pending} {keys'} live base index {requests} {answer} e m same =
     rw (e, same)

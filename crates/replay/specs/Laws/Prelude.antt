@@ -20,10 +20,7 @@ pub use Rattle.replay.specs.Requests.{Request}
 pub use Rattle.replay.specs.inner.Making.{Made}
 pub use Rattle.replay.specs.Replays.{MadeFrom, Replayed, compactions}
 pub use Rattle.table.specs.Outcomes.{Body, CompactionWords, Opened, Represents, SamePast, Stores, WordsPast, body, joined, lengths, stores}
-pub use Rattle.table.proofs.Laws.Answers.{table_view_injective}
 pub use Rattle.table.proofs.Laws.Keeps.{opening_done}
 pub use Rattle.table.proofs.Laws.Replies.{accepted_number}
 pub use Rattle.table.specs.Stores.{header_of}
 pub use Rattle.table.specs.declared.Header.{Header}
-pub use Rattle.table.specs.declared.TableAnswer.{TableAnswer}
-pub use Rattle.table.specs.declared.TableAnswer.TheVariants.{Refused, Table}

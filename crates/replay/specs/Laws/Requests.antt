@@ -1,7 +1,9 @@
 -- Requests executed one after another: they are steps of a history; their effect on the index store; and that with a new index
 -- store the calls are those requested. Assumes nothing.
-use Rattle.replay.specs.Laws.CallPrelude.{ℕ, refl, sym, ap, ◌∙◌, inl, inr, true, false, false≢true, List, [], map, append-nil, mul-le-mul_left, arith, length, drop, drop-drop, ltb-false, or_no_left, or_no_right, some_number, Opening, Lengths, Plain, first_refusal_no, first_refusal_rest, onward_all, Header, Stores, body, Represents, RefreshAnswer, is_new, IndexSound, number, OwnIndex, adopted, other_call, refreshes, step_represents, own_indexes_sound, behind_nothing, whole_step}
-use Rattle.std.specs.Prelude.{Bool, ◌+◌, ◌*◌, ◌-◌, ◌≤◌, ◌≡◌, ◌∷◌, ◌++◌}
+use Rattle.refresh_spec.specs.declared.Refreshed.{Refreshed}
+use Rattle.refusals.specs.declared.Refusal.{Refusal}
+use Rattle.replay.specs.Laws.CallPrelude.{ℕ, refl, sym, ap, ◌∙◌, inl, inr, true, false, false≢true, List, [], map, append-nil, mul-le-mul_left, arith, length, drop, drop-drop, ltb-false, or_no_left, or_no_right, some_number, Opening, Lengths, Plain, first_refusal_no, first_refusal_rest, onward_all, Header, Stores, body, Represents, is_new, IndexSound, number, OwnIndex, adopted, other_call, refreshes, step_represents, own_indexes_sound, behind_nothing, whole_step}
+use Rattle.std.specs.Prelude.{Bool, ◌+◌, ◌*◌, ◌-◌, ◌≤◌, ◌≡◌, ◌∷◌, ◌++◌, Result}
 use Rattle.lists.specs.Lists.{any}
 use Rattle.plain_table.specs.Refreshing.{Refresh, refresh_checks}
 use Rattle.plain_table.specs.Calls.{Call, refreshing, after, after_all, LentCall}
@@ -54,7 +56,7 @@ drop_further a b m n h e =
     let k : m + (n - m) ≡ n = omega arith in
     rw (sym k) (sym (drop-drop (n - m) m a) ∙ ap (drop (n - m)) e ∙ drop-drop (n - m) m b)
 
-module _ {h : Header} {rows pending index pending' index' : List ℕ} {r : Refresh} {answer : RefreshAnswer} (m : Refreshing h rows pending index r answer pending' index') where
+module _ {h : Header} {rows pending index pending' index' : List ℕ} {r : Refresh} {answer : Result Refreshed Refusal} (m : Refreshing h rows pending index r answer pending' index') where
   columns_few : number m ≡ 0 → length r.columns ≤ 8
   unfolding refresh_refusal refresh_checks
   columns_few e = ltb-false _ _ (first_refusal_no _ 11 _ (first_refusal_rest _ 1 _ (first_refusal_rest _ 0 _ e)))
@@ -110,7 +112,7 @@ KeptSome o generation s index = (calls : List LentCall) × OwnIndex o generation
 
 module _ {o : Opening} {generation : ℕ} where
   -- a refresh that is lent the whole index store
-  refreshed_kept : {calls : List LentCall} {index pending' index' : List ℕ} (s : Stores) {r : Refresh} {answer : RefreshAnswer} → OwnIndex o generation calls s index
+  refreshed_kept : {calls : List LentCall} {index pending' index' : List ℕ} (s : Stores) {r : Refresh} {answer : Result Refreshed Refusal} → OwnIndex o generation calls s index
       → Refreshing s.header s.rows s.pending index r answer pending' index' → OwnIndex o generation (calls ++ (lent_call (refreshing r (length index)) s (compaction_words [] []) ∷ [])) (refreshed_stores s answer pending') index'
   refreshed_kept {calls} {index} {pending'} {index'} s {r} {answer} kept m =
       go (behind_nothing (refreshed_stores s answer pending')) (append-nil index')

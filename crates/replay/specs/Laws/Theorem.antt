@@ -1,9 +1,10 @@
 -- An opening and the requests after it are a history, so term 3 of the order holds for the resulting stores. Assumes nothing.
-use Rattle.std.specs.Prelude.{◌+◌, ◌*◌, ◌<◌, ◌≡◌, ◌⊎◌}
-use Rattle.replay.specs.Laws.Prelude.{ℕ, zero, suc, refl, ap, ◌∙◌, inl, inr, true, false, List, [], map, arith, length, any, Opening, open_refusal, Call, LentCall, after_all, Header, TableAnswer, Refused, Table, header_of, Stores, Body, body, stores, joined, CompactionWords, lengths, Represents, SamePast, Opened, accepted_number, opening_done, is_new, IndexSound, end, History, Claimed, history_whole, term_three, Request, is_refresh, requested, lent_all, Made, served_steps, slots_past, index_unused, index_past, calls_requested, calls_plain, index_sound, MadeFrom, Replayed}
-use Rattle.refusals.specs.Refusals.{Reply, refused, reply, outcome}
+use Rattle.refusals.specs.declared.Refusal.{Refusal}
+use Rattle.std.specs.Prelude.{◌+◌, ◌*◌, ◌<◌, ◌≡◌, ◌⊎◌, Result, Ok, Err}
+use Rattle.replay.specs.Laws.Prelude.{ℕ, zero, suc, refl, ap, ◌∙◌, inl, inr, true, false, List, [], map, arith, length, any, Opening, open_refusal, Call, LentCall, after_all, Header, header_of, Stores, Body, body, stores, joined, CompactionWords, lengths, Represents, SamePast, Opened, accepted_number, opening_done, is_new, IndexSound, end, History, Claimed, history_whole, term_three, Request, is_refresh, requested, lent_all, Made, served_steps, slots_past, index_unused, index_past, calls_requested, calls_plain, index_sound, MadeFrom, Replayed}
+use Rattle.refusals.specs.Refusals.{Reply, refused, reply, outcome, number}
 use Rattle.plain_table.specs.Plain.{opened}
-use Rattle.table.specs.Numbers.{table_view}
+use Rattle.refusals.specs.Refusals.{answer_view}
 
 -- the calls, each with the lengths of the whole stores
 abbrev pub calls_lent : List Call → Body → List ℕ → CompactionWords → List LentCall
@@ -22,7 +23,7 @@ module _ {o : Opening} {generation : ℕ} {requests : List Request} {b : Body} {
 
   -- the table after the opening
   pub replay_starts : Represents (opened o generation) (stores m.header b.rows m.keys b.sorts pending)
-  unfolding table_view
+  unfolding answer_view
   replay_starts = opening_done m.opening m.header refl
 
   -- slots past those needed are never written
@@ -64,14 +65,14 @@ unfolding reply
 refused_number zero m a e = absurd (let z : ◌≡◌ {A = ℕ} 0 1 = cc in omega arith)
 refused_number (suc n) m a e = (omega arith, let same : m ≡ suc n = cc in rw same)
 
-module _ {o : Opening} {generation : ℕ} {b : Body} {pending keys' : List ℕ} {answer : TableAnswer} (requests : List Request) (w : CompactionWords) (index : List ℕ) (m : Opened o generation b pending answer keys') where
+module _ {o : Opening} {generation : ℕ} {b : Body} {pending keys' : List ℕ} {answer : Result Header Refusal} (requests : List Request) (w : CompactionWords) (index : List ℕ) (m : Opened o generation b pending answer keys') where
   -- a refused opening
-  pub replay_refused : (n : ℕ) → answer ≡ Refused n
-      → Replayed o generation requests b pending w index (Refused n) (body b.rows keys' b.sorts) pending w index
-  unfolding table_view outcome
-  replay_refused n e =
+  pub replay_refused : (r : Refusal) → answer ≡ Err r
+      → Replayed o generation requests b pending w index (Err r) (body b.rows keys' b.sorts) pending w index
+  unfolding answer_view outcome
+  replay_refused r e =
       let k : ℕ = open_refusal o (lengths b.rows b.keys b.sorts pending [] []) in
-      let number_is = refused_number k n (header_of (opened o generation)) (rw (ap table_view e) at m.answers) in
+      let number_is = refused_number k (number r) (header_of (opened o generation)) (rw (ap answer_view e) at m.answers) in
       record {
         refusal = number_is.1;
         unchanged = λ some. (rw (m.unchanged some), refl, refl, refl);
@@ -79,12 +80,12 @@ module _ {o : Opening} {generation : ℕ} {b : Body} {pending keys' : List ℕ} 
       }
 
   -- an accepted opening, and the requests
-  pub replay_made : (h h' : Header) (b' : Body) (pending' : List ℕ) (w' : CompactionWords) (index' : List ℕ) → answer ≡ Table h → length keys' ≡ length b.keys
+  pub replay_made : (h h' : Header) (b' : Body) (pending' : List ℕ) (w' : CompactionWords) (index' : List ℕ) → answer ≡ Ok h → length keys' ≡ length b.keys
       → Made requests (lengths b.rows keys' b.sorts pending w.live w.base) (stores h b.rows keys' b.sorts pending) w index (joined h' b' pending') w' index'
-      → Replayed o generation requests b pending w index (Table h') b' pending' w' index'
-  unfolding table_view outcome reply opened
+      → Replayed o generation requests b pending w index (Ok h') b' pending' w' index'
+  unfolding answer_view outcome reply opened
   replay_made h h' b' pending' w' index' e same made =
-      let none = accepted_number (open_refusal o (lengths b.rows b.keys b.sorts pending [] [])) h (header_of (opened o generation)) (rw (ap table_view e) at m.answers) in
+      let none = accepted_number (open_refusal o (lengths b.rows b.keys b.sorts pending [] [])) h (header_of (opened o generation)) (rw (ap answer_view e) at m.answers) in
       let shown : Represents (opened o generation) (stores h b.rows keys' b.sorts pending) = opening_done (rw e at m) h refl in
       let from : MadeFrom o generation requests b pending w index (joined h' b' pending') w' index' =
       record {

@@ -1,10 +1,14 @@
 -- The result of `run_queries` is that of a run, so the claim of the order's term 3 holds for it; and if the sort entries are sound, it is
 -- determined by the stores and the queries alone. Assumes nothing.
-use Rattle.std.specs.Prelude.{◌≡◌, ◌∷◌, ◌++◌}
-use Rattle.replay_queries.specs.Laws.Prelude.{ℕ, refl, sym, ◌∙◌, inl, inr, true, Option, none, some, List, [], arith, length, replicate, length-replicate, take-length, filter, rising, Reply, refused, accepted, reply, some_number, ruled_refused, Constraint, entries_of, entries_sound, Opening, LentCall, Header, RangeAnswer, range_view, fast_refusal, Stores, stores, fast_subset, RangeRead, reply_refused, reply_accepted, History, wanted, by_reply_lem, term_three, RunAnswer, shorter, RunMade}
+use Rattle.sort_entries.specs.declared.Range.{Range}
+use Rattle.refusals.specs.declared.Refusal.{Refusal}
+use Rattle.std.specs.Prelude.{◌≡◌, ◌∷◌, ◌++◌, Result, Option as Optional}
+use Rattle.replay_queries.specs.Laws.Prelude.{ℕ, refl, sym, ◌∙◌, inl, inr, true, Option, none, some, List, [], arith, length, replicate, length-replicate, take-length, filter, rising, Reply, refused, accepted, reply, some_number, ruled_refused, Constraint, entries_of, entries_sound, Opening, LentCall, Header, range_view, fast_refusal, Stores, stores, fast_subset, RangeRead, reply_refused, reply_accepted, History, wanted, by_reply_lem, refine_given, term_three, RunAnswer, shorter, RunMade}
 use Rattle.std.proofs.Math.Option.{Option-elim}
 use Rattle.refusals.specs.Refusals.{if_accepted}
 use Rattle.offsets.specs.Subsets.{Subset, members}
+use Rattle.offsets.specs.Laws.Answers.{intersect_given, intersect_replies}
+use Rattle.query_spec.specs.Queries.{refine_one_reply, refine_list_reply}
 use Rattle.history.specs.Runs.{Query, refine_one, refine_list, intersect_with, intersect_range, Queried, one_refined, list_refined, intersected, range_intersected, range_nothing, Run, end as run_end, next as run-next, Outcome, outcome}
 use Rattle.replay_queries.specs.Outcomes.{subset_left, queried, QueriedAll, end, next}
 
@@ -21,7 +25,7 @@ module _ (h : Header) (rows keys sorts pending : List ℕ) (room : ℕ) where
   long : length output ≡ room
   long = length-replicate room 0
 
-  range_queried : (a : Subset) (c : Constraint) (range : RangeAnswer) (found : Reply (Option Subset)) → RangeRead h sorts c range → range_view range ≡ found
+  range_queried : (a : Subset) (c : Constraint) (range : Result (Optional Range) Refusal) (found : Reply (Option Subset)) → RangeRead h sorts c range → range_view range ≡ found
       → Queried table a (intersect_range c) (queried h rows room a (intersect_range c) found)
   unfolding queried Option-elim if_accepted
   range_queried a c range (refused n) read e =
@@ -29,18 +33,20 @@ module _ (h : Header) (rows keys sorts pending : List ℕ) (room : ℕ) where
   range_queried a c range (accepted none) read e =
       range_nothing c (length sorts) range (rw (take-length sorts) read) (λ b f. absurd (let z : ◌≡◌ {A = ℕ} 0 1 = cc in omega arith))
   range_queried a c range (accepted (some b)) read e =
-      by_reply_lem a (intersect_range c) _ output (λ output' answer m. range_intersected b c (length sorts) range output output' answer (rw (take-length sorts) read) e (inl (rw long m)))
+      rw (intersect_replies a b room)
+      (by_reply_lem a (intersect_range c) _ _ output (intersect_given a b room) (λ output' answer m. range_intersected b c (length sorts) range output output' answer (rw (take-length sorts) read) e (inl (rw (long, intersect_replies a b room) m))))
 
   -- each query is lent both whole stores
-  one_queried : (a : Subset) (q : Query) (range : RangeAnswer) → ((c : Constraint) → q ≡ intersect_range c → RangeRead h sorts c range)
+  one_queried : (a : Subset) (q : Query) (range : Result (Optional Range) Refusal) → ((c : Constraint) → q ≡ intersect_range c → RangeRead h sorts c range)
       → Queried table a q (queried h rows room a q (range_view range))
-  unfolding queried
+  unfolding queried refine_one_reply refine_list_reply
   one_queried a (refine_one c) range read =
-      by_reply_lem a (refine_one c) _ output (λ output' answer m. one_refined c (length rows) output output' answer (record { answered = rw (take-length rows, long) m }))
+      by_reply_lem a (refine_one c) _ _ output (refine_given h (length rows) a (c ∷ []) room) (λ output' answer m. one_refined c (length rows) output output' answer (record { answered = rw (take-length rows, long) m }))
   one_queried a (refine_list cs) range read =
-      by_reply_lem a (refine_list cs) _ output (λ output' answer m. list_refined cs (length rows) output output' answer (record { answered = rw (take-length rows, long) m }))
+      by_reply_lem a (refine_list cs) _ _ output (refine_given h (length rows) a cs room) (λ output' answer m. list_refined cs (length rows) output output' answer (record { answered = rw (take-length rows, long) m }))
   one_queried a (intersect_with b) range read =
-      by_reply_lem a (intersect_with b) _ output (λ output' answer m. intersected b output output' answer (inl (rw long m)))
+      rw (intersect_replies a b room)
+      (by_reply_lem a (intersect_with b) _ _ output (intersect_given a b room) (λ output' answer m. intersected b output output' answer (inl (rw (long, intersect_replies a b room) m))))
   one_queried a (intersect_range c) range read = range_queried a c range (range_view range) (read c refl) refl
 
   pub queried_run : {a : Subset} {qs : List Query} {o : Outcome} → QueriedAll h rows sorts room a qs o → Run table a qs o.ids o.accepted
@@ -66,7 +72,7 @@ module _ (h : Header) (rows sorts : List ℕ) (room : ℕ) where
       outcome more.ids (one.accepted ++ more.accepted)
 
   module _ (sound : entries_sound (entries_of h.entries sorts) h.rows ≡ true) where
-    range_known : (c : Constraint) (range : RangeAnswer) → RangeRead h sorts c range → range_view range ≡ reply (fast_refusal h (length sorts) c) (fast_subset h sorts c)
+    range_known : (c : Constraint) (range : Result (Optional Range) Refusal) → RangeRead h sorts c range → range_view range ≡ reply (fast_refusal h (length sorts) c) (fast_subset h sorts c)
     range_known c range read =
         let n = fast_refusal h (length sorts) c in
         elim (some_number n) [
@@ -74,7 +80,7 @@ module _ (h : Header) (rows sorts : List ℕ) (room : ℕ) where
           | inr more ↦ ruled_refused (range_view range) n read.refusal more ∙ sym (reply_refused n _ more)
         ]
 
-    one_known : (a : Subset) (q : Query) (range : RangeAnswer) → ((c : Constraint) → q ≡ intersect_range c → RangeRead h sorts c range)
+    one_known : (a : Subset) (q : Query) (range : Result (Optional Range) Refusal) → ((c : Constraint) → q ≡ intersect_range c → RangeRead h sorts c range)
         → queried h rows room a q (range_view range) ≡ queried h rows room a q (fast_range_for q)
     unfolding queried fast_range_for
     one_known a (refine_one c) range read = refl

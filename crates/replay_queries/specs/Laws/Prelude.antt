@@ -7,7 +7,7 @@ pub use Rattle.std.proofs.Math.Seq.{take-length}
 pub use Rattle.constraints.specs.declared.Constraint.{Constraint}
 pub use Rattle.history.specs.Claim.{wanted}
 pub use Rattle.history.specs.Histories.{History}
-pub use Rattle.history.proofs.Laws.Queries.{by_reply_lem}
+pub use Rattle.history.proofs.Laws.Queries.{by_reply_lem, refine_given}
 pub use Rattle.history.proofs.Laws.Theorem.{term_three}
 pub use Rattle.history.specs.Runs.{Outcome, Query, refines}
 pub use Rattle.lists.specs.Lists.{any, filter, rising}
@@ -26,4 +26,3 @@ pub use Rattle.table.proofs.Laws.Replies.{reply_accepted, reply_refused}
 pub use Rattle.table.specs.Numbers.{range_view}
 pub use Rattle.table.specs.Refusing.{fast_refusal}
 pub use Rattle.table.specs.declared.Header.{Header}
-pub use Rattle.table.specs.declared.RangeAnswer.{RangeAnswer}

@@ -1,8 +1,9 @@
 -- One query at a time. Assumes nothing.
-use Rattle.std.specs.Prelude.{ℕ, ◌+◌, ◌≤◌, ◌<◌, ◌≡◌, Bool, true, false, cond, ◌||◌, List, [], ◌∷◌, length, take, eqb}
+use Rattle.refusals.specs.declared.Refusal.{Refusal}
+use Rattle.std.specs.Prelude.{ℕ, ◌+◌, ◌≤◌, ◌<◌, ◌≡◌, Bool, true, false, cond, ◌||◌, List, [], ◌∷◌, length, take, eqb, Result, Ok, Err}
 use Rattle.lists.specs.Lists.{any}
-use Rattle.offsets.specs.declared.SubsetAnswer.{SubsetAnswer}
-use Rattle.offsets.specs.declared.SubsetAnswer.TheVariants.{Refused, Range, List as Ids}
+use Rattle.offsets.specs.declared.SubsetForm.{SubsetForm}
+use Rattle.offsets.specs.declared.SubsetForm.TheVariants.{Range, List as Ids}
 use Rattle.offsets.specs.Subsets.{Subset}
 use Rattle.constraints.specs.declared.Constraint.{Constraint}
 use Rattle.table.specs.declared.Header.{Header}
@@ -21,11 +22,11 @@ counted l =
     record { dense = l.dense; start = l.start; end = l.end; count = l.count; place = l.place; refined = l.refined; taken = l.taken + 1 }
 
 -- the ids left after an answer whose output went to the list of this place
-unfoldable pub apply_answer : RunAnswer → ℕ → Bool → SubsetAnswer → RunAnswer
-apply_answer l place refines (Refused n) = counted l
-apply_answer l place refines (Range start end) =
+unfoldable pub apply_answer : RunAnswer → ℕ → Bool → Result SubsetForm Refusal → RunAnswer
+apply_answer l place refines (Err r) = counted l
+apply_answer l place refines (Ok (Range start end)) =
     record { dense = true; start = start; end = end; count = 0; place = 0; refined = refines || l.refined; taken = l.taken + 1 }
-apply_answer l place refines (Ids n) =
+apply_answer l place refines (Ok (Ids n)) =
     record { dense = false; start = 0; end = 0; count = n; place = place; refined = refines || l.refined; taken = l.taken + 1 }
 
 -- no query or one, run on a subset, with its output in the list of a place

@@ -1,5 +1,5 @@
 -- The names that the laws of this crate take from elsewhere, re-exported. It defines nothing of its own.
-pub use Rattle.std.specs.Prelude.{◌%◌, ◌*◌, ◌+◌, ◌-◌, ◌/◌, ◌<◌, ◌≤◌, suc, zero, ℕ, Bool, ◌&&◌, ◌||◌, false, true, List, [], ◌++◌, ◌∷◌, map, ◌≢◌, ◌≡◌, refl, eqb, leb, ltb, get_or, length, take}
+pub use Rattle.std.specs.Prelude.{◌%◌, ◌*◌, ◌+◌, ◌-◌, ◌/◌, ◌<◌, ◌≤◌, suc, zero, ℕ, Bool, ◌&&◌, ◌||◌, false, true, List, [], ◌++◌, ◌∷◌, map, ◌≢◌, ◌≡◌, refl, eqb, leb, ltb, get_or, length, take, Result, Ok, Err, Option as Optional, Some, None}
 pub use Rattle.std.proofs.Common.{suc-le-suc, append_assoc, append-nil, ⊎_elim, ◌∙◌, ap, ap₂, sym, add-zero, div-add-mod', div-lt_iff_lt-mul, mod-lt, mul_assoc, mul_comm, mul-le-mul_right, suc-mul, zero-add, zero-mul, add-one, arith, length-append, get_or-append-add, eq-eqb, le-leb, le-ltb, leb-true, lt-ltb, ltb-true, ne_eqb}
 pub use Rattle.std.proofs.Math.Option.{Option, none, some}
 pub use Rattle.std.proofs.Math.Decide.{dec_lt}
@@ -19,7 +19,7 @@ pub use Rattle.refusals.specs.Laws.Determined.{Same}
 pub use Rattle.refusals.specs.Laws.Replies.{some_number}
 pub use Rattle.refusals.specs.Refusals.{Reply, accepted, refused}
 pub use Rattle.short_histories.specs.Sequences.{NextFound, SequenceFound, known, position_of, sequence_at}
-pub use Rattle.short_histories.specs.declared.PositionAnswer.{PositionAnswer}
-pub use Rattle.short_histories.specs.declared.SequenceAnswer.{SequenceAnswer}
-pub use Rattle.short_histories.specs.declared.SequenceAnswer.TheVariants.{None, Refused, Written}
-pub use Rattle.short_histories.specs.declared.StepAnswer.{StepAnswer}
+pub use Rattle.refusals.specs.declared.Refusal.{Refusal}
+pub use Rattle.refusals.specs.declared.Refusal.TheVariants.{PastTheLast, TooShort, UnknownSequence}
+pub use Rattle.short_histories.specs.declared.Step.{Step}
+pub use Rattle.short_histories.specs.declared.Step.TheVariants.{Insert, Merge, Remove}

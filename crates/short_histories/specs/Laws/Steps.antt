@@ -1,12 +1,11 @@
 -- The seven steps in full, and that their table accepts them. Assumes nothing.
 use Rattle.std.specs.Prelude.{◌≤◌, ◌≡◌, ◌≢◌}
-use Rattle.short_histories.specs.Laws.Prelude.{ℕ, suc, refl, Bool, true, false, arith, eqb, le-leb, Call, staging, merging, compacting, clearing, refreshing, feeding, StepAnswer}
+use Rattle.short_histories.specs.Laws.Prelude.{ℕ, suc, refl, Bool, true, false, arith, eqb, le-leb, Call, staging, merging, compacting, clearing, refreshing, feeding, Result, Ok, Err, Refusal, UnknownSequence, Step, Insert, Remove, Merge}
 use Rattle.lists.specs.Lists.{all}
 use Rattle.refusals.specs.Refusals.{first_refusal, reply}
 use Rattle.plain_table.specs.Staged.{Opening, openable, words_of}
 use Rattle.plain_table.specs.Refusing.{wrong_width, no_such_row, overfull, stage_checks}
-use Rattle.short_histories.specs.declared.StepAnswer.TheVariants.{Refused, Insert, Remove, Merge}
-use Rattle.short_histories.specs.Sequences.{third_cell, inserting, removing, steps, step_view, StepAnswered}
+use Rattle.short_histories.specs.Sequences.{third_cell, inserting, removing, steps, call_of, step_view, StepAnswered}
 
 -- "three columns, one key, sort column 1, capacity 6"; "all four rules": the tables that the steps are for. The comparison opens
 -- them in this way; no contract mentions one
@@ -32,11 +31,11 @@ unfolding all fits steps inserting removing third_cell short_opening stage_check
 steps_fit rule = refl
 
 -- step, key, stamp, third cell
-pub steps_answered : StepAnswered 0 (Insert 0 0 0) × StepAnswered 1 (Insert 0 1 1) × StepAnswered 2 (Insert 1 0 1) × StepAnswered 3 (Insert 1 1 0) × StepAnswered 4 (Remove 0) × StepAnswered 5 (Remove 1) × StepAnswered 6 Merge
-unfolding step_view reply first_refusal steps inserting removing third_cell
+pub steps_answered : StepAnswered 0 (Ok (Insert 0 0 0)) × StepAnswered 1 (Ok (Insert 0 1 1)) × StepAnswered 2 (Ok (Insert 1 0 1)) × StepAnswered 3 (Ok (Insert 1 1 0)) × StepAnswered 4 (Ok (Remove 0)) × StepAnswered 5 (Ok (Remove 1)) × StepAnswered 6 (Ok Merge)
+unfolding step_view call_of reply first_refusal steps inserting removing third_cell
 steps_answered = (refl, refl, refl, refl, refl, refl, refl)
 
-pub answered_at : (k step : ℕ) (answer : StepAnswer) → StepAnswered k answer → step ≡ k → StepAnswered step answer
+pub answered_at : (k step : ℕ) (answer : Result Step Refusal) → StepAnswered k answer → step ≡ k → StepAnswered step answer
 answered_at k step answer t e = rw e t
 
 above : (n step : ℕ) → n ≤ step → step ≢ n → suc n ≤ step
@@ -49,6 +48,6 @@ pub past_six : (step : ℕ) → step ≢ 0 → step ≢ 1 → step ≢ 2 → ste
 past_six step a b c d e f g =
     above 6 step (above 5 step (above 4 step (above 3 step (above 2 step (above 1 step (above_none step a) b) c) d) e) f) g
 
-pub step_unknown : (step : ℕ) → 7 ≤ step → StepAnswered step (Refused 15)
-unfolding step_view reply first_refusal
+pub step_unknown : (step : ℕ) → 7 ≤ step → StepAnswered step (Err UnknownSequence)
+unfolding step_view call_of reply first_refusal
 step_unknown step h = rw (le-leb 7 step h)

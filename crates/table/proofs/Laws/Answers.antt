@@ -1,66 +1,24 @@
--- Answers are determined by their views: two answers with the same view are equal. Assumes nothing.
-use Rattle.table.proofs.Laws.Prelude.{◌≡◌, TableAnswer, MergeAnswer, RowAnswer, CellAnswer, RangeAnswer, VersionAnswer}
-use Rattle.table.specs.declared.TableAnswer.TheVariants.{Refused as TableRefused, Table}
-use Rattle.table.specs.declared.MergeAnswer.TheVariants.{Refused as MergeRefused, Merged}
-use Rattle.table.specs.declared.RowAnswer.TheVariants.{Refused as RowRefused, None as NoRow, Row}
-use Rattle.table.specs.declared.CellAnswer.TheVariants.{Refused as CellRefused, None as NoCell, Cell}
-use Rattle.table.specs.declared.RangeAnswer.TheVariants.{Refused as RangeRefused, None as NoRange, Range}
-use Rattle.table.specs.declared.VersionAnswer.TheVariants.{Refused as VersionRefused, Version as Versioned}
-use Rattle.table.specs.Numbers.{table_view, merge_view, row_view, cell_view, range_view, version_view}
+-- The answer of a fast range is determined by its view. Assumes nothing.
+use Rattle.refusals.specs.Laws.Numbers.{number_injective}
+use Rattle.sort_entries.specs.declared.Range.{Range}
+use Rattle.refusals.specs.declared.Refusal.{Refusal}
+use Rattle.std.specs.Prelude.{Result, Ok, Err, Some, None, Option as Optional}
+use Rattle.table.proofs.Laws.Prelude.{◌≡◌, refl, ap}
+use Rattle.offsets.specs.Subsets.{range}
+use Rattle.table.specs.Numbers.{range_view}
 
-pub table_view_injective : (a b : TableAnswer) → table_view a ≡ table_view b → a ≡ b
-unfolding table_view
-table_view_injective (TableRefused m) (TableRefused n) e = cc
-table_view_injective (TableRefused m) (Table h) e = cc
-table_view_injective (Table g) (TableRefused n) e = cc
-table_view_injective (Table g) (Table h) e = cc
-
-pub merge_view_injective : (a b : MergeAnswer) → merge_view a ≡ merge_view b → a ≡ b
-unfolding merge_view
-merge_view_injective (MergeRefused m) (MergeRefused n) e = cc
-merge_view_injective (MergeRefused m) (Merged y) e = cc
-merge_view_injective (Merged x) (MergeRefused n) e = cc
-merge_view_injective (Merged x) (Merged y) e = cc
-
-pub row_view_injective : (a b : RowAnswer) → row_view a ≡ row_view b → a ≡ b
-unfolding row_view
-row_view_injective (RowRefused m) (RowRefused n) e = cc
-row_view_injective (RowRefused m) NoRow e = cc
-row_view_injective (RowRefused m) (Row j) e = cc
-row_view_injective NoRow (RowRefused n) e = cc
-row_view_injective NoRow NoRow e = cc
-row_view_injective NoRow (Row j) e = cc
-row_view_injective (Row i) (RowRefused n) e = cc
-row_view_injective (Row i) NoRow e = cc
-row_view_injective (Row i) (Row j) e = cc
-
-pub cell_view_injective : (a b : CellAnswer) → cell_view a ≡ cell_view b → a ≡ b
-unfolding cell_view
-cell_view_injective (CellRefused m) (CellRefused n) e = cc
-cell_view_injective (CellRefused m) NoCell e = cc
-cell_view_injective (CellRefused m) (Cell y) e = cc
-cell_view_injective NoCell (CellRefused n) e = cc
-cell_view_injective NoCell NoCell e = cc
-cell_view_injective NoCell (Cell y) e = cc
-cell_view_injective (Cell x) (CellRefused n) e = cc
-cell_view_injective (Cell x) NoCell e = cc
-cell_view_injective (Cell x) (Cell y) e = cc
-
-pub range_view_injective : (a b : RangeAnswer) → range_view a ≡ range_view b → a ≡ b
+pub range_view_injective : (a b : Result (Optional Range) Refusal) → range_view a ≡ range_view b → a ≡ b
 unfolding range_view
-range_view_injective (RangeRefused m) (RangeRefused n) e = cc
-range_view_injective (RangeRefused m) NoRange e = cc
-range_view_injective (RangeRefused m) (Range c d) e = cc
-range_view_injective NoRange (RangeRefused n) e = cc
-range_view_injective NoRange NoRange e = cc
-range_view_injective NoRange (Range c d) e = cc
-range_view_injective (Range a b) (RangeRefused n) e = cc
-range_view_injective (Range a b) NoRange e = cc
-range_view_injective (Range a b) (Range c d) e = cc
-
-pub version_view_injective : (a b : VersionAnswer) → version_view a ≡ version_view b → a ≡ b
-unfolding version_view
-version_view_injective (VersionRefused m) (VersionRefused n) e = cc
-version_view_injective (VersionRefused m) (Versioned y) e = cc
-version_view_injective (Versioned x) (VersionRefused n) e = cc
-version_view_injective (Versioned x) (Versioned y) e = cc
+range_view_injective (Ok None) (Ok None) e = refl
+range_view_injective (Ok None) (Ok (Some d)) e = cc
+range_view_injective (Ok None) (Err q) e = cc
+range_view_injective (Ok (Some c)) (Ok None) e = cc
+range_view_injective (Ok (Some c)) (Ok (Some d)) e =
+    let same : range c.start c.end ≡ range d.start d.end = cc in
+    let start : c.start ≡ d.start = cc in
+    let end : c.end ≡ d.end = cc in
+    ap (λ r. Ok (Some r)) (λ i. record { start = start i; end = end i })
+range_view_injective (Ok (Some c)) (Err q) e = cc
+range_view_injective (Err r) (Ok None) e = cc
+range_view_injective (Err r) (Ok (Some d)) e = cc
+range_view_injective (Err r) (Err q) e = ap Err (number_injective r q cc)

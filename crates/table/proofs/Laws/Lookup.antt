@@ -1,6 +1,9 @@
 -- Key lookup: a key leads to row i exactly if row i is live in the stores and has that key. This holds for the header and the row
 -- store alone, and for the plain table that the stores show. Assumes nothing.
-use Rattle.table.proofs.Laws.Prelude.{ℕ, ◌<◌, ◌≡◌, sym, ap, ap₂, ◌∙◌, true, none, some, Option·map, List, arith, length, get_or, find, row_at, accepted, LiveAt, key_at, has_key, none_lookup, one_lookup, row_of, live_with_key_of, live_with_key_live, live_with_key_key, live_below_lem, Header, RowAnswer, CellAnswer, row_view, cell_view, lookup_refusal, cell_refusal, rows_in, index_shape_of, KeysDiffer, Stores, stores, Represents, of_rows, LookedUp, CellRead}
+use Rattle.refusals.specs.Refusals.{found_view}
+use Rattle.refusals.specs.declared.Refusal.{Refusal}
+use Rattle.std.specs.Prelude.{Result, Option as Optional}
+use Rattle.table.proofs.Laws.Prelude.{ℕ, ◌<◌, ◌≡◌, sym, ap, ap₂, ◌∙◌, true, none, some, Option·map, List, arith, length, get_or, find, row_at, accepted, LiveAt, key_at, has_key, none_lookup, one_lookup, row_of, live_with_key_of, live_with_key_live, live_with_key_key, live_below_lem, Header, lookup_refusal, cell_refusal, rows_in, index_shape_of, KeysDiffer, Stores, stores, Represents, of_rows, LookedUp, CellRead}
 use Rattle.plain_table.specs.Plain.{Row, Plain, Numbered, live_from, live_rows, lookup, live_with_key}
 use Rattle.table.proofs.Laws.Shown.{live_in, in_live, live_cells_lem}
 use Rattle.table.proofs.Laws.Sound.{represents_sound}
@@ -74,10 +77,10 @@ module _ {p : Plain} {h : Header} {rows keys sorts pending : List ℕ} (key : Li
       let l : live_from 0 (rows_in h rows) ≡ live_from 0 p.rows = live_shown r in
       ap₂ (λ (k : ℕ) (rows : List Numbered). find (λ row. has_key k key row.cells) rows) n l
 
-  pub looked_up_plain : {answer : RowAnswer} → LookedUp h rows keys key answer → lookup_refusal h (length rows) (length keys) (length key) ≡ 0
-      → row_view answer ≡ accepted (Option·map (λ row. row.number) (lookup p key))
+  pub looked_up_plain : {answer : Result (Optional ℕ) Refusal} → LookedUp h rows keys key answer → lookup_refusal h (length rows) (length keys) (length key) ≡ 0
+      → found_view answer ≡ accepted (Option·map (λ row. row.number) (lookup p key))
   looked_up_plain m passed = rw (← rows_lookup) (m.table passed r.keys_sound (represents_sound r).contents.keys_differ)
 
-  pub cell_read_plain : {column : ℕ} {answer : CellAnswer} → CellRead h rows keys key column answer → cell_refusal h (length rows) (length keys) (length key) column ≡ 0
-      → cell_view answer ≡ accepted (Option·map (λ row. get_or row.cells column 0) (lookup p key))
+  pub cell_read_plain : {column : ℕ} {answer : Result (Optional ℕ) Refusal} → CellRead h rows keys key column answer → cell_refusal h (length rows) (length keys) (length key) column ≡ 0
+      → found_view answer ≡ accepted (Option·map (λ row. get_or row.cells column 0) (lookup p key))
   cell_read_plain m passed = rw (← rows_lookup) (m.table passed r.keys_sound (represents_sound r).contents.keys_differ)

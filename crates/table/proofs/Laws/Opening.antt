@@ -1,15 +1,17 @@
 -- An opening and a clear: afterwards the stores show the empty plain table, or the same table without staged records. Assumes
 -- nothing.
-use Rattle.table.proofs.Laws.Prelude.{ℕ, zero, suc, ◌+◌, ◌*◌, ◌≤◌, ◌<◌, ◌≡◌, refl, sym, ap, ap₂, ◌∙◌, ⊎_elim, true, false, List, [], ℕ_discrete, arith, length, length-replicate, lt-ltb, le-ltb, not-false, length_splice, some_number, zeros, EmptyIs, size_class_for, emptied, empty_sound, size_class_most, past_size_class, first_refusal_no, first_refusal_rest, opened_proper, unstaged_proper, Header, clear_refusal, Stores, stores, lengths, Represents, Opened, with_pending, Clearing, body}
+use Rattle.refusals.specs.Laws.Numbers.{err_replies, err_outcome, number_some}
+use Rattle.refusals.specs.declared.Refusal.{Refusal}
+use Rattle.std.specs.Prelude.{Ok, Err, None}
+use Rattle.table.proofs.Laws.Prelude.{ℕ, ◌+◌, ◌*◌, ◌≤◌, ◌<◌, ◌≡◌, refl, sym, ap, ap₂, ◌∙◌, ⊎_elim, true, false, List, [], ℕ_discrete, arith, length, length-replicate, lt-ltb, le-ltb, not-false, length_splice, some_number, zeros, EmptyIs, size_class_for, emptied, empty_sound, size_class_most, past_size_class, first_refusal_no, first_refusal_rest, opened_proper, unstaged_proper, Header, clear_refusal, Stores, stores, lengths, Represents, Opened, with_pending, Clearing, body}
 use Rattle.lists.specs.Lists.{all, count, rows_of, flatten}
-use Rattle.refusals.specs.Refusals.{accepted, reply, outcome}
+use Rattle.refusals.specs.Refusals.{accepted, reply, outcome, number}
 use Rattle.sort_entries.specs.Entries.{entries_of, rebuilt_from, rebuilt}
 use Rattle.plain_table.specs.Staged.{Opening, openable, words_all}
 use Rattle.plain_table.specs.Plain.{Plain, dead, opened, unstaged, cleared}
 use Rattle.plain_table.specs.Refusing.{stores_short, open_refusal}
-use Rattle.std.specs.Prelude.{None}
-use Rattle.table.specs.declared.TableAnswer.TheVariants.{Refused, Table}
-use Rattle.table.specs.Numbers.{opening_of, largest_of, table_view}
+use Rattle.refusals.specs.Refusals.{answer_view}
+use Rattle.table.specs.Numbers.{opening_of, largest_of}
 use Rattle.table.specs.Stores.{entries, header_of, stored}
 use Rattle.table.proofs.Laws.Shown.{stores_long, long_stores, rows_counted}
 use Rattle.table.proofs.Laws.Refusals.{clear_accepted}
@@ -64,22 +66,19 @@ module _ (o : Opening) (generation : ℕ) (rows keys keys' sorts pending : List 
 
 module _ (o : Opening) (generation : ℕ) (rows keys sorts pending : List ℕ) where
   -- a refused opening
-  pub opened_refused : (n : ℕ) → n ≡ open_refusal o (lengths rows keys sorts pending [] []) → (n ≡ 0 → ⊥)
-      → Opened o generation (body rows keys sorts) pending (Refused n) keys
-  unfolding table_view reply
-  opened_refused zero e ne = absurd (ne refl)
-  opened_refused (suc n) e ne =
+  pub opened_refused : (r : Refusal) → number r ≡ open_refusal o (lengths rows keys sorts pending [] []) → Opened o generation (body rows keys sorts) pending (Err r) keys
+  opened_refused r e =
       record {
-        answers = rw (← e);
+        answers = err_replies r _ e;
         unchanged = λ k. refl;
         past = refl;
-        represents = λ z. absurd (omega arith);
+        represents = λ z. absurd (number_some r (e ∙ z));
       }
 
   -- an accepted opening
   pub opened_done : (keys' : List ℕ) → open_refusal o (lengths rows keys sorts pending [] []) ≡ 0 → generation ≤ 4294967295 → EmptyIs (size_class_for o.capacity 0) keys keys'
-      → Opened o generation (body rows keys sorts) pending (Table (empty_header o generation)) keys'
-  unfolding table_view reply open_refusal
+      → Opened o generation (body rows keys sorts) pending (Ok (empty_header o generation)) keys'
+  unfolding answer_view reply open_refusal
   opened_done keys' e fits free =
       record {
         answers = rw e (ap accepted (header_opened o generation));
@@ -135,20 +134,18 @@ next_fits generation rows fits last some = elim (ℕ_discrete generation 4294967
 
 module _ (h : Header) (keys : List ℕ) where
   -- a refused clear
-  pub clear_refused : (n : ℕ) → n ≡ clear_refusal h (length keys) → (n ≡ 0 → ⊥) → Clearing h keys (Refused n) keys
-  unfolding table_view outcome reply
-  clear_refused zero e ne = absurd (ne refl)
-  clear_refused (suc n) e ne =
+  pub clear_refused : (r : Refusal) → number r ≡ clear_refusal h (length keys) → Clearing h keys (Err r) keys
+  clear_refused r e =
       record {
-        refusal = rw (← e);
+        refusal = err_outcome _ r e;
         unchanged = λ k. refl;
         past = refl;
-        table = λ z rows sorts pending p t. absurd (omega arith);
+        table = λ z. absurd (number_some r (e ∙ z));
       }
 
   -- a clear of a table without rows
-  pub clear_pending : clear_refusal h (length keys) ≡ 0 → h.rows ≡ 0 → Clearing h keys (Table (with_pending h 0)) keys
-  unfolding table_view outcome reply
+  pub clear_pending : clear_refusal h (length keys) ≡ 0 → h.rows ≡ 0 → Clearing h keys (Ok (with_pending h 0)) keys
+  unfolding answer_view outcome reply
   clear_pending e none =
       record {
         refusal = rw e;
@@ -162,8 +159,8 @@ module _ (h : Header) (keys : List ℕ) where
 
   -- a clear of a table with rows
   pub clear_all : (keys' : List ℕ) → clear_refusal h (length keys) ≡ 0 → 0 < h.rows → EmptyIs (size_class_for h.capacity 0) keys keys'
-      → Clearing h keys (Table (empty_header (opening_of h) (h.generation + 1))) keys'
-  unfolding table_view outcome reply
+      → Clearing h keys (Ok (empty_header (opening_of h) (h.generation + 1))) keys'
+  unfolding answer_view outcome reply
   clear_all keys' e some free =
       let a = clear_accepted h (length keys) e in
       record {

@@ -39,18 +39,12 @@ pub use Rattle.sort_entries.specs.Laws.Stores.{entries_of_same, length_entries_o
 pub use Rattle.sort_entries.specs.Laws.Tests.{rebuilt_all, value_at_all}
 pub use Rattle.sort_entries.specs.Laws.Values.{rebuilt_same, value_at_climbs}
 pub use Rattle.table.specs.Outcomes.{Body, CellRead, Checked, Clearing, Compacting, CompactionWords, LookedUp, Merging, Opened, SamePast, RangeRead, Represents, RowsSince, RowsSinceVersion, Staging, Stores, VersionRead, body, body_of, joined, lengths, lengths_lent, of_rows, stores, with_pending}
-pub use Rattle.table.specs.Numbers.{cell_view, merge_view, opening_of, range_view, row_view, table_view}
+pub use Rattle.refusals.specs.Refusals.{found_view, answer_view}
+pub use Rattle.table.specs.Numbers.{opening_of, range_view}
 pub use Rattle.table.specs.Refusing.{cell_refusal, clear_refusal, compact_refusal, fast_refusal, lookup_refusal, merge_refusal, stage_refusal}
 pub use Rattle.table.specs.Sound.{KeysDiffer, Sound, index_shape_of}
 pub use Rattle.table.specs.Stores.{header_of, rows_in}
-pub use Rattle.table.specs.declared.CellAnswer.{CellAnswer}
 pub use Rattle.table.specs.declared.Header.{Header}
-pub use Rattle.std.specs.Prelude.{Option as StdOption, None, Some}
+pub use Rattle.std.specs.Prelude.{Option as Optional, None, Some}
 pub use Rattle.table.specs.declared.Merge.{Merge}
-pub use Rattle.table.specs.declared.MergeAnswer.{MergeAnswer}
-pub use Rattle.table.specs.declared.RangeAnswer.{RangeAnswer}
-pub use Rattle.table.specs.declared.RowAnswer.{RowAnswer}
-pub use Rattle.table.specs.declared.SoundAnswer.{SoundAnswer}
-pub use Rattle.table.specs.declared.TableAnswer.{TableAnswer}
-pub use Rattle.table.specs.declared.VersionAnswer.{VersionAnswer}
 pub use Rattle.table.specs.inner.FullIndexShape.{full_index_shape_of}

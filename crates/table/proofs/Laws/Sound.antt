@@ -1,5 +1,5 @@
 -- A table that shows a plain table is sound, and a sound table shows one. Assumes nothing.
-use Rattle.table.proofs.Laws.Prelude.{ℕ, zero, suc, ◌+◌, ◌≤◌, ◌<◌, ◌≡◌, refl, sym, ap, ◌∙◌, inl, inr, Bool, true, false, cond, not, List, [], ◌∷◌, map, Option, none, some, add-zero, zero-add, mul-le-mul_right, arith, length, take, get_or, set, length-map, length-set, get_or-set_same, le-ltb, eq-eqb, all, count, row_at, rows_of, split, all_of, length_rows_of, get_d_rows_of, length_row_at, get_d_map_below, count_alike, LiveAt, key_at, Entry, entries_of, value_at, entries_sound, NeverFalls, rebuilt_sound, rebuilt_value_at, length_entries_of, sound_climb, sound_some, rebuilt_all, value_at_all, value_at_climbs, rebuilt_same, Staged, Proper, row_of, sort_cell, at_most, no_row, wide_row, first_fits, kept_row, live_below_lem, bounds_openable, StdOption, None, Some, Header, index_shape_of, Sound, Stores, stores, lengths, Represents}
+use Rattle.table.proofs.Laws.Prelude.{ℕ, zero, suc, ◌+◌, ◌≤◌, ◌<◌, ◌≡◌, refl, sym, ap, ◌∙◌, inl, inr, Bool, true, false, cond, not, List, [], ◌∷◌, map, Option, none, some, add-zero, zero-add, mul-le-mul_right, arith, length, take, get_or, set, length-map, length-set, get_or-set_same, le-ltb, eq-eqb, all, count, row_at, rows_of, split, all_of, length_rows_of, get_d_rows_of, length_row_at, get_d_map_below, count_alike, LiveAt, key_at, Entry, entries_of, value_at, entries_sound, NeverFalls, rebuilt_sound, rebuilt_value_at, length_entries_of, sound_climb, sound_some, rebuilt_all, value_at_all, value_at_climbs, rebuilt_same, Staged, Proper, row_of, sort_cell, at_most, no_row, wide_row, first_fits, kept_row, live_below_lem, bounds_openable, Optional, None, Some, Header, index_shape_of, Sound, Stores, stores, lengths, Represents}
 use Rattle.refusals.specs.Refusals.{first_refusal}
 use Rattle.constraints.specs.Constraints.{is_live}
 use Rattle.plain_table.specs.Plain.{Row, Plain, dead}
@@ -54,7 +54,7 @@ unfolding largest_view largest_of
 largest_view_largest_of none = refl
 largest_view_largest_of (some v) = refl
 
-pub largest_of_largest_view : (l : StdOption ℕ) → largest_of (largest_view l) ≡ l
+pub largest_of_largest_view : (l : Optional ℕ) → largest_of (largest_view l) ≡ l
 unfolding largest_view largest_of
 largest_of_largest_view None = refl
 largest_of_largest_view (Some v) = refl

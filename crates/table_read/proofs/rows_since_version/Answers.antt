@@ -1,9 +1,13 @@
 -- `table_read::rows_since_version` meets its contract. Assumes nothing.
+use Rattle.std.proofs.lemmas.Result.{err_from_is_err_and}
+use mathlib.Core.Path.{sym}
 use Rattle.table_read.proofs.ReadingSteps.{noted_refused, noted_answered}
 use Rattle.table_read.proofs.rows_since_version.Goals as goal
 
-pub returns-then-refusal-ne-ACCEPTED : goal.returns-then-refusal-ne-ACCEPTED
-returns-then-refusal-ne-ACCEPTED c = noted_refused _ _ _ _ c.noted_refusal-refusal.ensures c.if-refusal-ne-ACCEPTED.true
+pub returns-in_err-check_noted : goal.returns-in_err-check_noted
+returns-in_err-check_noted c =
+    let p = err_from_is_err_and c.from_residual.result c.from_residual.ensures.1 in
+    rw (p.1, p.2) (noted_refused _ _ _ _ c.in_err-check_noted.ensures)
 
 pub returns : goal.returns
-returns c = noted_answered _ _ _ _ c.noted_refusal-refusal.ensures c.if-refusal-ne-ACCEPTED.false
+returns c = rw c.range.ensures (noted_answered _ _ _ (sym c.in_ok-check_noted.ensures))

@@ -1,19 +1,21 @@
 -- Staged records: the checks of each kind, how a record is written, and that each outcome meets the contract. Assumes nothing.
+use Rattle.refusals.specs.Laws.Numbers.{err_replies, number_some}
+use Rattle.refusals.specs.declared.Refusal.{Refusal}
 use Prim.Native.Nat.{ℕ, zero, suc, ◌+◌, ◌≤◌}
-use Rattle.std.specs.Prelude.{◌≡◌, Bool, false, List, [], ◌∷◌, leb, ltb, length, set}
+use Rattle.std.specs.Prelude.{◌≡◌, Bool, false, List, [], ◌∷◌, leb, ltb, length, set, Ok, Err}
 use Rattle.std.proofs.Math.Path.{refl}
 use Rattle.std.proofs.Common.{ap, ◌∙◌, arith, length-set, ltb-false, eqb-true}
 use Rattle.std.proofs.lemmas.Bool.{not-false}
 use Rattle.lists.specs.Lists.{splice}
 use Rattle.lists.specs.Laws.Parts.{splice_then, set_splice, set_set_splice}
 use Rattle.lists.specs.Laws.All.{or_no_left, or_no_right}
-use Rattle.refusals.specs.Refusals.{accepted, reply}
+use Rattle.refusals.specs.Refusals.{accepted, reply, number}
 use Rattle.plain_table.specs.Staged.{Staged, insert, remove_key, remove_row, words_of}
 use Rattle.plain_table.specs.Refusing.{wrong_width, no_such_row, stage_checks, overfull}
 use Rattle.plain_table.proofs.Laws.Calls.{first_refusal_no, first_refusal_rest}
 use Rattle.table.specs.declared.Header.{Header}
-use Rattle.table.specs.declared.TableAnswer.TheVariants.{Refused, Table}
-use Rattle.table.specs.Numbers.{opening_of, table_view}
+use Rattle.refusals.specs.Refusals.{answer_view}
+use Rattle.table.specs.Numbers.{opening_of}
 use Rattle.table.specs.Refusing.{stage_refusal}
 use Rattle.table.specs.Stores.{record_words}
 use Rattle.table.specs.Outcomes.{with_pending, Staging}
@@ -70,20 +72,18 @@ row_head l at a b c h =
 
 module _ (h : Header) (pending : List ℕ) (r : Staged) where
   -- a refused record
-  pub staging_refused : (n : ℕ) → n ≡ stage_refusal h (length pending) r → (n ≡ 0 → ⊥) → Staging h pending r (Refused n) pending
-  unfolding table_view reply
-  staging_refused zero e ne = absurd (ne refl)
-  staging_refused (suc n) e ne = record { answers = rw (← e); unchanged = λ k. refl; written = λ z. absurd (omega arith) }
+  pub staging_refused : (q : Refusal) → number q ≡ stage_refusal h (length pending) r → Staging h pending r (Err q) pending
+  staging_refused q e = record { answers = err_replies q _ e; unchanged = λ k. refl; written = λ z. absurd (number_some q (e ∙ z)) }
 
   -- a record that is written
   pub staging_written : (pending' : List ℕ) → stage_refusal h (length pending) r ≡ 0 → pending' ≡ splice pending h.pending (record_words h.keys r)
-      → Staging h pending r (Table (with_pending h (h.pending + words_of (opening_of h) r))) pending'
-  unfolding table_view reply
+      → Staging h pending r (Ok (with_pending h (h.pending + words_of (opening_of h) r))) pending'
+  unfolding answer_view reply
   staging_written pending' e w = record { answers = rw e; unchanged = λ k. absurd (omega arith); written = λ z. w }
 
   -- an accepted record: the header has passed test 1, and only its pending count changes
-  pub staging_accepted : {pending' : List ℕ} {h' : Header} → Staging h pending r (Table h') pending' → (h' ≡ with_pending h h'.pending) × Inside h
-  unfolding table_view reply
+  pub staging_accepted : {pending' : List ℕ} {h' : Header} → Staging h pending r (Ok h') pending' → (h' ≡ with_pending h h'.pending) × Inside h
+  unfolding answer_view reply
   staging_accepted {pending'} {h'} m = go (stage_refusal h (length pending) r) refl m.answers
     where
       n : ℕ

@@ -1,5 +1,5 @@
 -- The names that the laws of this crate take from elsewhere, re-exported. It defines nothing of its own.
-pub use Rattle.std.specs.Prelude.{◌%◌, ◌*◌, ◌+◌, ◌/◌, ◌<◌, ◌^◌, ◌≤◌, suc, zero, ℕ, true, List, [], ◌∷◌, map, ◌≡◌, refl, eqb, ltb, drop, get_or, length, take}
+pub use Rattle.std.specs.Prelude.{◌%◌, ◌*◌, ◌+◌, ◌/◌, ◌<◌, ◌^◌, ◌≤◌, suc, zero, ℕ, true, List, [], ◌∷◌, map, ◌≡◌, refl, eqb, ltb, drop, get_or, length, take, Result, Ok}
 pub use Rattle.std.proofs.Common.{append-nil, ⊎_elim, ◌∙◌, ap, ap₂, sym, div-add-mod', mul_comm, mul-div_cancel, zero-add, arith, ext_get_or, get_or-drop, take_all, eq-eqb, eqb-true, le-ltb, lt-ltb, ne_eqb}
 pub use Rattle.std.proofs.Math.Decide.{dec_lt, ℕ_discrete}
 pub use Rattle.std.proofs.Math.ListN.{get_or-eq_default as List·getD-eq-default}
@@ -12,5 +12,4 @@ pub use Rattle.lists.specs.Laws.Rows.{flatten_rows_of, get_d_row_at, get_d_rows_
 pub use Rattle.lists.specs.Lists.{flatten, rows_of}
 pub use Rattle.refusals.specs.Laws.Determined.{Same}
 pub use Rattle.refusals.specs.Laws.Replies.{some_number}
-pub use Rattle.vault.specs.declared.ColumnsAnswer.{ColumnsAnswer}
-pub use Rattle.vault.specs.declared.ColumnsAnswer.TheVariants.{Refused, Written}
+pub use Rattle.refusals.specs.declared.Refusal.{Refusal}

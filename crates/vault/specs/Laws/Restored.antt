@@ -1,21 +1,21 @@
 -- "Applying either after the other restores the cells", for two calls: one accepted, then the other on what it wrote.
 -- Assumes nothing.
 use Rattle.std.specs.Prelude.{◌+◌, ◌%◌, ◌≤◌, ◌<◌, ◌≡◌, ◌∷◌}
-use Rattle.vault.specs.Laws.Prelude.{ℕ, zero, suc, refl, ap, ◌∙◌, List, [], dec_lt, arith, ltb, length, take, lt-ltb, le-ltb, eq-eqb, part_splice, ColumnsAnswer, Written}
+use Rattle.vault.specs.Laws.Prelude.{ℕ, zero, suc, refl, ap, ◌∙◌, List, [], dec_lt, arith, ltb, length, take, lt-ltb, le-ltb, eq-eqb, part_splice, Result, Ok, Refusal}
 use Rattle.lists.specs.Lists.{splice}
-use Rattle.refusals.specs.Refusals.{check, first_refusal, reply, Effect}
-use Rattle.vault.specs.Columns.{to_columns, from_columns, columns_refusal, columns_view, Rearranged}
+use Rattle.refusals.specs.Refusals.{check, first_refusal, reply, answer_view, Effect}
+use Rattle.vault.specs.Columns.{to_columns, from_columns, columns_refusal, Rearranged}
 use Rattle.vault.specs.Laws.Differences.{Cells}
 use Rattle.vault.specs.Laws.Inverse.{to_columns_length, from_columns_length, from_columns_to_columns, to_columns_from_columns}
 use Rattle.vault.specs.Laws.Refusals.{Accepted, accepted}
 
 -- an accepted answer has refusal 0
-none_refused : (n : ℕ) → columns_view Written ≡ reply n tt → n ≡ 0
-unfolding columns_view reply
+none_refused : (n : ℕ) → answer_view {A = Unit {0}} (Ok tt) ≡ reply n tt → n ≡ 0
+unfolding answer_view reply
 none_refused zero e = refl
 none_refused (suc n) e = absurd (let z : ◌≡◌ {A = ℕ} 0 1 = cc in omega arith)
 
-module _ {order : ℕ → List ℕ → List ℕ} {width : ℕ} {cells output output' : List ℕ} (x : Rearranged order width cells output Written output') where
+module _ {order : ℕ → List ℕ → List ℕ} {width : ℕ} {cells output output' : List ℕ} (x : Rearranged order width cells output (Ok tt) output') where
   not_refused : columns_refusal width (length cells) (length output) ≡ 0
   not_refused = none_refused _ x.effect.answers
 
@@ -44,13 +44,13 @@ module _ (cells : List ℕ) (room : ℕ) where
 
 -- The second call is refused with no number but 2, and with 2 exactly if its output is shorter than the cells; accepted, it writes the
 -- cells.
-abbrev pub Restored : List ℕ → List ℕ → ColumnsAnswer → List ℕ → Type 0
-Restored cells output answer output' = Effect (short cells (length output)) (columns_view answer) tt output output' (splice output 0 cells)
+abbrev pub Restored : List ℕ → List ℕ → Result (Unit {0}) Refusal → List ℕ → Type 0
+Restored cells output answer output' = Effect (short cells (length output)) (answer_view answer) tt output output' (splice output 0 cells)
 
 -- one order after the other, if the second is the inverse of the first
-undone : {there back : ℕ → List ℕ → List ℕ} {width : ℕ} {cells output output' second second' : List ℕ} {answer : ColumnsAnswer}
+undone : {there back : ℕ → List ℕ → List ℕ} {width : ℕ} {cells output output' second second' : List ℕ} {answer : Result (Unit {0}) Refusal}
     → length (there width cells) ≡ length cells → back width (there width cells) ≡ cells
-    → Rearranged there width cells output Written output' → Rearranged back width (take (length cells) output') second answer second'
+    → Rearranged there width cells output (Ok tt) output' → Rearranged back width (take (length cells) output') second answer second'
     → Restored cells second answer second'
 undone {back = back} {width} {cells} {second = second} long e x y =
     let w = front x long in
@@ -63,21 +63,21 @@ undone {back = back} {width} {cells} {second = second} long e x y =
       written = λ none. rw (← r) (y.effect.written (n ∙ none));
     }
 
-module _ {width : ℕ} {cells output output' second second' : List ℕ} {answer : ColumnsAnswer} (f : Cells cells) where
-  pub there_and_back : Rearranged to_columns width cells output Written output' → Rearranged from_columns width (take (length cells) output') second answer second'
+module _ {width : ℕ} {cells output output' second second' : List ℕ} {answer : Result (Unit {0}) Refusal} (f : Cells cells) where
+  pub there_and_back : Rearranged to_columns width cells output (Ok tt) output' → Rearranged from_columns width (take (length cells) output') second answer second'
       → Restored cells second answer second'
   there_and_back x =
       let k = known x in
       undone (to_columns_length width cells k.narrow k.multiple) (from_columns_to_columns width cells k.narrow k.multiple f) x
 
-  pub back_and_there : Rearranged from_columns width cells output Written output' → Rearranged to_columns width (take (length cells) output') second answer second'
+  pub back_and_there : Rearranged from_columns width cells output (Ok tt) output' → Rearranged to_columns width (take (length cells) output') second answer second'
       → Restored cells second answer second'
   back_and_there x =
       let k = known x in
       undone (from_columns_length width cells k.narrow k.multiple) (to_columns_from_columns width cells k.narrow k.multiple f) x
 
 -- a second call that is accepted has written the cells
-pub restored_front : {cells second second' : List ℕ} → Restored cells second Written second' → take (length cells) second' ≡ cells
+pub restored_front : {cells second second' : List ℕ} → Restored cells second (Ok tt) second' → take (length cells) second' ≡ cells
 restored_front {cells} {second} r =
     let none = none_refused _ r.answers in
     rw (r.written none) (part_splice second cells 0 (omega (arith, room_enough none)))

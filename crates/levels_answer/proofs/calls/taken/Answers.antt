@@ -2,8 +2,8 @@
 use Rattle.levels_answer.proofs.Prelude.{served_refused, served_table}
 use Rattle.levels_answer.proofs.calls.taken.Goals as goal
 
-pub returns-in-Refused : goal.returns-in-Refused
-returns-in-Refused c = served_refused _ _ _ c.in-Refused.is
+pub returns-in-Err : goal.returns-in-Err
+returns-in-Err c = served_refused _ _ _ c.in-Err.is
 
-pub returns-in-Table : goal.returns-in-Table
-returns-in-Table c = served_table _ _ _ c.in-Table.is
+pub returns-in-Ok : goal.returns-in-Ok
+returns-in-Ok c = served_table _ _ _ c.in-Ok.is

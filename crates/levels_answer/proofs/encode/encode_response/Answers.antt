@@ -9,7 +9,7 @@ returns-in-Nothing c = encodes_nothing _ _ _ c.in-Nothing.is
 
 pub returns-in-Refused : goal.returns-in-Refused
 unfolding text_of
-returns-in-Refused c = encodes_bytes _ _ c.in-Refused.is c.refuse.ensures
+returns-in-Refused c = encodes_bytes _ _ c.in-Refused.is (rw c.into.ensures at c.refuse.ensures)
 
 pub returns-in-Merged : goal.returns-in-Merged
 unfolding text_of

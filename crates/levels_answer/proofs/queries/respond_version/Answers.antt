@@ -2,8 +2,8 @@
 use Rattle.levels_answer.proofs.Prelude.{version_response, version_refused, version_responds}
 use Rattle.levels_answer.proofs.queries.respond_version.Goals as goal
 
-pub returns-in-Refused : goal.returns-in-Refused
-returns-in-Refused c = version_refused _ _ version_response c.in-Refused.is
+pub returns-in-Err : goal.returns-in-Err
+returns-in-Err c = version_refused _ _ version_response c.in-Err.is
 
-pub returns-in-Version : goal.returns-in-Version
-returns-in-Version c = version_responds _ _ version_response c.in-Version.is
+pub returns-in-Ok : goal.returns-in-Ok
+returns-in-Ok c = version_responds _ _ version_response c.in-Ok.is

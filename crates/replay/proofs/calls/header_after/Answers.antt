@@ -2,8 +2,8 @@
 use Rattle.replay.proofs.Headers.{after_refused, after_table}
 use Rattle.replay.proofs.calls.header_after.Goals as goal
 
-pub returns-in-Refused : goal.returns-in-Refused
-returns-in-Refused c = after_refused _ _ _ c.in-Refused.is
+pub returns-in-Err : goal.returns-in-Err
+returns-in-Err c = after_refused _ _ _ c.in-Err.is
 
-pub returns-in-Table : goal.returns-in-Table
-returns-in-Table c = after_table _ _ _ c.in-Table.is
+pub returns-in-Ok : goal.returns-in-Ok
+returns-in-Ok c = after_table _ _ _ c.in-Ok.is

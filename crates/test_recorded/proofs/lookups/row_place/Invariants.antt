@@ -1,8 +1,0 @@
--- `test_recorded::lookups::row_place` is safe, and ends. Assumes nothing.
-use Rattle.test_recorded.proofs.lookups.row_place.Given as goal
-
-abbrev pub invariant-loop-left : goal.invariant-loop-left
-invariant-loop-left l = Unit {0}
-
-abbrev pub decreases-loop-left : goal.decreases-loop-left
-decreases-loop-left l = l.left

@@ -1,6 +1,0 @@
--- `vault::sum_column` meets its contract. Assumes nothing.
-use Rattle.vault.proofs.Filling.{Summing}
-use Rattle.vault.proofs.sum_column.Given as goal
-
-abbrev pub invariant-loop-row : goal.invariant-loop-row
-invariant-loop-row l = Summing l.width l.start l.end l.column l.cells l.initial.output l.output l.above l.row
