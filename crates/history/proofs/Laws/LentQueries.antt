@@ -16,7 +16,7 @@ use Rattle.query_spec.specs.Queries.{matches, past_rows, query_checks, refine_re
 use Rattle.history.specs.Histories.{end as no-calls, History}
 use Rattle.history.specs.Runs.{refine_one, refines, by_reply, Queried, one_refined, Run, end, next}
 use Rattle.history.proofs.Laws.Calls.{history_represents}
-use Rattle.history.proofs.Laws.Queries.{by_reply_lem, refine_given}
+use Rattle.history.proofs.Laws.Queries.{by_reply_given, refine_given}
 use Rattle.history.proofs.Laws.Theorem.{term_three}
 use Rattle.history.proofs.Laws.LentLengths.{example}
 
@@ -47,7 +47,7 @@ queried_by : (s : Stores) (lent : ℕ) (a : Subset) (c : Constraint) (output : L
     → Queried s a (refine_one c) (by_reply a (refine_one c) r)
 unfolding refine_one_reply
 queried_by s lent a c output r e =
-    rw (← e) (by_reply_lem a (refine_one c) _ _ output (refine_given s.header _ a (c ∷ []) (length output)) (λ output' answer m. one_refined c lent output output' answer (record { answered = m })))
+    rw (← e) (by_reply_given a (refine_one c) _ _ output (refine_given s.header _ a (c ∷ []) (length output)) (λ output' answer m. one_refined c lent output output' answer (record { answered = m })))
 
 -- b has the ids that are left, in any form
 module _ {p : Plain} {s : Stores} (r : Represents p s) (a v b w : Subset) (c : Constraint) (output : List ℕ) (one : replied s (needed s) a c (length output) ≡ accepted v) (same : members b ≡ members v)

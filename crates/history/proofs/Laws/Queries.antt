@@ -2,13 +2,13 @@
 use Rattle.refusals.specs.declared.Refusal.TheVariants.{OutOfBounds, TooShort, MalformedSubset, PastTheRows, NoSuchColumn}
 use Rattle.sort_entries.specs.declared.Range.{Range}
 use Rattle.refusals.specs.declared.Refusal.{Refusal}
-use Rattle.std.specs.Prelude.{Result, Option as Optional}
+use Rattle.std.specs.Prelude.{Result, Option as Optional, ◌⊎◌}
 use Rattle.history.proofs.Laws.Prelude.{ℕ, ◌+◌, ◌*◌, ◌≤◌, ◌<◌, ◌≡◌, refl, sym, ap, ◌∙◌, inl, inr, Bool, true, not, ◌||◌, and-true, false≢true, Option, some, List, [], ◌∷◌, mul-le-mul_right, arith, length, take, get_or, length-take, take-take, eqb, ltb-false, leb-true, eqb-true, eqb-false, ne_eqb, not-false, split, and_left, length_filter, count_le, elem_at, filter_elem_comm, or_no_left, or_no_right, get_d_rows_of, rows_of_same, Reply, refused, accepted, Constraint, Entry, entries_of, fast_range, fast_range_lem, entries_of_same, Plain, first_refusal_no, first_refusal_rest, Header, range_view, represents_sound, outside_inside, rows_long_of, fast_accepted, outcome_accepted, accepted_number, accepted_same}
 use Rattle.lists.specs.Lists.{filter, all, elem, row_at, rising}
 use Rattle.offsets.specs.declared.SubsetForm.{SubsetForm}
 use Rattle.offsets.specs.Subsets.{Subset, well_formed, members, size, end_of, retain, narrowed}
 use Rattle.offsets.specs.Answers.{Answered, subset_view, written}
-use Rattle.offsets.specs.Laws.Answers.{written_members, Given, given_check, given_none, answer_to, intersect_accepted}
+use Rattle.offsets.specs.Laws.Answers.{written_members, Given, Unanswerable, given_check, given_none, answer_to, answer_given, intersect_accepted}
 use Rattle.offsets.specs.Laws.Subsets.{rising_members, length_members, members_below, members_retain, members_narrowed}
 use Rattle.constraints.specs.Constraints.{known, compares, met, meets}
 use Rattle.table.specs.Outcomes.{Stores, Represents, fast_subset, fast_among, RangeRead}
@@ -27,11 +27,21 @@ unfolding by_reply if_accepted
 replied_narrows {s} a (refused n) f = narrows_not s (members a)
 replied_narrows a (accepted v) f = f v refl
 
--- the ids that a query leaves are those of its reply, whatever its output holds
-pub by_reply_lem : {s : Stores} (a : Subset) (q : Query) (n : ℕ) (v : Subset) (output : List ℕ) → Given n
+-- the ids that a query leaves are those of its reply, whatever its output holds, but for a reply that no answer can hold
+pub by_reply_lem : {s : Stores} (a : Subset) (q : Query) (r : Reply Subset) (output : List ℕ)
+    → ((output' : List ℕ) (answer : Result SubsetForm Refusal) → Answered r output answer output' → Queried s a q (by_reply a q (subset_view answer output')))
+    → Queried s a q (by_reply a q r) ⊎ Unanswerable r
+by_reply_lem a q r output f =
+    elim (answer_to r output) [
+      | inl t ↦ inl (rw t.1.answers at (f _ t.0 t.1))
+      | inr none ↦ inr none
+    ]
+
+-- no operation makes such a reply
+pub by_reply_given : {s : Stores} (a : Subset) (q : Query) (n : ℕ) (v : Subset) (output : List ℕ) → Given n
     → ((output' : List ℕ) (answer : Result SubsetForm Refusal) → Answered (reply n v) output answer output' → Queried s a q (by_reply a q (subset_view answer output')))
     → Queried s a q (by_reply a q (reply n v))
-by_reply_lem a q n v output given f = let t = answer_to n v output given in rw t.1.answers at (f _ t.0 t.1)
+by_reply_given a q n v output given f = let t = answer_given n v output given in rw t.1.answers at (f _ t.0 t.1)
 
 -- each check of *Refine* has the number of a refusal
 pub refine_given : (h : Header) (rows : ℕ) (a : Subset) (cs : List Constraint) (output : ℕ) → Given (refine_refusal h rows a cs output)

@@ -1,13 +1,13 @@
 -- Laws of decoding an answer, and of what it writes. A refused answer writes nothing, an accepted one at most the ids of its
 -- subset, and an intersection no more than its output has room for. Every reply of an operation has an answer. The members of an accepted
 -- intersection. Assumes nothing.
-use Rattle.refusals.specs.Laws.Numbers.{number_some}
+use Rattle.refusals.specs.Laws.Numbers.{number_some, number_or_none}
 use Rattle.refusals.specs.Laws.Replies.{reply_refused}
 use Rattle.refusals.specs.declared.Refusal.{Refusal}
 use Rattle.refusals.specs.declared.Refusal.TheVariants.{MalformedSubset, TooShort}
 use Rattle.std.specs.Prelude.{◌≤◌, ◌<◌, ◌≡◌, ◌⊎◌, ◌∷◌, Result, Ok, Err}
 use Rattle.offsets.specs.Laws.Prelude.{ℕ, zero, suc, refl, sym, ap, ◌∙◌, inl, inr, Bool, true, false, List, [], dec_lt, arith, length, take, length-take, lt-ltb, le-ltb, splice, filter, elem, within, splice_nil, split, length_filter, count_le}
-use Rattle.refusals.specs.Refusals.{Check, check, first_refusal, refused, accepted, reply, number}
+use Rattle.refusals.specs.Refusals.{Check, check, first_refusal, Reply, refused, accepted, reply, number}
 use Rattle.offsets.specs.declared.SubsetForm.{SubsetForm}
 use Rattle.offsets.specs.declared.SubsetForm.TheVariants.{Range, List as Ids}
 use Rattle.offsets.specs.Subsets.{Subset, range, list, well_formed, members, list_or_nothing, intersect}
@@ -93,9 +93,23 @@ answer_refusal : (r : Refusal) (output : List ℕ) → (answer : Result SubsetFo
 unfolding written
 answer_refusal r output = (Err r, rw (splice_nil output 0) (answered_refused r output))
 
-pub answer_to : (n : ℕ) (v : Subset) (output : List ℕ) → Given n → (answer : Result SubsetForm Refusal) × Answered (reply n v) output answer (splice output 0 (written (reply n v)))
-answer_to n v output (inl e) = let k : reply n v ≡ accepted v = rw e (unfold reply in refl) in rw k (answer_value v output)
-answer_to n v output (inr (r, e)) = let k : reply n v ≡ refused (number r) = sym (reply_refused (refused (number r)) n (number r) v refl e (number_some r)) in rw k (answer_refusal r output)
+-- a reply that no answer can hold: it is refused with a number that no refusal has
+abbrev pub Unanswerable : Reply Subset → Type 0
+Unanswerable r = (n : ℕ) × (r ≡ refused n) × ((q : Refusal) → number q ≡ n → ⊥)
+
+-- every reply has an answer, whatever the contents of the output, or is one that no answer can hold
+pub answer_to : (r : Reply Subset) (output : List ℕ) → ((answer : Result SubsetForm Refusal) × Answered r output answer (splice output 0 (written r))) ⊎ Unanswerable r
+answer_to (accepted v) output = inl (answer_value v output)
+answer_to (refused n) output =
+    elim (number_or_none n) [
+      | inl (q, e) ↦ inl (rw (← e) (answer_refusal q output))
+      | inr none ↦ inr (n, refl, none)
+    ]
+
+-- a reply whose number is given is not one of those
+pub answer_given : (n : ℕ) (v : Subset) (output : List ℕ) → Given n → (answer : Result SubsetForm Refusal) × Answered (reply n v) output answer (splice output 0 (written (reply n v)))
+answer_given n v output (inl e) = let k : reply n v ≡ accepted v = rw e (unfold reply in refl) in rw k (answer_value v output)
+answer_given n v output (inr (r, e)) = let k : reply n v ≡ refused (number r) = sym (reply_refused (refused (number r)) n (number r) v refl e (number_some r)) in rw k (answer_refusal r output)
 
 -- ---- *Intersect*: its checks one by one
 

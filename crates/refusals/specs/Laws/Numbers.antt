@@ -1,7 +1,8 @@
 -- Refusals and their numbers: no number is 0, and no two refusals have the same one. So a result is determined by the reply that it is.
 -- Assumes nothing.
-use Rattle.std.specs.Prelude.{ℕ, ◌<◌, ◌≡◌, refl, cond, eqb, Result, Ok, Err, Option as Optional, Some, None}
-use Rattle.std.proofs.Common.{ap, sym, ◌∙◌, arith}
+use Rattle.std.specs.Prelude.{ℕ, ◌<◌, ◌≡◌, ◌⊎◌, refl, cond, eqb, Result, Ok, Err, Option as Optional, Some, None}
+use Rattle.std.proofs.Common.{ap, sym, ◌∙◌, arith, inl, inr}
+use Rattle.std.proofs.Math.Decide.{ℕ_discrete}
 use Rattle.refusals.specs.declared.Refusal.{Refusal}
 use Rattle.refusals.specs.declared.Refusal.TheVariants.{OutOfBounds, TooShort, WrongWidth, MalformedSubset, PastTheRows, NoSuchColumn, PendingFull, OldSortValue, LastGeneration, NoListing, TooManyColumns, BrokenRow, PairCount, UnknownSequence, PastTheLast, MissingRow, OldNote, NoImage, UnsoundImage, TextTooLong}
 use Rattle.refusals.specs.Refusals.{refused, accepted, reply, outcome, number, answer_view, found_view}
@@ -36,6 +37,14 @@ numbered_number TextTooLong = refl
 
 pub number_injective : (r q : Refusal) → number r ≡ number q → r ≡ q
 number_injective r q e = sym (numbered_number r) ∙ ap numbered e ∙ numbered_number q
+
+-- a number is that of a refusal, or of none
+pub number_or_none : (n : ℕ) → ((r : Refusal) × (number r ≡ n)) ⊎ ((r : Refusal) → number r ≡ n → ⊥)
+number_or_none n =
+    elim (ℕ_discrete (number (numbered n)) n) [
+      | yes e ↦ inl (numbered n, e)
+      | no f ↦ inr (λ r e. f (ap number (ap numbered (sym e) ∙ numbered_number r) ∙ e))
+    ]
 
 pub number_positive : (r : Refusal) → 0 < number r
 number_positive OutOfBounds = omega arith

@@ -3,7 +3,7 @@
 use Rattle.sort_entries.specs.declared.Range.{Range}
 use Rattle.refusals.specs.declared.Refusal.{Refusal}
 use Rattle.std.specs.Prelude.{◌≡◌, ◌∷◌, ◌++◌, Result, Option as Optional}
-use Rattle.replay_queries.specs.Laws.Prelude.{ℕ, refl, sym, ◌∙◌, inl, inr, true, Option, none, some, List, [], arith, length, replicate, length-replicate, take-length, filter, rising, Reply, refused, accepted, reply, some_number, ruled_refused, Constraint, entries_of, entries_sound, Opening, LentCall, Header, range_view, fast_refusal, Stores, stores, fast_subset, RangeRead, reply_refused, reply_accepted, History, wanted, by_reply_lem, refine_given, term_three, RunAnswer, shorter, RunMade}
+use Rattle.replay_queries.specs.Laws.Prelude.{ℕ, refl, sym, ◌∙◌, inl, inr, true, Option, none, some, List, [], arith, length, replicate, length-replicate, take-length, filter, rising, Reply, refused, accepted, reply, some_number, ruled_refused, Constraint, entries_of, entries_sound, Opening, LentCall, Header, range_view, fast_refusal, Stores, stores, fast_subset, RangeRead, reply_refused, reply_accepted, History, wanted, by_reply_given, refine_given, term_three, RunAnswer, shorter, RunMade}
 use Rattle.std.proofs.Math.Option.{Option-elim}
 use Rattle.refusals.specs.Refusals.{if_accepted}
 use Rattle.offsets.specs.Subsets.{Subset, members}
@@ -34,19 +34,19 @@ module _ (h : Header) (rows keys sorts pending : List ℕ) (room : ℕ) where
       range_nothing c (length sorts) range (rw (take-length sorts) read) (λ b f. absurd (let z : ◌≡◌ {A = ℕ} 0 1 = cc in omega arith))
   range_queried a c range (accepted (some b)) read e =
       rw (intersect_replies a b room)
-      (by_reply_lem a (intersect_range c) _ _ output (intersect_given a b room) (λ output' answer m. range_intersected b c (length sorts) range output output' answer (rw (take-length sorts) read) e (inl (rw (long, intersect_replies a b room) m))))
+      (by_reply_given a (intersect_range c) _ _ output (intersect_given a b room) (λ output' answer m. range_intersected b c (length sorts) range output output' answer (rw (take-length sorts) read) e (inl (rw (long, intersect_replies a b room) m))))
 
   -- each query is lent both whole stores
   one_queried : (a : Subset) (q : Query) (range : Result (Optional Range) Refusal) → ((c : Constraint) → q ≡ intersect_range c → RangeRead h sorts c range)
       → Queried table a q (queried h rows room a q (range_view range))
   unfolding queried refine_one_reply refine_list_reply
   one_queried a (refine_one c) range read =
-      by_reply_lem a (refine_one c) _ _ output (refine_given h (length rows) a (c ∷ []) room) (λ output' answer m. one_refined c (length rows) output output' answer (record { answered = rw (take-length rows, long) m }))
+      by_reply_given a (refine_one c) _ _ output (refine_given h (length rows) a (c ∷ []) room) (λ output' answer m. one_refined c (length rows) output output' answer (record { answered = rw (take-length rows, long) m }))
   one_queried a (refine_list cs) range read =
-      by_reply_lem a (refine_list cs) _ _ output (refine_given h (length rows) a cs room) (λ output' answer m. list_refined cs (length rows) output output' answer (record { answered = rw (take-length rows, long) m }))
+      by_reply_given a (refine_list cs) _ _ output (refine_given h (length rows) a cs room) (λ output' answer m. list_refined cs (length rows) output output' answer (record { answered = rw (take-length rows, long) m }))
   one_queried a (intersect_with b) range read =
       rw (intersect_replies a b room)
-      (by_reply_lem a (intersect_with b) _ _ output (intersect_given a b room) (λ output' answer m. intersected b output output' answer (inl (rw (long, intersect_replies a b room) m))))
+      (by_reply_given a (intersect_with b) _ _ output (intersect_given a b room) (λ output' answer m. intersected b output output' answer (inl (rw (long, intersect_replies a b room) m))))
   one_queried a (intersect_range c) range read = range_queried a c range (range_view range) (read c refl) refl
 
   pub queried_run : {a : Subset} {qs : List Query} {o : Outcome} → QueriedAll h rows sorts room a qs o → Run table a qs o.ids o.accepted

@@ -7,7 +7,7 @@ pub use Rattle.std.proofs.Math.Seq.{take-length}
 pub use Rattle.constraints.specs.declared.Constraint.{Constraint}
 pub use Rattle.history.specs.Claim.{wanted}
 pub use Rattle.history.specs.Histories.{History}
-pub use Rattle.history.proofs.Laws.Queries.{by_reply_lem, refine_given}
+pub use Rattle.history.proofs.Laws.Queries.{by_reply_given, refine_given}
 pub use Rattle.history.proofs.Laws.Theorem.{term_three}
 pub use Rattle.history.specs.Runs.{Outcome, Query, refines}
 pub use Rattle.lists.specs.Lists.{any, filter, rising}

@@ -1,5 +1,5 @@
 -- `replay::calls::decode` meets its contract. Assumes nothing.
-use Rattle.replay.proofs.Prelude.{sym, ◌∙◌, arith, call_insert, call_remove, call_row, call_merge, call_compact, call_clear, call_refresh, call_none, row_none, row_some}
+use Rattle.replay.proofs.Prelude.{sym, ◌∙◌, arith, call_insert, call_remove, call_row, call_merge, call_compact, call_clear, call_refresh, call_none, row_none, row_named}
 use Rattle.replay.proofs.calls.decode.Goals as goal
 
 pub returns-in_err-row-in-2 : goal.returns-in_err-row-in-2
@@ -12,7 +12,7 @@ pub returns-in-1 : goal.returns-in-1
 returns-in-1 c = sym (call_remove _ _ c.in-1.is)
 
 pub returns-in_ok-row-in-2 : goal.returns-in_ok-row-in-2
-returns-in_ok-row-in-2 c = sym (call_row _ _ c.in-2.is ∙ row_some _ c.in_ok-row-in-2.ensures.cases.0)
+returns-in_ok-row-in-2 c = sym (call_row _ _ c.in-2.is ∙ row_named _ c.in_ok-row-in-2.ensures.cases.0)
 
 pub returns-in-3 : goal.returns-in-3
 returns-in-3 c = sym (call_merge _ _ c.in-3.is)
