@@ -8,6 +8,7 @@ use Rattle.std.proofs.Math.Option.{Option, none, some, Option-elim}
 use Rattle.refusals.specs.Refusals.{Reply, refused, accepted, if_accepted, number}
 use Rattle.offsets.specs.Subsets.{Subset, range, list}
 use Rattle.offsets.specs.declared.SubsetForm.{SubsetForm}
+use Rattle.offsets.specs.declared.SubsetRef.{SubsetRef}
 use Rattle.offsets.specs.declared.SubsetForm.TheVariants.{Range as SubsetRange, List as SubsetList}
 use Rattle.sort_entries.specs.declared.Range.{Range}
 use Rattle.plain_table.specs.Staged.{opening_in}
@@ -46,6 +47,10 @@ pub record SubsetHead : Type 0 where
 -- "its kind, its two ends and the caller's list of ids"
 abbrev pub subset_in : SubsetHead → List ℕ → Subset
 subset_in head ids = cond head.dense (range head.start head.end) (list ids)
+
+-- the three words of a subset as C lends it
+abbrev pub head_of : SubsetRef → SubsetHead
+head_of lent = record { dense = lent.dense; start = lent.start; end = lent.end }
 
 abbrev pub decode_subset : List ℕ → SubsetHead
 decode_subset words = record { dense = not (eqb (get_or words 0 0) 0); start = get_or words 1 0; end = get_or words 2 0 }

@@ -10,7 +10,7 @@ ghost use Rattle.refusals.specs.Refusals.{number, answer_view};
 ghost use Rattle.table.specs.Numbers.{largest_view};
 ghost use Rattle.offsets.specs.Answers.{lent_subset};
 ghost use Rattle.query_spec.specs.Queries.{page_view};
-ghost use Rattle.abi.specs.Encoding.{decode_largest, decode_columns, decode_header, subset_in, decode_subset, encode_header, encode_merge, encode_bool, encode_option, range_of, encode_range, encode_version, subset_head_view, encode_subset, encode_page, Stored};
+ghost use Rattle.abi.specs.Encoding.{decode_largest, decode_columns, decode_header, subset_in, head_of, decode_subset, encode_header, encode_merge, encode_bool, encode_option, range_of, encode_range, encode_version, subset_head_view, encode_subset, encode_page, Stored};
 
 use constraints::Constraint;
 use offsets::{SubsetForm, SubsetRef};
@@ -67,6 +67,7 @@ pub fn decode_condition(words: &[u32; 3]) -> Constraint
 }
 
 pub fn decode_subset<'a>(words: &[u32; 3], ids: &'a [u32]) -> SubsetRef<'a>
+    ensures head { head_of result ≡ decode_subset words.now }
     ensures subset { lent_subset result ≡ subset_in (decode_subset words.now) ids.now }
     ensures ids { result.ids.now ≡ ids.now }
 {

@@ -11,12 +11,12 @@ use Rattle.offsets.specs.declared.SubsetForm.TheVariants.{Range, List as Ids}
 use Rattle.offsets.specs.Subsets.{Subset, range, list, well_formed, intersect}
 
 -- a borrowed subset
-abbrev pub subset_of : Borrowed → Subset
+unfoldable pub subset_of : Borrowed → Subset
 subset_of (borrowed.Range start end) = range start end
 subset_of (borrowed.List ids) = list ids.now
 
 -- a borrowed subset as C lends it: "its kind, its two ends and the caller's list of ids"
-abbrev pub lent_subset : SubsetRef → Subset
+unfoldable pub lent_subset : SubsetRef → Subset
 lent_subset lent = cond lent.dense (range lent.start lent.end) (list lent.ids.now)
 
 -- an answer decoded by its caller: refused, a range, or the first ids of the output

@@ -6,6 +6,7 @@ use borrow.Author.Tests.{ne_eqb}
 use Rattle.lists.specs.Lists.{any}
 use Rattle.offsets.specs.declared.SubsetRef.{SubsetRef}
 use Rattle.offsets.specs.Answers.{lent_subset}
+use Rattle.offsets.specs.Laws.Subsets.{lent_is}
 use Rattle.replay_queries.specs.Outcomes.{ids_at, subset_left, QueriedAll, end}
 use Rattle.replay_queries.specs.inner.Executing.{Inside}
 use Rattle.replay_queries.specs.Laws.Executing.{behind}
@@ -131,7 +132,7 @@ before lent = record { dense = lent.dense; start = lent.start; end = lent.end; c
 
 starting : (lent : SubsetRef) (first second : List ℕ) → subset_left (before lent) lent.ids.now first second ≡ lent_subset lent
 unfolding subset_left ids_at
-starting lent first second = refl
+starting lent first second = sym (lent_is lent)
 
 module _ {h : Header} {rows sorts : List ℕ} {queries : List Query} (lent : SubsetRef) (n : ℕ) (first second : List ℕ) {r : RunAnswer} {part part' : List ℕ} where
   pub made_within : n ≡ min (length first) (length second) → QueriesExecuted h rows sorts lent.ids.now queries (before lent) (take n first) (take n second) r part part'

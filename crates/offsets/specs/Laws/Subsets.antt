@@ -2,14 +2,42 @@
 -- encodes once its ids are written; and that a reply determines the answer. Assumes nothing.
 use Rattle.refusals.specs.Laws.Numbers.{number_injective}
 use Rattle.refusals.specs.declared.Refusal.{Refusal}
-use Rattle.std.specs.Prelude.{◌≢◌, ◌+◌, ◌-◌, ◌≤◌, ◌<◌, ◌≡◌, ◌⊎◌, ◌∷◌, Result, Ok, Err}
-use Rattle.offsets.specs.Laws.Prelude.{ℕ, zero, suc, min, max, refl, sym, ap, ◌∙◌, inl, inr, Bool, true, List, [], dec_lt, arith, length, take, get_or, length-take, length-append, leb-true, le-leb, splice_nil, split, and_left, and_right, filter_same, filter_all, length_filter, count_le, same_refl, same_eq, same_ne, length_iota, get_d_iota, rising_filter, rising_iota, rising_at, elem_iota, filter_elem_comm, filter_within_iota, take_put, Reply, accepted, Same}
+use Rattle.std.specs.Prelude.{◌≢◌, ◌+◌, ◌-◌, ◌≤◌, ◌<◌, ◌≡◌, ◌⊎◌, ◌∷◌, cond, Result, Ok, Err}
+use Rattle.std.specs.Borrow.{Bor}
+use Rattle.offsets.specs.Laws.Prelude.{ℕ, zero, suc, min, max, refl, sym, ap, ◌∙◌, inl, inr, Bool, true, false, List, [], dec_lt, arith, length, take, get_or, length-take, length-append, leb-true, le-leb, splice_nil, split, and_left, and_right, filter_same, filter_all, length_filter, count_le, same_refl, same_eq, same_ne, length_iota, get_d_iota, rising_filter, rising_iota, rising_at, elem_iota, filter_elem_comm, filter_within_iota, take_put, Reply, accepted, Same}
 use Rattle.lists.specs.Lists.{splice, filter, all, iota, rising, elem, within, same}
 use Rattle.offsets.specs.declared.SubsetForm.{SubsetForm}
 use Rattle.offsets.specs.declared.SubsetForm.TheVariants.{Range, List as Ids}
 use Rattle.offsets.specs.Subsets.{Subset, range, list, well_formed, members, size, end_of, list_or_nothing, intersect, shaped, retain, narrowed}
-use Rattle.offsets.specs.Answers.{subset_view, written, Answered}
+use Rattle.offsets.specs.declared.Subset.TheVariants as borrowed
+use Rattle.offsets.specs.declared.SubsetRef.{SubsetRef}
+use Rattle.offsets.specs.Answers.{subset_of, lent_subset, subset_view, written, Answered}
 use Rattle.offsets.specs.inner.Writing.{Wrote}
+
+-- ---- a borrowed subset, by its kind
+
+pub range_is : (start end : ℕ) → subset_of (borrowed.Range start end) ≡ range start end
+unfolding subset_of
+range_is start end = refl
+
+pub list_is : (ids : Bor (List ℕ)) → subset_of (borrowed.List ids) ≡ list ids.now
+unfolding subset_of
+list_is ids = refl
+
+-- the same, as C lends it
+module _ (lent : SubsetRef) where
+  pub dense_is : lent.dense ≡ true → lent_subset lent ≡ range lent.start lent.end
+  unfolding lent_subset
+  dense_is e = rw e
+
+  pub sparse_is : lent.dense ≡ false → lent_subset lent ≡ list lent.ids.now
+  unfolding lent_subset
+  sparse_is e = rw e
+
+  -- where the kind is not known
+  pub lent_is : lent_subset lent ≡ cond lent.dense (range lent.start lent.end) (list lent.ids.now)
+  unfolding lent_subset
+  lent_is = refl
 
 -- ---- well-formed subsets
 
