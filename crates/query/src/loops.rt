@@ -1,8 +1,10 @@
-// The loops of every query: over the rows and, for each row, over the conditions.
-ghost use Rattle.std.specs.Prelude.{◌≡◌, length};
+// The loops of every query: over the rows and, for each row, over the conditions. Each condition is passed by value to a test, each row
+// to a step of `query_scan`.
+ghost use Rattle.std.specs.Prelude.{◌≡◌, Bool, length};
 ghost use Rattle.lists.specs.Lists.{all};
 ghost use Rattle.offsets.specs.Answers.{subset_of};
 ghost use Rattle.constraints.specs.Constraints.{known};
+ghost use Rattle.constraints.specs.declared.Constraint.{Constraint as Condition};
 ghost use Rattle.query_spec.specs.Queries.{matches};
 ghost use Rattle.query_scan.specs.Visits as visits;
 ghost use Rattle.query_scan.specs.inner.Scanning.{RowInStore, CanStart, Finished, ScanAnswered};
@@ -13,11 +15,20 @@ use query_scan::{Scan, is_live_at, is_met_at, open_match, open_page, open_refine
 use refusals::Refusal;
 use table::Header;
 
+// Whether all conditions pass a test. Stops at the first that does not. The only function that iterates over conditions. A caller shows
+// that its test answers as a definition does; then the result is that of the definition on all of them.
+fn all_pass<F: Fn(Constraint) -> bool>(conditions: &[Constraint], test: F) -> bool
+    requires { F.IsAlwaysCallable test }
+    ensures { (passes : Condition → Bool) → ((c : Condition) (answer : Bool) → F.post test c answer → answer ≡ passes c) → result ≡ all passes conditions.now }
+{
+    conditions.iter().all(|c| test(*c))
+}
+
 // Whether all conditions are known.
 pub fn are_known(columns: u32, conditions: &[Constraint]) -> bool
     ensures { result ≡ all (known columns) conditions.now }
 {
-    conditions.iter().all(|c| constraints::known(*c, columns))
+    all_pass(conditions, |c| constraints::known(c, columns))
 }
 
 // Whether a row is live and meets all conditions. Stops at the first that it does not meet; for a dead row tests none.
@@ -25,7 +36,7 @@ pub fn is_match(h: Header, rows: &[u32], id: u32, conditions: &[Constraint]) -> 
     requires { RowInStore h (length rows.now) id }
     ensures { result ≡ matches h rows.now conditions.now id }
 {
-    is_live_at(h, rows, id) && conditions.iter().all(|c| is_met_at(h, rows, id, *c))
+    is_live_at(h, rows, id) && all_pass(conditions, |c| is_met_at(h, rows, id, c))
 }
 
 // Scans the places of a query that has begun, each by all conditions.

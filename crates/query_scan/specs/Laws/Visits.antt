@@ -1,6 +1,7 @@
 -- "Whatever visits ids under the page, the refinements and the match test .. promises this too" (document 02, change 1): the loops
 -- under the four queries visit exactly these ids, and the dead count that each returns is of exactly these. `query_scan::scan_one`
--- is the loop of refine by one, `query::loops::scan` that of the other three. Assumes nothing.
+-- is the loop of refine by one, `query::loops::scan` that of the other three, which `scan_refine`, `scan_match` and `scan_page` of that
+-- module begin. `ScanAnswered` is what these three and `scan_one` ensure. Assumes nothing.
 use Rattle.std.specs.Prelude.{ℕ, List, [], ◌∷◌, take, drop, Ok}
 use Rattle.offsets.specs.Subsets.{Subset, members}
 use Rattle.constraints.specs.declared.Constraint.{Constraint}

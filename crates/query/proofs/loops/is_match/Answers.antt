@@ -2,12 +2,9 @@
 use Rattle.std.proofs.Common.{rules, sym, ◌∙◌}
 use Rattle.std.specs.Prelude.{◌≡◌, true, false}
 use borrow.Author.Tests.{tests}
-use Rattle.std.proofs.lemmas.Iterator.{YieldsList-from_slice}
-use Rattle.std.proofs.lemmas.Iterator.Search.{all_from_yields_List}
 use Rattle.lists.specs.Lists.{row_at}
 use Rattle.constraints.specs.Constraints.{met, meets, is_live}
 use Rattle.query_spec.specs.Queries.{matches}
-use Rattle.query.proofs.Every.{every}
 use Rattle.query.proofs.loops.is_match.Goals as goal
 
 pub returns-then-is_live_at : goal.returns-then-is_live_at
@@ -15,10 +12,7 @@ unfolding matches meets
 returns-then-is_live_at c =
     let a = c.args in
     let live : is_live (row_at a.h.columns a.id a.rows.now) ≡ true = sym c.is_live_at.ensures ∙ c.if-is_live_at.true in
-    let met_all =
-    all_from_yields_List (met (row_at a.h.columns a.id a.rows.now)) _ _ c.all.result c.all.ensures.ran (YieldsList-from_slice a.conditions.now c.iter.ensures.rest) (λ x b q k. search (rules, tests))
-    ∙ every (met (row_at a.h.columns a.id a.rows.now)) a.conditions.now in
-    rw live met_all
+    rw live (c.all_pass.ensures (met (row_at a.h.columns a.id a.rows.now)) (λ x b k. search (rules, tests)))
 
 pub returns-else-is_live_at : goal.returns-else-is_live_at
 unfolding matches meets
