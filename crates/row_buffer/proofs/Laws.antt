@@ -1,24 +1,35 @@
--- A row written to a store and a row moved in it, the test of two slices, and the masks of bitmap words. Assumes nothing.
-use Rattle.row_buffer.proofs.Prelude.{ℕ, ◌+◌, ◌-◌, ◌*◌, ◌%◌, ◌^◌, ◌≤◌, ◌<◌, ◌≡◌, refl, sym, ap, ◌∙◌, Bool, ◌&&◌, List, [], ◌∷◌, nat_eq, one-mul, add_comm, arith, pow_pos, shl_exact, bit_and, bit_or, and_mask, or_shifted_r, ones, length, take, drop, length-take, length-drop, take-append-drop, drop-drop, append_assoc, put_mid, copy_within, pointwise, set_below, ones_below}
+-- The loop iterations of `move_row` and of `same_cells`, and the masks of bitmap words. Assumes nothing.
+use Rattle.row_buffer.proofs.Prelude.{ℕ, suc, ◌+◌, ◌-◌, ◌*◌, ◌%◌, ◌^◌, ◌≤◌, ◌<◌, ◌≡◌, refl, sym, ap, ap₂, ◌∙◌, true, false, ◌&&◌, List, ◌++◌, one-mul, add_comm, add-one, arith, pow_pos, shl_exact, bit_and, bit_or, and_mask, or_shifted_r, ones, eqb, length, take, drop, get_or, set, length-take, length-drop, take-append-drop, drop_of_length-le, drop-cons, drop-drop, length-take-le, get_or-append-add, get_or-drop, eq-eqb, ne_eqb, put_mid, put_part, part_to_end, copy_step, set_below, ones_below}
 use Rattle.lists.specs.Lists.{splice, same}
 
--- ---- a row written and a row moved
+-- ---- the copier inside a part
 
--- the row in its part, stated for the whole store
-pub put_row : (l row part : List ℕ) (at : ℕ) → part ≡ row → put_mid at (at + length row - at) l part ≡ splice l at row
-unfolding splice
-put_row l row part at e =
-    let k : at + length row - at ≡ length row = omega arith in
-    rw (e, k, drop-drop (length row) at l)
+-- what it has done after i cells
+abbrev pub down : List ℕ → ℕ → ℕ → List ℕ
+down l gap i = take i (drop gap l) ++ drop i l
 
--- a row moved to another position
-pub moved_row : (l : List ℕ) (to from width : ℕ) → from + width ≤ length l
-    → copy_within l from (from + width) to ≡ splice l to (take width (drop from l))
-unfolding splice
-moved_row l to from width h =
-    let k : from + width - from ≡ width = omega arith in
-    let n : length (take width (drop from l)) ≡ width = simp (length-take, length-drop) (omega arith) in
-    rw (k, n, append_assoc (take to l) (take width (drop from l)) (drop (to + width) l))
+-- the cell read is the one at entry: it is above the cells written so far
+read_down : (l : List ℕ) (gap i : ℕ) → gap + i < length l → get_or (down l gap i) (gap + i) 0 ≡ get_or (drop gap l) i 0
+read_down l gap i h =
+    let n : length (take i (drop gap l)) ≡ i = length-take-le i (drop gap l) (simp length-drop (omega arith)) in
+    let e : gap + i ≡ length (take i (drop gap l)) + gap = omega arith in
+    rw e (get_or-append-add (take i (drop gap l)) (drop i l) gap 0 ∙ get_or-drop i l gap 0 ∙ rw (add_comm i gap) (sym (get_or-drop gap l i 0)))
+
+pub down_step : (l : List ℕ) (gap i : ℕ) → gap + i < length l → set (down l gap i) i (get_or (down l gap i) (gap + i) 0) ≡ down l gap (i + 1)
+down_step l gap i h =
+    let s : i < length (drop gap l) = simp length-drop (omega arith) in
+    ap (set (down l gap i) i) (read_down l gap i h) ∙ copy_step (drop gap l) l i 0 s (omega arith)
+
+-- a row moved inside the borrowed part, stated for the whole store
+pub moved_part : (l : List ℕ) (to from width : ℕ) → to ≤ from → from + width ≤ length l
+    → put_mid to (length l - to) l (down (take (length l - to) (drop to l)) (from - to) width) ≡ splice l to (take width (drop from l))
+moved_part l to from width h k =
+    let e : to + (from - to) ≡ from = omega arith in
+    let w : length (take width (drop from l)) ≡ width = simp (length-take, length-drop) (omega arith) in
+    let row : take width (drop (from - to) (take (length l - to) (drop to l))) ≡ take width (drop from l) =
+    ap (λ (x : List ℕ). take width (drop (from - to) x)) (part_to_end l to) ∙ ap (take width) (drop-drop (from - to) to l ∙ ap (λ (n : ℕ). drop n l) e) in
+    ap₂ (λ (x : List ℕ) (n : ℕ). put_mid to (length l - to) l (x ++ drop n (take (length l - to) (drop to l)))) row (sym w)
+    ∙ put_part l (take width (drop from l)) to
 
 -- a row moved to its own position
 pub moved_nowhere : (l : List ℕ) (to from width : ℕ) → to ≡ from → from + width ≤ length l → l ≡ splice l to (take width (drop from l))
@@ -29,13 +40,21 @@ moved_nowhere l to from width e k =
 
 -- ---- the same cells
 
--- the library's test of two slices is the definition's
-pub pointwise_same : (a b : List ℕ) → pointwise nat_eq a b ≡ same a b
+same_step : (a b : List ℕ) (i : ℕ) → i < length a → i < length b
+    → same (drop i a) (drop i b) ≡ (eqb (get_or a i 0) (get_or b i 0) && same (drop (suc i) a) (drop (suc i) b))
 unfolding same
-pointwise_same [] [] = refl
-pointwise_same [] (y ∷ b) = refl
-pointwise_same (x ∷ a) [] = refl
-pointwise_same (x ∷ a) (y ∷ b) = ap (λ (t : Bool). nat_eq x y && t) (pointwise_same a b)
+same_step a b i ha hb = rw (drop-cons a i 0 ha, drop-cons b i 0 hb)
+
+pub differ : (a b : List ℕ) (i : ℕ) → i < length a → i < length b → (get_or a i 0 ≡ get_or b i 0 → ⊥) → same (drop i a) (drop i b) ≡ false
+differ a b i ha hb ne = same_step a b i ha hb ∙ rw (ne_eqb _ _ ne)
+
+pub agree : (a b : List ℕ) (i : ℕ) → i < length a → i < length b → get_or a i 0 ≡ get_or b i 0
+    → same (drop i a) (drop i b) ≡ same (drop (i + 1) a) (drop (i + 1) b)
+agree a b i ha hb e = same_step a b i ha hb ∙ rw (eq-eqb _ _ e, add-one)
+
+pub ended : (a b : List ℕ) (i : ℕ) → length a ≤ i → length b ≤ i → same (drop i a) (drop i b) ≡ true
+unfolding same
+ended a b i ha hb = rw (drop_of_length-le a ha, drop_of_length-le b hb)
 
 -- ---- bitmap words
 

@@ -40,12 +40,33 @@ pub fn set_stale(rows: &mut [u32], at: usize) -> bool
     was
 }
 
+// Copies a row to the start of a borrowed part of a store. Not by the library's copy: a call for so few cells is slower.
+fn copy_row(part: &mut [u32], row: &[u32])
+    requires { length row.now ≤ length part.old }
+    ensures { part.new ≡ row.now ++ drop (length row.now) part.old }
+{
+    for i in 0..row.len() {
+        part[i] = row[i];
+    }
+}
+
 // Writes a row into the store.
 pub fn write_row(rows: &mut [u32], at: usize, row: &[u32])
     requires { at + length row.now ≤ length rows.old }
     ensures { rows.new ≡ splice rows.old at row.now }
 {
-    rows[at..at + row.len()].copy_from_slice(row);
+    copy_row(&mut rows[at..], row);
+}
+
+// Moves a row inside the borrowed part, from `gap` cells after its start to its start. Copies upwards, so each cell is read before
+// it is overwritten.
+fn move_row(part: &mut [u32], gap: usize, width: usize)
+    requires { gap + width ≤ length part.old }
+    ensures { part.new ≡ take width (drop gap part.old) ++ drop width part.old }
+{
+    for i in 0..width {
+        part[i] = part[gap + i];
+    }
 }
 
 // Moves a row down to a position at or below its own. Does nothing if the two are equal.
@@ -56,14 +77,23 @@ pub fn move_down(rows: &mut [u32], to: usize, from: usize, width: usize)
     if to == from {
         return;
     }
-    rows.copy_within(from..from + width, to);
+    let gap = from - to;
+    move_row(&mut rows[to..], gap, width);
 }
 
 // The same cells in the same order.
 pub fn same_cells(a: &[u32], b: &[u32]) -> bool
     ensures { result ≡ same a.now b.now }
 {
-    a == b
+    if a.len() != b.len() {
+        return false;
+    }
+    for i in 0..a.len() {
+        if a[i] != b[i] {
+            return false;
+        }
+    }
+    true
 }
 
 // Whether the row at `at` begins with this key.

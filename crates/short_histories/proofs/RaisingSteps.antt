@@ -1,5 +1,5 @@
 -- The odometer: the steps of its loops, and the law that the sequence it gives is at the next position. Assumes nothing.
-use Rattle.short_histories.proofs.Prelude.{ℕ, zero, suc, ◌+◌, ◌-◌, ◌≤◌, ◌<◌, ◌≡◌, ◌≢◌, refl, sym, ap, ◌∙◌, Bool, true, List, [], ◌∷◌, ◌++◌, append-nil, dec_lt, arith, length, take, drop, drop_of_length-le, get_or, set, replicate, length-append, append_assoc, length-drop, set_at, length-replicate, length-take-le, take-append-drop, append_snoc, take-suc, ltb, ltb-true, lt-ltb, all_append, all_cons, all_get_d, all_of, Steps, number, number_more, number_none, number_short, known, position_of, sequence_at, known_of, known_steps, position_below, position_number, sequence_at_position_of, next_none, next_written, sequence_no_room, sequence_written}
+use Rattle.short_histories.proofs.Prelude.{ℕ, zero, suc, ◌+◌, ◌-◌, ◌≤◌, ◌<◌, ◌≡◌, ◌≢◌, refl, sym, ap, ◌∙◌, Bool, true, List, [], ◌∷◌, ◌++◌, append-nil, dec_lt, arith, length, take, drop, get_or, set, replicate, length-append, length-replicate, length-take-le, take-append-drop, List·getD-append, get_or-append-add, get_or_at, get_or-take, append_snoc, drop-cons, take-length, take-suc, copy_step, ltb, ltb-true, lt-ltb, all_append, all_cons, all_get_d, all_of, Steps, number, number_more, number_none, number_short, known, position_of, sequence_at, known_of, known_steps, position_below, position_number, sequence_at_position_of, next_none, next_written, sequence_no_room, sequence_written, drop_of_length-le}
 use Rattle.lists.specs.Lists.{splice}
 use Rattle.std.specs.Prelude.{Ok, Err, Some, None}
 use Rattle.refusals.specs.declared.Refusal.TheVariants.{TooShort}
@@ -44,6 +44,31 @@ module _ (s : List ℕ) where
       let b = before_length last h in
       let c = length-replicate {A = ℕ} (length s - suc last) 0 in
       omega arith
+
+  pub step_behind : (end at : ℕ) → end ≤ length s → end ≤ at → 0 ≡ get_or (raised s end) at 0
+  unfolding raised
+  step_behind zero at h k = sym (zeros_only (suc (length s)) at)
+  step_behind (suc last) at h k =
+      let b = before_length last h in
+      let e : at ≡ length (take last s) + suc (at - suc last) = omega arith in
+      let rest = (get_or s last 0 + 1) ∷ replicate (length s - suc last) 0 in
+      sym (ap (λ (i : ℕ). get_or (take last s ++ rest) i 0) e
+      ∙ get_or-append-add (take last s) rest (suc (at - suc last)) 0
+      ∙ zeros_only (length s - suc last) (at - suc last))
+
+  pub step_kept : (end at : ℕ) → end ≤ length s → at + 1 < end → get_or s at 0 ≡ get_or (raised s end) at 0
+  unfolding raised
+  step_kept zero at h k = absurd (omega arith)
+  step_kept (suc last) at h k =
+      let b = before_length last h in
+      sym (List·getD-append (take last s) _ 0 at (omega arith) ∙ get_or-take last s at 0 (omega arith))
+
+  pub step_raised : (end at : ℕ) → end ≤ length s → at < end → end ≤ at + 1 → get_or s at 0 + 1 ≡ get_or (raised s end) at 0
+  unfolding raised
+  step_raised zero at h k l = absurd (omega arith)
+  step_raised (suc last) at h k l =
+      let e : at ≡ last = omega arith in
+      rw e (sym (get_or_at (take last s) _ _ 0 last (before_length last h)))
 
 -- ---- its number
 
@@ -140,39 +165,10 @@ module _ (s : List ℕ) (end : ℕ) (t : ToRaise s end) where
 
 -- ---- `write_raised`
 
-drop_zeros : (a n : ℕ) (l : List ℕ) → a ≤ n → drop a (zeros n ++ l) ≡ zeros (n - a) ++ l
-drop_zeros zero n l h = let z : n - 0 ≡ n = omega arith in rw z
-drop_zeros (suc a) zero l h = absurd (omega arith)
-drop_zeros (suc a) (suc n) l h = let z : suc n - suc a ≡ n - a = omega arith in rw z (drop_zeros a n l (omega arith))
+pub written_more : (l output : List ℕ) (at x : ℕ) → at < length l → length l ≤ length output → x ≡ get_or l at 0
+    → set (take at l ++ drop at output) at x ≡ take (at + 1) l ++ drop (at + 1) output
+written_more l output at x h k e = rw e (copy_step l output at 0 h (omega arith))
 
-module _ (s output : List ℕ) (steps : ℕ) (room : steps ≤ length output) {filled : List ℕ} (zero_is : filled ≡ zeros (length (take steps output))) where
-  all_zeros : filled ≡ zeros steps
-  all_zeros = zero_is ∙ ap zeros (length-take-le steps output room)
-
-  pub filled_long : length (filled ++ drop steps output) ≡ length output
-  filled_long = let n = length-append filled (drop steps output) in let m = length-drop steps output in let k = length-take-le steps output room in omega (arith, ap length zero_is, length-replicate {A = ℕ} (length (take steps output)) 0)
-
-  pub written_longer : steps ≡ length (raised s 0) → filled ++ drop steps output ≡ splice output 0 (raised s 0)
-  unfolding raised splice
-  written_longer is =
-      let n : steps ≡ suc (length s) = is ∙ length-replicate (suc (length s)) 0 in
-      let m : 0 + length (zeros (suc (length s))) ≡ steps = omega (arith, is) in
-      rw (m, all_zeros, n)
-
-  module _ (last : ℕ) (h : suc last ≤ length s) (is : steps ≡ length (raised s (suc last))) where
-    pub steps_same : steps ≡ length s
-    steps_same = is ∙ sym (length_same s (suc last) (omega arith) h)
-
-    pub behind_last : drop last (filled ++ drop steps output) ≡ 0 ∷ zeros (length s - suc last) ++ drop steps output
-    behind_last =
-        let n : steps - last ≡ suc (length s - suc last) = omega (arith, steps_same) in
-        ap (λ (l : List ℕ). drop last (l ++ drop steps output)) all_zeros ∙ rw n at (drop_zeros last steps (drop steps output) (omega (arith, steps_same)))
-
-    pub written_same : {copied : List ℕ} → copied ≡ take last s
-        → set (copied ++ drop last (filled ++ drop steps output)) last (get_or s last 0 + 1) ≡ splice output 0 (raised s (suc last))
-    unfolding raised splice
-    written_same e =
-        let m : 0 + length (take last s ++ ((get_or s last 0 + 1) ∷ zeros (length s - suc last))) ≡ steps = omega (arith, is) in
-        rw (e, behind_last, m)
-        (set_at (take last s) 0 (zeros (length s - suc last) ++ drop steps output) (get_or s last 0 + 1) last (before_length s last h)
-        ∙ sym (append_assoc (take last s) ((get_or s last 0 + 1) ∷ zeros (length s - suc last)) (drop steps output)))
+pub written_all : (l output : List ℕ) (at : ℕ) → at ≡ length l → take at l ++ drop at output ≡ splice output 0 l
+unfolding splice
+written_all l output at e = let m : 0 + length l ≡ length l = omega arith in rw (e, m, take-length l)

@@ -3,7 +3,7 @@
 // empty sequence, and each number has one sequence.
 #![tactic(auto)]
 
-ghost use Rattle.std.specs.Prelude.{◌≡◌, true, ◌≤◌, ◌<◌, length};
+ghost use Rattle.std.specs.Prelude.{◌≡◌, true, ◌≤◌, ◌<◌, length, get_or};
 ghost use Rattle.lists.specs.Lists.{splice};
 ghost use Rattle.short_histories.specs.Sequences.{sequence_at, position_of, known, StepAnswered, PositionAnswered, SequenceFound, NextFound};
 ghost use Rattle.short_histories.specs.inner.Raised.{RaisedEnd, raised, ToRaise};
@@ -152,15 +152,28 @@ fn raised_length(sequence: &[u32], end: usize) -> usize
     sequence.len()
 }
 
-// Writes the next sequence to the start of the output.
+// A step of the next sequence.
+fn raised_step(sequence: &[u32], end: usize, at: usize) -> u32
+    requires { ToRaise sequence.now end }
+    ensures { result ≡ get_or (raised sequence.now end) at 0 }
+{
+    if end <= at {
+        return 0;
+    }
+    let step = sequence[at];
+    if at + 1 < end {
+        return step;
+    }
+    step + 1
+}
+
+// Writes the next sequence to the start of the output. Each step in one pass: copies and fills of so few words are library calls.
 fn write_raised(sequence: &[u32], end: usize, steps: usize, output: &mut [u32])
     requires { ToRaise sequence.now end × (steps ≡ length (raised sequence.now end)) × (steps ≤ length output.old) }
     ensures { output.new ≡ splice output.old 0 (raised sequence.now end) }
 {
-    output[..steps].fill(0);
-    if let Some(last) = end.checked_sub(1) {
-        output[..last].copy_from_slice(&sequence[..last]);
-        output[last] = sequence[last] + 1;
+    for at in 0..steps {
+        output[at] = raised_step(sequence, end, at);
     }
 }
 
