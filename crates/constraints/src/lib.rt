@@ -44,18 +44,21 @@ pub fn known(c: Constraint, columns: u32) -> bool
     (c.kind <= AT_LEAST) & (c.column < columns) & ((c.kind != EQUAL_COLUMNS) | (c.value < columns))
 }
 
-// Compares a cell with another cell (kind 0) or with a value (kinds 1 to 5). A kind stays a number: C callers pass it, and others
-// than the six are refused by `known`.
+// Compares a cell with another cell (kind 0) or with a value (kinds 1 to 5). At most is the negation of greater, and at least that
+// of less. So kinds 2 to 5 share one comparison, with its sides exchanged for two of them. A kind stays a number: C callers pass it,
+// and others than the six are refused by `known`.
 fn compares(kind: u32, cell: u32, other: u32) -> bool
     ensures { result ≡ cond (eqb kind 0) (eqb cell other) (rules.compares kind cell other) }
 {
-    match kind {
-        EQUAL_COLUMNS | EQUAL => cell == other,
-        LESS => cell < other,
-        GREATER => cell > other,
-        AT_MOST => cell <= other,
-        _ => cell >= other,
+    if kind < LESS {
+        return cell == other;
     }
+    let (low, high) = if (kind == GREATER) | (kind == AT_MOST) {
+        (other, cell)
+    } else {
+        (cell, other)
+    };
+    (low < high) == (kind < AT_MOST)
 }
 
 // The cells of a row, dead or live, meet the condition.
