@@ -34,16 +34,18 @@ fn gallop_along(ids: &[u32], others: &[u32], output: &mut [u32]) -> usize
     requires { Fitting ids.now output.old × Searchable others.now × MuchLonger (length ids.now) (length others.now) }
     ensures { Wrote output.old (common ids.now others.now) result output.new }
 {
+    let count = ids.len() as u32;
     let end = others.len() as u32;
     let mut o = 0;
-    let mut n = 0;
-    for id in ids {
+    let mut n: u32 = 0;
+    for i in 0..count {
         if end <= o {
-            return n;
+            return n as usize;
         }
-        match scan_for_offset(others, o, *id) {
+        let id = ids[i as usize];
+        match scan_for_offset(others, o, id) {
             Ok(p) => {
-                output[n] = *id;
+                output[n as usize] = id;
                 n += 1;
                 o = p + 1;
             }
@@ -52,7 +54,7 @@ fn gallop_along(ids: &[u32], others: &[u32], output: &mut [u32]) -> usize
             }
         }
     }
-    n
+    n as usize
 }
 
 // Two lists are of similar length if neither has more ids than this, or neither is more than `RATIO` times as long as the other.

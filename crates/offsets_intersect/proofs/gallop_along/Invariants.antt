@@ -2,5 +2,5 @@
 use Rattle.offsets_intersect.proofs.Passing.{GallopInvariant}
 use Rattle.offsets_intersect.proofs.gallop_along.Given as goal
 
-abbrev pub invariant-loop-id : goal.invariant-loop-id
-invariant-loop-id l = GallopInvariant l.ids l.others l.initial.output l.output l.id-index l.o l.n
+abbrev pub invariant-loop-i : goal.invariant-loop-i
+invariant-loop-i l = GallopInvariant l.ids l.others l.initial.output l.output l.i l.o l.n
