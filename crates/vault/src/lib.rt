@@ -37,12 +37,16 @@ fn check_columns(width: u32, cells: usize, output: usize) -> Result<(), Refusal>
     Ok(())
 }
 
-// The end of the block that starts at this row.
+// The end of the block that starts at this row. No `min`: with it the loops over a block are compiled to slower code.
 fn block_end(start: usize, rows: usize) -> usize
     requires { start < rows }
     ensures { (start < result) × (result ≤ rows) }
 {
-    start + BLOCK.min(rows - start)
+    if rows - start <= BLOCK {
+        rows
+    } else {
+        start + BLOCK
+    }
 }
 
 // The cell above the cell of a row and column; 0 above the first row.
