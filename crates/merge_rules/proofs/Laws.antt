@@ -1,10 +1,27 @@
 -- Signed comparison, the paths through the functions of a cell, the loop iterations of `changes` and `make`, and the row that is
 -- returned. Assumes nothing.
-use Rattle.merge_rules.proofs.Prelude.{ℕ, suc, ◌+◌, ◌-◌, ◌^◌, ◌≤◌, ◌<◌, ◌≡◌, refl, sym, ap₂, ◌∙◌, Bool, true, false, not, ◌&&◌, ◌||◌, List, [], ◌∷◌, ◌++◌, zero-add, cond, ℤ, add-one, arith, w32, cast_signed, cast_unsigned, int_min, int_max, of_z-to_z, lt_z, as_the_machine, eqb, length, take, drop, get_or, set, drop_of_length-le, drop-cons, take-length, eq-eqb, ne_eqb, copy_step, part_width, made_length, made_at}
+use Rattle.merge_rules.proofs.Prelude.{ℕ, suc, ◌+◌, ◌-◌, ◌*◌, ◌%◌, ◌^◌, ◌≤◌, ◌<◌, ◌≡◌, refl, sym, ap, ap₂, ◌∙◌, Bool, true, false, not, ◌&&◌, ◌||◌, List, [], ◌∷◌, ◌++◌, zero-add, dec_lt, cond, ℤ, add-one, arith, bit_xor, xor_block, xor_comm, xor_shifted, xor_zero_r, w32, cast_signed, cast_unsigned, int_min, int_max, of_z-to_z, lt_z, as_the_machine, eqb, length, take, drop, get_or, set, drop_of_length-le, drop-cons, take-length, eq-eqb, ne_eqb, copy_step, part_width, made_length, made_at}
 use Rattle.lists.specs.Lists.{splice}
 use Rattle.merge_rules.specs.Rules.{ruled_column, smaller, larger, taken, made_cell, made_from, changes_from, survivor}
 
 -- ---- the smaller and the larger of two cells, compared as the machine's signed numbers
+
+-- the top bit turned over
+pub top_turned : (cell : ℕ) → cell < 2 ^ 32 → bit_xor cell (2 ^ 31) ≡ (cell + 2 ^ 31) % 2 ^ 32
+top_turned cell h =
+    elim (dec_lt cell (2 ^ 31)) [
+      | yes k ↦
+          let e : 1 * 2 ^ 31 + cell ≡ (cell + 2 ^ 31) % 2 ^ 32 = omega arith in
+          xor_comm cell (2 ^ 31) ∙ xor_shifted 1 31 cell k ∙ e
+      | no k ↦
+          let r : cell - 2 ^ 31 < 2 ^ 31 = omega arith in
+          let e : cell ≡ 1 * 2 ^ 31 + (cell - 2 ^ 31) = omega arith in
+          let f : 0 * 2 ^ 31 + (cell - 2 ^ 31) ≡ (cell + 2 ^ 31) % 2 ^ 32 = omega arith in
+          ap (λ (x : ℕ). bit_xor x (2 ^ 31)) e
+          ∙ xor_block 31 1 1 (cell - 2 ^ 31) 0 r (omega arith)
+          ∙ ap (λ (x : ℕ). 0 * 2 ^ 31 + x) (xor_zero_r (cell - 2 ^ 31))
+          ∙ f
+    ]
 
 -- the bits of one of the two
 bits_of : (a b : ℕ) → a < 2 ^ 32 → b < 2 ^ 32 → (t : Bool)
