@@ -40,7 +40,8 @@ pub fn set_stale(rows: &mut [u32], at: usize) -> bool
     was
 }
 
-// Copies a row to the start of a borrowed part of a store. Not by the library's copy: a call for so few cells is slower.
+// Copies a row to the start of a borrowed part of a store. Not by the library's copy: a call for each row is slower, and it needs
+// memmove, which a caller in C need not have.
 fn copy_row(part: &mut [u32], row: &[u32])
     requires { length row.now ≤ length part.old }
     ensures { part.new ≡ row.now ++ drop (length row.now) part.old }
@@ -81,7 +82,7 @@ pub fn move_down(rows: &mut [u32], to: usize, from: usize, width: usize)
     move_row(&mut rows[to..], gap, width);
 }
 
-// The same cells in the same order.
+// The same cells in the same order. Not by the library's comparison: a call for each key is slower.
 pub fn same_cells(a: &[u32], b: &[u32]) -> bool
     ensures { result ≡ same a.now b.now }
 {
