@@ -1,19 +1,21 @@
--- What the test of a row decides: whether a named column has one of the values. Assumes nothing.
-use Rattle.std.specs.Bool.{MatchBool}
-use Rattle.std.specs.List.{AllWithin, HoldsAt}
-use Rattle.refresh_scan.proofs.Prelude.{ℕ, ◌<◌, ◌≡◌, sym, ◌∙◌, inl, inr, Bool, true, false, false≢true, List, arith, length, get_or, split, any_at, any_of}
+-- The turns of the test of a row. Assumes nothing.
+use Rattle.refresh_scan.proofs.Prelude.{ℕ, suc, ◌+◌, ◌≤◌, ◌<◌, ◌≡◌, sym, ◌∙◌, true, false, ◌||◌, List, add-one, length, drop, get_or, drop_of_length-le, drop-cons}
 use Rattle.lists.specs.Lists.{any, elem}
 use Rattle.plain_table.specs.Refreshing.{mentions}
 
-module _ (columns values cells : List ℕ) where
-  abbrev pub has : ℕ → Bool
-  has column = elem (get_or cells column 0) values
+module _ (columns values cells : List ℕ) (i : ℕ) where
+  mentions_step : i < length columns
+      → mentions (drop i columns) values cells ≡ (elem (get_or cells (get_or columns i 0) 0) values || mentions (drop (suc i) columns) values cells)
+  unfolding mentions any
+  mentions_step h = rw (drop-cons columns i 0 h)
 
-  pub mentions_decided : (some : Bool) → MatchBool some ((k : ℕ) × (k < length columns) × HoldsAt (λ column. has column ≡ true) columns k) (AllWithin (λ column. has column ≡ false) columns 0 (length columns))
-      → some ≡ mentions columns values cells
-  unfolding mentions
-  mentions_decided true h = sym (any_of has 0 columns h.0 h.1 (h.2 0))
-  mentions_decided false h = elim (split (any has columns)) [
-    | inl e ↦ let a = any_at has 0 columns e in absurd (false≢true (sym (h a.0 0 (omega arith) a.1) ∙ a.2))
-    | inr e ↦ sym e
-  ]
+  module _ (inv : mentions columns values cells ≡ mentions (drop i columns) values cells) where
+    pub mentions_here : i < length columns → true ≡ elem (get_or cells (get_or columns i 0) 0) values → true ≡ mentions columns values cells
+    mentions_here h e = sym (inv ∙ mentions_step h ∙ rw (← e))
+
+    pub mentions_on : i < length columns → false ≡ elem (get_or cells (get_or columns i 0) 0) values → mentions columns values cells ≡ mentions (drop (i + 1) columns) values cells
+    mentions_on h e = inv ∙ mentions_step h ∙ rw (← e, add-one i)
+
+    pub mentions_end : length columns ≤ i → false ≡ mentions columns values cells
+    unfolding mentions any
+    mentions_end h = sym (inv ∙ rw (drop_of_length-le columns h))
