@@ -23,7 +23,8 @@ fn row_live(t: IndexShape, rows: &[u32], row: u32) -> bool
 }
 
 // How many of the first n slots are taken. The loop has no early return, so that it compiles to vector code. It counts by hand for
-// the speed of the whole check, as the two loops below do: with `for`, rows far from their home slots took up to 1.6 times as long.
+// the speed of the whole check, as the two loops below do: with `for`, rows far from their home slots took 1.6 times as long on one of
+// two processors.
 fn count_taken(n: u32, store: &[u32]) -> u32
     requires { n ≤ length store.now }
     ensures { result ≡ taken_count store.now n }
